@@ -1,0 +1,82 @@
+-- Sealed files: what opening a file and sealing a bundle give.
+use mathlib.Core.Path.{_≡_}
+use mathlib.Core.List.{List}
+use mathlib.Core.Bool.{Bool, cond, _&&_}
+use Prim.Native.Nat.{ℕ, _+_, _*_, _/_, _%_, _≤_, _<_}
+use lib.ListN.{length, take, drop}
+use lib.Dec.{eqb, leb}
+use Rattle.laws.specs.Pieces.{joined}
+use Rattle.laws.specs.Scans.{firstFalse}
+use Rattle.refusals.specs.Table.{FILE-LENGTH, BUNDLE-LENGTH}
+use Rattle.refusals.specs.Answers.{refusal, Result}
+use Rattle.refusals.specs.Answers.Result.{bytes, refused}
+use Rattle.refusals.specs.declared.Refusal.{Refusal}
+use Rattle.block.specs.Block.{isZero, block, fault, usedContents}
+
+-- ---- Opening
+
+unfoldable pub blockCount : List ℕ → ℕ
+blockCount file = length file / 512
+
+unfoldable pub blockAt : List ℕ → ℕ → List ℕ
+blockAt file k = take 512 (drop (512 * k) file)
+
+-- the fault of block k
+unfoldable pub faultAt : List ℕ → ℕ → ℕ
+faultAt file k = fault (eqb (k + 1) (blockCount file)) k (blockAt file k)
+
+-- the lowest block with a fault, or the block count where there is none
+unfoldable pub firstFaulty : List ℕ → ℕ
+firstFaulty file = firstFalse (λ k. isZero (faultAt file k)) (blockCount file)
+
+-- the refusal of the lowest block with a fault; number 0 where there is none
+unfoldable pub firstFault : List ℕ → Refusal
+firstFault file =
+    cond (eqb (firstFaulty file) (blockCount file)) (refusal 0 (blockCount file)) (refusal (faultAt file (firstFaulty file)) (firstFaulty file))
+
+unfoldable pub contentsAt : List ℕ → ℕ → List ℕ
+contentsAt file k = usedContents (blockAt file k)
+
+-- the used contents joined
+unfoldable pub bundleOf : List ℕ → List ℕ
+bundleOf file = joined (contentsAt file) (blockCount file)
+
+-- 1 to 128 blocks of 512 bytes
+unfoldable pub rightLength : ℕ → Bool
+rightLength n = leb 1 n && (eqb (n % 512) 0 && leb n 65536)
+
+unfoldable pub opened : List ℕ → Result
+opened file =
+    cond (rightLength (length file))
+    (cond (isZero (firstFault file .number)) (bytes (bundleOf file)) (refused (firstFault file)))
+    (refused (refusal FILE-LENGTH 0))
+
+-- a file of whole blocks that all keep the rules
+pub record Sound (file : List ℕ) : Type 0 where
+  pub whole : length file ≡ 512 * blockCount file
+  pub some : 0 < blockCount file
+  pub most : blockCount file ≤ 128
+  pub each : (k : ℕ) → k < blockCount file → faultAt file k ≡ 0
+
+-- ---- Sealing
+
+-- the contents of block k: 504 bytes of the bundle, in the last block what is left
+unfoldable pub partAt : List ℕ → ℕ → List ℕ
+partAt bundle k = take 504 (drop (504 * k) bundle)
+
+unfoldable pub sealedBlockAt : List ℕ → ℕ → List ℕ
+sealedBlockAt bundle k = block k (partAt bundle k)
+
+-- the blocks that n bytes take
+unfoldable pub blocksFor : ℕ → ℕ
+blocksFor n = (n + 503) / 504
+
+unfoldable pub sealedFile : List ℕ → List ℕ
+sealedFile bundle = joined (sealedBlockAt bundle) (blocksFor (length bundle))
+
+-- 1 to 64,512 bytes
+unfoldable pub rightSize : ℕ → Bool
+rightSize n = leb 1 n && leb n 64512
+
+unfoldable pub sealed : List ℕ → Result
+sealed bundle = cond (rightSize (length bundle)) (bytes (sealedFile bundle)) (refused (refusal BUNDLE-LENGTH 0))

@@ -1,0 +1,191 @@
+-- Sealing and opening undo each other.
+use mathlib.Core.Path.{_≡_, refl, sym, ap, _∙_}
+use mathlib.Core.Bool.{Bool, true, false, cond}
+use mathlib.Core.Logic.{⊎-elim}
+use mathlib.Core.List.{List}
+use Prim.Native.Nat.{ℕ, _+_, _-_, _*_, _%_, _≤_, _<_, min}
+use native.Mathlib.Nat.{eq-or-lt-of-le}
+use native.Mathlib.Omega.{arith}
+use lib.ListN.{length, take, drop, length-drop}
+use lib.Seq.{take-all}
+use lib.Dec.{eqb}
+use borrow.Author.Tests.{eqb-true, eqb-false, eq-eqb, le-leb}
+use Rattle.laws.specs.Parts.{front, take-front, take-min}
+use Rattle.laws.specs.Pieces.{joined-same, joined-parts, part-joined}
+use Rattle.laws.specs.Numbers.{Bytes, bytes-take, bytes-drop}
+use Rattle.refusals.specs.Table.{FILE-LENGTH, BUNDLE-LENGTH}
+use Rattle.refusals.specs.Answers.{refusal, Result, answer, written}
+use Rattle.refusals.specs.Answers.Result.{bytes, refused}
+use Rattle.refusals.specs.Laws.{Ends, ends-written, answer-length}
+use Rattle.refusals.specs.declared.Written.the-variants.{Length}
+use Rattle.block.specs.Block.{isZero, rightCount, usedCount}
+use Rattle.block.specs.File.{blockCount, blockAt, faultAt, firstFault, contentsAt, bundleOf, rightLength, opened, Sound, partAt, sealedBlockAt, blocksFor, sealedFile, rightSize, sealed}
+use Rattle.block.specs.BlockLaws.{rightCount-some, rightCount-intro, block-contents, block-sound, block-unique}
+use Rattle.block.specs.OpenLaws.{length-blockAt, keeps, used-most, used-full, length-contentsAt, length-before, length-bundle, firstFault-none, opened-bundle, opened-sound}
+use Rattle.block.specs.SealLaws.{rightSize-bounds, rightSize-intro, length-partAt, length-sealedBlockAt, length-blocksBefore, length-sealedFile, sealed-file}
+
+-- ---- Opening what sealing wrote
+
+module _ (bundle : List ℕ) (some : 1 ≤ length bundle) (most : length bundle ≤ 64512) where
+  count-sealed : blockCount (sealedFile bundle) ≡ blocksFor (length bundle)
+  unfolding blockCount
+  count-sealed = omega (arith, length-sealedFile bundle)
+
+  fits-sealed : rightLength (length (sealedFile bundle)) ≡ true
+  unfolding rightLength blocksFor
+  fits-sealed =
+      let size = length-sealedFile bundle in
+      rw (le-leb 1 (length (sealedFile bundle)) (omega arith), eq-eqb (length (sealedFile bundle) % 512) 0 (omega arith), le-leb (length (sealedFile bundle)) 65536 (omega arith))
+
+  blockAt-sealed : (k : ℕ) → k < blocksFor (length bundle) → blockAt (sealedFile bundle) k ≡ sealedBlockAt bundle k
+  unfolding blockAt sealedFile
+  blockAt-sealed k h =
+      rw (length-sealedBlockAt bundle k) at (part-joined (sealedBlockAt bundle) (blocksFor (length bundle)) k (512 * k) h (length-blocksBefore bundle k))
+
+  counted-part : (k : ℕ) → k < blocksFor (length bundle) → rightCount (eqb (k + 1) (blocksFor (length bundle))) (length (partAt bundle k)) ≡ true
+  unfolding blocksFor
+  counted-part k h =
+      let size = length-partAt bundle k in
+      rightCount-intro _ _ (omega arith) (omega arith) (λ e. let inner = eqb-false (k + 1) (blocksFor (length bundle)) e in omega arith)
+
+  number-small : (k : ℕ) → k < blocksFor (length bundle) → k < 65536
+  unfolding blocksFor
+  number-small k h = omega arith
+
+  faultAt-sealed : (k : ℕ) → k < blocksFor (length bundle) → faultAt (sealedFile bundle) k ≡ 0
+  unfolding faultAt sealedBlockAt
+  faultAt-sealed k h =
+      rw (count-sealed, blockAt-sealed k h)
+      (block-sound k (partAt bundle k) (number-small k h) (omega (arith, length-partAt bundle k)) _ (counted-part k h))
+
+  contentsAt-sealed : (k : ℕ) → k < blocksFor (length bundle) → contentsAt (sealedFile bundle) k ≡ partAt bundle k
+  unfolding contentsAt sealedBlockAt
+  contentsAt-sealed k h =
+      rw (blockAt-sealed k h) (block-contents k (partAt bundle k) (number-small k h) (omega (arith, length-partAt bundle k)))
+
+  bundle-sealed : bundleOf (sealedFile bundle) ≡ bundle
+  unfolding bundleOf partAt blocksFor
+  bundle-sealed =
+      rw count-sealed
+      (joined-same (contentsAt (sealedFile bundle)) (partAt bundle) (blocksFor (length bundle)) contentsAt-sealed
+      ∙ joined-parts bundle 504 (blocksFor (length bundle))
+      ∙ take-all (504 * blocksFor (length bundle)) bundle (omega arith))
+
+  none-sealed : firstFault (sealedFile bundle) ≡ refusal 0 (blockCount (sealedFile bundle))
+  none-sealed = firstFault-none (sealedFile bundle) (λ k h. faultAt-sealed k (omega (arith, count-sealed)))
+
+  opened-sealedFile : opened (sealedFile bundle) ≡ bytes bundle
+  opened-sealedFile = opened-bundle (sealedFile bundle) fits-sealed (rw none-sealed) ∙ ap bytes bundle-sealed
+
+-- a bundle that is sealed: its length is right, and the file is its blocks
+sealed-bytes : (bundle file : List ℕ) → sealed bundle ≡ bytes file → (rightSize (length bundle) ≡ true) × (sealedFile bundle ≡ file)
+unfolding sealed
+sealed-bytes bundle file e = go (rightSize (length bundle)) e
+  where
+    go : (b : Bool) → cond b (bytes (sealedFile bundle)) (refused (refusal BUNDLE-LENGTH 0)) ≡ bytes file → (b ≡ true) × (sealedFile bundle ≡ file)
+    go true e = (refl, cc)
+    go false e = absurd (let z : _≡_ {A = ℕ} 0 1 = cc in omega arith)
+
+-- opening what sealing gave gives the bundle back
+pub opened-sealed : (bundle file : List ℕ) → sealed bundle ≡ bytes file → opened file ≡ bytes bundle
+opened-sealed bundle file e =
+    let s = sealed-bytes bundle file e in
+    let size = rightSize-bounds (length bundle) (s .0) in
+    ap opened (sym (s .1)) ∙ opened-sealedFile bundle (size .0) (size .1)
+
+-- ---- Sealing what opening gave
+
+-- a file that opens: its blocks keep the rules, and the bundle is theirs
+pub opened-bytes : (file bundle : List ℕ) → opened file ≡ bytes bundle → Sound file × (bundleOf file ≡ bundle)
+unfolding opened
+opened-bytes file bundle e = finish (go (rightLength (length file)) (isZero (firstFault file .number)) e)
+  where
+    go : (p q : Bool) → cond p (cond q (bytes (bundleOf file)) (refused (firstFault file))) (refused (refusal FILE-LENGTH 0)) ≡ bytes bundle
+        → (p ≡ true) × (q ≡ true) × (bundleOf file ≡ bundle)
+    go true true e = (refl, refl, cc)
+    go true false e = absurd (let z : _≡_ {A = ℕ} 0 1 = cc in omega arith)
+    go false q e = absurd (let z : _≡_ {A = ℕ} 0 1 = cc in omega arith)
+
+    finish : (rightLength (length file) ≡ true) × (isZero (firstFault file .number) ≡ true) × (bundleOf file ≡ bundle) → Sound file × (bundleOf file ≡ bundle)
+    finish t = (opened-sound file (t .0) (eqb-true _ _ (t .1)), t .2)
+
+module _ (file : List ℕ) (sound : Sound file) where
+  -- the last block's used count
+  used-last : (1 ≤ usedCount (blockAt file (blockCount file - 1))) × (usedCount (blockAt file (blockCount file - 1)) ≤ 504)
+  used-last =
+      let k : ℕ = blockCount file - 1 in
+      let here : k < blockCount file = omega arith in
+      (rightCount-some _ _ (keeps file sound k here .counted), used-most file sound k here)
+
+  blocksFor-bundle : blocksFor (length (bundleOf file)) ≡ blockCount file
+  unfolding blocksFor
+  blocksFor-bundle = omega (arith, used-last, length-bundle file sound)
+
+  -- block k holds 504 bytes of the bundle, and the last what is left
+  length-part : (k : ℕ) → k < blockCount file → min 504 (length (drop (504 * k) (bundleOf file))) ≡ length (contentsAt file k)
+  length-part k h =
+      let whole = length-bundle file sound in
+      let rest = length-drop (504 * k) (bundleOf file) in
+      let here = length-contentsAt file sound k h in
+      ⊎-elim
+      (λ e. let last : k ≡ blockCount file - 1 = omega (arith, e) in omega (arith, used-last, ap (λ (j : ℕ). usedCount (blockAt file j)) last))
+      (λ l. let full = used-full file sound k (omega (arith, l)) in omega (arith, used-last, l))
+      (eq-or-lt-of-le h)
+
+  partAt-bundle : (k : ℕ) → k < blockCount file → partAt (bundleOf file) k ≡ contentsAt file k
+  unfolding partAt bundleOf
+  partAt-bundle k h =
+      sym (take-min 504 (drop (504 * k) (bundleOf file)))
+      ∙ ap (λ (n : ℕ). take n (drop (504 * k) (bundleOf file))) (length-part k h)
+      ∙ part-joined (contentsAt file) (blockCount file) k (504 * k) h (length-before file sound k h)
+
+module _ (file : List ℕ) (sound : Sound file) (small : Bytes file) where
+  bytes-block : (k : ℕ) → Bytes (blockAt file k)
+  unfolding blockAt
+  bytes-block k = bytes-take 512 (drop (512 * k) file) (bytes-drop (512 * k) file small)
+
+  sealedBlockAt-bundle : (k : ℕ) → k < blockCount file → sealedBlockAt (bundleOf file) k ≡ blockAt file k
+  unfolding sealedBlockAt contentsAt
+  sealedBlockAt-bundle k h =
+      rw (partAt-bundle file sound k h)
+      (block-unique _ k (blockAt file k) (length-blockAt file sound k h) (bytes-block k) (keeps file sound k h))
+
+  sealedFile-bundle : sealedFile (bundleOf file) ≡ file
+  unfolding sealedFile blockAt
+  sealedFile-bundle =
+      rw (blocksFor-bundle file sound)
+      (joined-same (sealedBlockAt (bundleOf file)) (blockAt file) (blockCount file) sealedBlockAt-bundle
+      ∙ joined-parts file 512 (blockCount file)
+      ∙ take-all (512 * blockCount file) file (omega arith))
+
+-- sealing what opening gave gives the file back
+pub sealed-opened : (file bundle : List ℕ) → Bytes file → opened file ≡ bytes bundle → sealed bundle ≡ bytes file
+sealed-opened file bundle small e =
+    let o = opened-bytes file bundle e in
+    let some : 1 ≤ length bundle = omega (arith, used-last file (o .0), length-bundle file (o .0), ap length (o .1)) in
+    let most : length bundle ≤ 64512 = omega (arith, used-last file (o .0), length-bundle file (o .0), ap length (o .1)) in
+    sealed-file bundle (rightSize-intro (length bundle) some most) ∙ ap bytes (ap sealedFile (sym (o .1)) ∙ sealedFile-bundle file (o .0) small)
+
+-- ---- As a caller sees it
+
+-- two calls of which the second undoes the first: what the first wrote to a long enough output, the second takes back to where it came from
+undone : (f g : List ℕ → Result) (x : List ℕ) → ((y : List ℕ) → f x ≡ bytes y → g y ≡ bytes x)
+    → (first second : List ℕ) (n : ℕ) → answer (f x) (length first) ≡ Length n → length x ≤ length second
+    → Ends (g (take n (written (f x) first))) second (Length (length x)) (front x second)
+undone f g x back first second n e room = let a = answer-length (f x) first n e in go (a .0) (a .1) (a .2 .0) (a .2 .1)
+  where
+    go : (new : List ℕ) → f x ≡ bytes new → n ≡ length new → written (f x) first ≡ front new first
+        → Ends (g (take n (written (f x) first))) second (Length (length x)) (front x second)
+    go new result size after =
+        let whole : take n (written (f x) first) ≡ new = rw (size, after) (take-front new first) in
+        ends-written _ second x (ap g whole ∙ back new result) room
+
+-- a bundle sealed into one output, and the file opened into another
+pub seal-then-open : (bundle first second : List ℕ) (n : ℕ) → answer (sealed bundle) (length first) ≡ Length n → length bundle ≤ length second
+    → Ends (opened (take n (written (sealed bundle) first))) second (Length (length bundle)) (front bundle second)
+seal-then-open bundle = undone sealed opened bundle (opened-sealed bundle)
+
+-- a file opened into one output, and the bundle sealed into another
+pub open-then-seal : (file first second : List ℕ) (n : ℕ) → Bytes file → answer (opened file) (length first) ≡ Length n → length file ≤ length second
+    → Ends (sealed (take n (written (opened file) first))) second (Length (length file)) (front file second)
+open-then-seal file first second n small = undone opened sealed file (λ y. sealed-opened file y small) first second n

@@ -1,0 +1,45 @@
+-- Bytes, and numbers of two bytes with the low byte first.
+use mathlib.Core.Path.{_≡_, ap, _∙_}
+use mathlib.Core.List.{List, [], _∷_, _++_}
+use Prim.Native.Nat.{ℕ, zero, suc, _+_, _*_, _/_, _%_, _<_}
+use native.Mathlib.Nat.{add-assoc, add-mul-mod-self-left, mod-eq-of-lt}
+use native.Mathlib.Numerals.{add-one}
+use native.Mathlib.Omega.{arith}
+use lib.ListN.{length, take, drop, getD}
+use lib.Seq.{drop-cons, getD-append-add, getD-drop}
+
+-- every element is below 256
+abbrev pub Bytes : List ℕ → Type 0
+Bytes l = (i : ℕ) → getD l i 0 < 256
+
+pub bytes-take : (n : ℕ) (l : List ℕ) → Bytes l → Bytes (take n l)
+bytes-take zero l h i = omega arith
+bytes-take (suc n) [] h i = omega arith
+bytes-take (suc n) (x ∷ l) h zero = h 0
+bytes-take (suc n) (x ∷ l) h (suc i) = bytes-take n l (λ j. h (suc j)) i
+
+pub bytes-drop : (n : ℕ) (l : List ℕ) → Bytes l → Bytes (drop n l)
+bytes-drop n l h i = rw getD-drop (h (n + i))
+
+-- the two bytes of a number
+abbrev pub le16 : ℕ → List ℕ
+le16 n = n % 256 ∷ n / 256 % 256 ∷ []
+
+-- the number in the two bytes at `at`
+unfoldable pub numberAt : List ℕ → ℕ → ℕ
+numberAt l at = getD l at 0 + 256 * getD l (at + 1) 0
+
+pub numberAt-after : (before rest : List ℕ) (n i : ℕ) → length before ≡ n → numberAt (before ++ rest) (n + i) ≡ numberAt rest i
+unfolding numberAt
+numberAt-after before rest n i e = rw (← e, add-assoc, getD-append-add, getD-append-add)
+
+-- the bytes of the number at `at` are those at `at`
+pub le16-numberAt : (l : List ℕ) (at : ℕ) → Bytes l → at + 1 < length l → le16 (numberAt l at) ≡ take 2 (drop at l)
+unfolding numberAt
+le16-numberAt l at h inside =
+    let x : ℕ = getD l at 0 in
+    let y : ℕ = getD l (at + 1) 0 in
+    let low : (x + 256 * y) % 256 ≡ x = add-mul-mod-self-left x 256 y ∙ mod-eq-of-lt (h at) in
+    let quotient : (x + 256 * y) / 256 ≡ y = omega (arith, h at) in
+    let high : (x + 256 * y) / 256 % 256 ≡ y = ap (λ (n : ℕ). n % 256) quotient ∙ mod-eq-of-lt (h (at + 1)) in
+    rw (drop-cons l at 0 (omega arith), drop-cons l (suc at) 0 (omega arith), ← add-one at, low, high)

@@ -1,0 +1,75 @@
+-- Parts of lists: a new front, a new middle, a part of a part.
+use mathlib.Core.Path.{_≡_, refl, sym, ap}
+use mathlib.Core.List.{List, [], _∷_, _++_, append-assoc, append-nil}
+use Prim.Native.Nat.{ℕ, zero, suc, _+_, _-_, _≤_, min}
+use native.Mathlib.Nat.{zero-min, min-zero, suc-min-suc, sub-zero, zero-sub, suc-sub-suc}
+use native.Mathlib.Omega.{arith}
+use lib.ListN.{length, take, drop, replicate, length-append, length-drop, drop-of-length-le}
+use lib.Seq.{take-take, take-all, take-length, take-add, paste, sets, sets-eq, take-append-seam, drop-append-add, drop-drop}
+
+module _ {A : Type 0} where
+  -- `new` in front of a list, over as many of its elements
+  unfoldable pub front : List A → List A → List A
+  front new l = new ++ drop (length new) l
+
+  -- `new` in a list from index `at` on, over as many of its elements
+  unfoldable pub spliced : ℕ → List A → List A → List A
+  spliced at new l = take at l ++ new ++ drop (at + length new) l
+
+  -- the front of such a list
+  pub take-front : (new l : List A) → take (length new) (front new l) ≡ new
+  unfolding front
+  take-front new l = take-append-seam new (drop (length new) l)
+
+  -- nothing in front
+  pub front-none : (l : List A) → l ≡ front [] l
+  unfolding front
+  front-none l = refl
+
+  -- the next piece, written after those in front
+  pub front-next : (done piece l : List A) → spliced (length done) piece (front done l) ≡ front (done ++ piece) l
+  unfolding front spliced
+  front-next done piece l = simp (take-append-seam, drop-append-add, drop-drop, length-append, append-assoc)
+
+  -- a copy into the part of a list from `at` on, as the list has it afterwards
+  pub spliced-part : (at : ℕ) (new l : List A) → at ≤ length l
+      → take at l ++ (take (length new) new ++ drop (length new) (take (length l - at) (drop at l)) ++ drop (length l - at) (drop at l)) ≡ spliced at new l
+  unfolding spliced
+  spliced-part at new l h =
+      let rest : take (length l - at) (drop at l) ≡ drop at l = take-all (length l - at) (drop at l) (omega (arith, length-drop at l)) in
+      let none : drop (length l - at) (drop at l) ≡ [] = drop-of-length-le (drop at l) {i = length l - at} (omega (arith, length-drop at l)) in
+      simp (take-length, rest, none, append-nil, drop-drop, append-assoc)
+
+  -- a copy of the whole of `new`, element by element, is `new` in its place
+  pub spliced-paste : (at : ℕ) (new l : List A) (n : ℕ) → length new ≤ n → n ≤ length new → paste l at new n ≡ spliced at new l
+  unfolding spliced
+  spliced-paste at new l n above below =
+      let whole : n ≡ length new = omega arith in
+      rw (whole, take-length)
+
+  -- stores one after the other
+  pub spliced-sets : (at : ℕ) (new l : List A) → at + length new ≤ length l → sets l at new ≡ spliced at new l
+  unfolding spliced
+  spliced-sets at new l h = sets-eq new l at h
+
+  -- a part within a part
+  pub take-drop-take : (n m size : ℕ) (l : List A) → m + n ≤ size → take n (drop m (take size l)) ≡ take n (drop m l)
+  take-drop-take n zero size l h = take-take n size l (omega arith)
+  take-drop-take n (suc m) zero l h = absurd (omega arith)
+  take-drop-take n (suc m) (suc size) [] h = refl
+  take-drop-take n (suc m) (suc size) (x ∷ l) h = take-drop-take n m size l (omega arith)
+
+  -- two parts, one after the other
+  pub adjacent : (n m at : ℕ) (l : List A) → take n (drop at l) ++ take m (drop (at + n) l) ≡ take (n + m) (drop at l)
+  adjacent n m at l = rw (take-add, drop-drop)
+
+  -- as many elements as there are
+  pub take-min : (n : ℕ) (l : List A) → take (min n (length l)) l ≡ take n l
+  take-min zero l = rw zero-min
+  take-min (suc n) [] = rw min-zero
+  take-min (suc n) (x ∷ l) = rw suc-min-suc (ap (λ (t : List A). x ∷ t) (take-min n l))
+
+  pub drop-replicate : (k n : ℕ) (a : A) → drop k (replicate n a) ≡ replicate (n - k) a
+  drop-replicate zero n a = rw sub-zero
+  drop-replicate (suc k) zero a = rw zero-sub
+  drop-replicate (suc k) (suc n) a = rw suc-sub-suc (drop-replicate k n a)

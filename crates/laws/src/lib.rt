@@ -1,0 +1,1 @@
+// General definitions and laws, in specs/. There is no code here.

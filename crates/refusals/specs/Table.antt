@@ -1,0 +1,50 @@
+-- The numbers of the refusal table, by the names that the code has for them.
+use Prim.Native.Nat.{ℕ}
+
+abbrev pub FILE-LENGTH : ℕ
+FILE-LENGTH = 1
+
+abbrev pub BLOCK : ℕ
+BLOCK = 2
+
+abbrev pub OUTPUT-SHORT : ℕ
+OUTPUT-SHORT = 3
+
+abbrev pub BUNDLE-LENGTH : ℕ
+BUNDLE-LENGTH = 4
+
+abbrev pub TABLE-SHORT : ℕ
+TABLE-SHORT = 5
+
+abbrev pub BUNDLE-END : ℕ
+BUNDLE-END = 6
+
+abbrev pub VALUE : ℕ
+VALUE = 7
+
+abbrev pub EVENTS : ℕ
+EVENTS = 8
+
+abbrev pub ROWS : ℕ
+ROWS = 9
+
+abbrev pub PLACE-FIT : ℕ
+PLACE-FIT = 10
+
+abbrev pub PLACE-PERMITS : ℕ
+PLACE-PERMITS = 11
+
+abbrev pub WEIGHTS : ℕ
+WEIGHTS = 12
+
+abbrev pub BYTES-FOLLOW : ℕ
+BYTES-FOLLOW = 13
+
+abbrev pub WORD-LENGTH : ℕ
+WORD-LENGTH = 14
+
+abbrev pub WORD-EVENT : ℕ
+WORD-EVENT = 15
+
+abbrev pub SUMMARY : ℕ
+SUMMARY = 16

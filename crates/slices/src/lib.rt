@@ -1,0 +1,28 @@
+// Inner functions on slices of bytes that several crates share: a number of two bytes, and a copy to a place.
+ghost use mathlib.Core.Path.{_≡_};
+ghost use Prim.Native.Nat.{_+_, _≤_, _<_};
+ghost use lib.ListN.{length};
+ghost use Rattle.laws.specs.Parts.{spliced};
+ghost use Rattle.laws.specs.Numbers.{numberAt};
+
+fn wide(byte: u8) -> usize
+    ensures { λ r. ⌜ (r ≡ byte) × (r < 256) ⌝ }
+{
+    byte as usize
+}
+
+// The number in the two bytes at `at`, the low byte first.
+pub fn number_at(bytes: &[u8], at: usize) -> usize
+    requires { ⌜ at + 1 < length (now bytes) ⌝ }
+    ensures { λ r. ⌜ (r ≡ numberAt (now (bytes .entry)) at) × (r < 65536) ⌝ }
+{
+    wide(bytes[at]) + 256 * wide(bytes[at + 1])
+}
+
+// Copies `piece` into `output` from `at` on.
+pub fn write_at(output: &mut [u8], at: usize, piece: &[u8])
+    requires { ⌜ at + length (now piece) ≤ length (now output) ⌝ }
+    ensures { λ _. ⌜ now (output .exit) ≡ spliced at (now (piece .entry)) (now (output .entry)) ⌝ }
+{
+    bytes::copy(piece, &mut output[at..]);
+}

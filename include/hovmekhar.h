@@ -1,0 +1,206 @@
+/*
+ * Hovmekhar: opening and sealing of files. C11 and C++.
+ *
+ * A sealed file is 1 to 128 blocks of 512 bytes. Numbers of two bytes have the
+ * low byte first. A block holds:
+ *
+ *   bytes 0-1      block number, from 0
+ *   bytes 2-3      used count: 504, in the last block 1 to 504
+ *   bytes 4-507    contents; unused contents are zero
+ *   bytes 508-509  the sum of bytes 0 to 507, modulo 65,521
+ *   bytes 510-511  the sum of (i + 1) * byte i over i = 0 to 507, modulo 65,521
+ *
+ * The used contents of all blocks, joined, are the bundle.
+ *
+ * Every call returns 0 for a result, else the number of a refusal (see
+ * enum hov_refusal). A result's length or a refusal's spot is in answer[0].
+ * Numbers of answer that a call does not use stay as they were.
+ *
+ * The caller's duties, for every call:
+ *   - No pointer is NULL, not even one with length 0.
+ *   - Each pointer is valid for its length: inputs for reads; outputs and the
+ *     four aligned numbers of answer for reads and writes.
+ *   - The buffers of one call do not overlap.
+ *   - Nothing else writes to these buffers during the call, and nothing else
+ *     reads those that the call may write to.
+ *
+ * The calls check everything else. They keep no state, allocate nothing, and
+ * may be called from several threads at once on different buffers.
+ */
+#ifndef HOVMEKHAR_H
+#define HOVMEKHAR_H
+
+#include <stddef.h>
+#include <stdint.h>
+
+#ifdef __cplusplus
+extern "C" {
+#endif
+
+/** Bytes of a block. */
+#define HOV_BLOCK_SIZE 512
+
+/** Bytes of a block's contents. */
+#define HOV_CONTENTS_SIZE 504
+
+/** The largest number of blocks in a sealed file. */
+#define HOV_MAX_BLOCKS 128
+
+/** The largest length of a sealed file: HOV_MAX_BLOCKS * HOV_BLOCK_SIZE. */
+#define HOV_MAX_FILE_SIZE 65536
+
+/** The largest length of a bundle: HOV_MAX_BLOCKS * HOV_CONTENTS_SIZE. */
+#define HOV_MAX_BUNDLE_SIZE 64512
+
+/**
+ * The numbers of the refusals.
+ *
+ * Each comment gives the cause, the spot that answer[0] then holds, and what
+ * stays as it was. No refusal writes to an output or to an input.
+ *
+ * This is the whole table, so that a number keeps its meaning when calls are
+ * added. The calls declared below refuse with numbers 1 to 4.
+ */
+enum hov_refusal {
+    /**
+     * open: the file's length is 0, no multiple of 512, or above 65,536.
+     * Spot: 0. As it was: the output.
+     */
+    HOV_FILE_LENGTH = 1,
+
+    /**
+     * open: a block breaks a rule of the file format.
+     * Spot: the lowest such block. As it was: the output.
+     */
+    HOV_BLOCK = 2,
+
+    /**
+     * open, seal: the output is shorter than the result.
+     * Spot: the length needed. As it was: the output.
+     */
+    HOV_OUTPUT_SHORT = 3,
+
+    /**
+     * seal, judge, screen: the bundle's length is 0 or above 64,512.
+     * Spot: 0. As it was: the output, the table.
+     */
+    HOV_BUNDLE_LENGTH = 4,
+
+    /**
+     * fresh, summary, judge: the table has fewer than 3,328 numbers.
+     * Spot: 3,328. As it was: the table.
+     */
+    HOV_TABLE_SHORT = 5,
+
+    /**
+     * judge, screen: the bundle ends before or inside a field.
+     * Spot: the offset of the field. As it was: the bundle. See HOV_VALUE for
+     * the judge's table.
+     */
+    HOV_BUNDLE_END = 6,
+
+    /**
+     * summary, judge, screen: a value is outside its range, or names a row,
+     * event or place that is not there.
+     * Spot: the offset of the field; in a lent word, the position in the word.
+     * As it was: from the summary, the table and the summary. The judge,
+     * refusing with any number but 4 and 5, leaves the table's numbers 0 to
+     * 3,327 zero and the rest as it was.
+     */
+    HOV_VALUE = 7,
+
+    /**
+     * summary, judge, screen: the events would pass 1,024.
+     * Spot: the offset of the word's length byte; for a summary 0.
+     * As it was: as for HOV_VALUE.
+     */
+    HOV_EVENTS = 8,
+
+    /**
+     * summary, judge: the rows would pass 256.
+     * Spot: as for HOV_EVENTS. As it was: as for HOV_VALUE.
+     */
+    HOV_ROWS = 9,
+
+    /**
+     * judge: a place does not fit.
+     * Spot: the lowest such place. As it was: the bundle; the table as for
+     * HOV_VALUE.
+     */
+    HOV_PLACE_FIT = 10,
+
+    /**
+     * judge: the place that a certificate lists permits the wrong continuation.
+     * Spot: the certificate's number. As it was: the bundle; the table as for
+     * HOV_VALUE.
+     */
+    HOV_PLACE_PERMITS = 11,
+
+    /**
+     * judge: a certificate of kind 1 does not hold, or the step of one of its
+     * terms is not allowed.
+     * Spot: the certificate's number. As it was: the bundle; the table as for
+     * HOV_VALUE.
+     */
+    HOV_WEIGHTS = 12,
+
+    /**
+     * judge: bytes follow the last certificate.
+     * Spot: the offset of the first. As it was: the bundle; the table as for
+     * HOV_VALUE.
+     */
+    HOV_BYTES_FOLLOW = 13,
+
+    /**
+     * screen: the word has more than 65,535 events.
+     * Spot: 65,535. As it was: both inputs.
+     */
+    HOV_WORD_LENGTH = 14,
+
+    /**
+     * screen: an event of the word is not below the event count.
+     * Spot: its position. As it was: both inputs.
+     */
+    HOV_WORD_EVENT = 15,
+
+    /**
+     * fresh, summary: the event count is not 1 to 12, the rows are not 1 to
+     * 256, or the events are above 1,024.
+     * Spot: 0. As it was: the table.
+     */
+    HOV_SUMMARY = 16
+};
+
+/**
+ * Opens a sealed file: checks every block, then writes the bundle to the front
+ * of the output and leaves the rest of the output as it was.
+ *
+ * Returns 0, with the bundle's length in answer[0], or the first refusal that
+ * applies in the order HOV_FILE_LENGTH, HOV_BLOCK, HOV_OUTPUT_SHORT, with its
+ * spot in answer[0]. answer[1] to answer[3] stay as they were.
+ *
+ * An output of HOV_MAX_BUNDLE_SIZE bytes is long enough for every file.
+ */
+uint32_t hov_open(const uint8_t *file, size_t file_len,
+                  uint8_t *output, size_t output_len,
+                  uint64_t answer[4]);
+
+/**
+ * Seals a bundle: writes the sealed file to the front of the output and leaves
+ * the rest of the output as it was.
+ *
+ * Returns 0, with the file's length in answer[0], or the first refusal that
+ * applies in the order HOV_BUNDLE_LENGTH, HOV_OUTPUT_SHORT, with its spot in
+ * answer[0]. answer[1] to answer[3] stay as they were.
+ *
+ * An output of HOV_MAX_FILE_SIZE bytes is long enough for every bundle.
+ */
+uint32_t hov_seal(const uint8_t *bundle, size_t bundle_len,
+                  uint8_t *output, size_t output_len,
+                  uint64_t answer[4]);
+
+#ifdef __cplusplus
+}
+#endif
+
+#endif

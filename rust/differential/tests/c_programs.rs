@@ -1,0 +1,109 @@
+//! The header and the static library, from C.
+
+use hovmekhar::Refusal;
+use std::path::{Path, PathBuf};
+use std::process::Command;
+use std::{env, fs};
+
+fn include_directory() -> PathBuf {
+    Path::new(env!("CARGO_MANIFEST_DIR")).join("../../include")
+}
+
+/// Compiles a program of `tests/c` with the C compiler that also links Rust
+/// programs, runs it, and returns what it printed.
+fn run(name: &str) -> String {
+    let source = Path::new(env!("CARGO_MANIFEST_DIR"))
+        .join("tests/c")
+        .join(name)
+        .with_extension("c");
+    let program = Path::new(env!("CARGO_TARGET_TMPDIR")).join(name);
+    let compiler = env::var_os("CC").unwrap_or_else(|| "cc".into());
+    let compiled = Command::new(compiler)
+        .args([
+            "-std=c11",
+            "-Wall",
+            "-Wextra",
+            "-Werror",
+            "-pedantic",
+            "-O2",
+        ])
+        .arg("-I")
+        .arg(include_directory())
+        .arg(source)
+        .arg(env!("HOVMEKHAR_ARCHIVE"))
+        .arg("-o")
+        .arg(&program)
+        .output()
+        .expect("the C compiler runs");
+    assert!(
+        compiled.status.success(),
+        "{name}.c does not compile: {}",
+        String::from_utf8_lossy(&compiled.stderr)
+    );
+
+    let done = Command::new(program).output().expect("the program runs");
+    assert!(done.status.success(), "{name} ended with {}", done.status);
+    String::from_utf8(done.stdout).expect("the program prints text")
+}
+
+#[test]
+fn round_trip() {
+    assert_eq!(
+        run("roundtrip"),
+        "sealed 600 bytes: 0, 1024\n\
+         opened: 0, 600, equal\n\
+         altered: 2, 1, output as it was\n\
+         short: 3, 600, output as it was\n\
+         empty: 1, 0\n\
+         nothing to seal: 4, 0\n"
+    );
+}
+
+#[test]
+fn pages_around_the_buffers_are_not_touched() {
+    assert_eq!(run("pages"), "1280 calls\n");
+}
+
+/// The header has the same numbers as the Rust crate.
+#[test]
+fn header_and_crate_agree() {
+    let header =
+        fs::read_to_string(include_directory().join("hovmekhar.h")).expect("the header is there");
+    let words: Vec<&str> = header.split_whitespace().collect();
+    let has = |sequence: &[&str]| words.windows(sequence.len()).any(|at| at == sequence);
+
+    for (name, number) in [
+        ("HOV_FILE_LENGTH", Refusal::FILE_LENGTH),
+        ("HOV_BLOCK", Refusal::BLOCK),
+        ("HOV_OUTPUT_SHORT", Refusal::OUTPUT_SHORT),
+        ("HOV_BUNDLE_LENGTH", Refusal::BUNDLE_LENGTH),
+        ("HOV_TABLE_SHORT", Refusal::TABLE_SHORT),
+        ("HOV_BUNDLE_END", Refusal::BUNDLE_END),
+        ("HOV_VALUE", Refusal::VALUE),
+        ("HOV_EVENTS", Refusal::EVENTS),
+        ("HOV_ROWS", Refusal::ROWS),
+        ("HOV_PLACE_FIT", Refusal::PLACE_FIT),
+        ("HOV_PLACE_PERMITS", Refusal::PLACE_PERMITS),
+        ("HOV_WEIGHTS", Refusal::WEIGHTS),
+        ("HOV_BYTES_FOLLOW", Refusal::BYTES_FOLLOW),
+        ("HOV_WORD_LENGTH", Refusal::WORD_LENGTH),
+        ("HOV_WORD_EVENT", Refusal::WORD_EVENT),
+    ] {
+        assert!(
+            has(&[name, "=", &format!("{number},")]),
+            "{name} = {number}"
+        );
+    }
+    // The last one of the enum, without a comma.
+    assert!(has(&["HOV_SUMMARY", "=", &Refusal::SUMMARY.to_string()]));
+
+    for (name, size) in [
+        ("HOV_BLOCK_SIZE", hovmekhar::BLOCK_SIZE),
+        ("HOV_CONTENTS_SIZE", hovmekhar::CONTENTS_SIZE),
+        ("HOV_MAX_BLOCKS", hovmekhar::MAX_BLOCKS),
+        ("HOV_MAX_FILE_SIZE", hovmekhar::MAX_FILE_SIZE),
+        ("HOV_MAX_BUNDLE_SIZE", hovmekhar::MAX_BUNDLE_SIZE),
+    ] {
+        assert!(has(&["#define", name, &size.to_string()]), "{name} {size}");
+    }
+}

@@ -1,0 +1,96 @@
+//! Every value of each field, every single bit, and sums in steps of one.
+
+use differential::files::{build, write_sums, Field, BLOCK, CONTENTS, MODULUS};
+use differential::run::{refusal, Run};
+
+/// Every value of each two-byte field of a file of one block. The sums are made
+/// right again where number or used count is altered.
+#[test]
+fn every_value_of_each_field() {
+    let mut run = Run::start("every_value_of_each_field");
+    for field in Field::ALL {
+        // Zeros, so that every used count leaves unused contents zero.
+        let filling = if field == Field::Used { 0 } else { 7 };
+        let sound = build(&[filling; CONTENTS]);
+        let right = field.read(&sound);
+        for value in 0..=65_535 {
+            let mut file = sound.clone();
+            field.write(&mut file, value);
+            if matches!(field, Field::Number | Field::Used) {
+                write_sums(&mut file);
+            }
+            let expected = match field {
+                Field::Used if (1..=CONTENTS).contains(&value) => Ok(value),
+                Field::Used => refusal(2, 0),
+                _ if value == right => Ok(CONTENTS),
+                _ => refusal(2, 0),
+            };
+            let done = run.open(&file, CONTENTS);
+            assert_eq!(done.outcome, expected, "{field:?} = {value}, {run}");
+        }
+    }
+    run.finish(&[(0, 3 + 504), (2, 3 * 65_535 + 65_032)]);
+}
+
+/// Every single altered bit of a file of two blocks.
+#[test]
+fn every_single_bit() {
+    let mut run = Run::start("every_single_bit");
+    let sound = build(&run.rng.bytes(CONTENTS + 100));
+    for byte in 0..sound.len() {
+        for bit in 0..8 {
+            let mut file = sound.clone();
+            file[byte] ^= 1 << bit;
+            let done = run.open(&file, 2 * CONTENTS);
+            let expected = refusal(2, byte / BLOCK);
+            assert_eq!(done.outcome, expected, "byte {byte}, bit {bit}, {run}");
+        }
+    }
+    run.finish(&[(2, 8_192)]);
+}
+
+/// Seals and opens bundles of one block whose sum goes up by one, from below the
+/// modulus to above it.
+fn sum_in_steps(run: &mut Run, sum: Field, bundles: impl Iterator<Item = Vec<u8>>) {
+    let mut before = None;
+    let mut passed_modulus = false;
+    for bundle in bundles {
+        let file = build(&bundle);
+        let sealed = run.seal(&bundle, BLOCK);
+        assert_eq!(sealed.outcome, Ok(BLOCK), "{run}");
+        assert!(sealed.output == file, "another file: {run}");
+        let opened = run.open(&file, CONTENTS);
+        assert_eq!(opened.outcome, Ok(CONTENTS), "{run}");
+        assert!(opened.output == bundle, "another bundle: {run}");
+
+        let now = sum.read(&file);
+        if let Some(before) = before {
+            assert_eq!(now, (before + 1) % MODULUS, "{run}");
+        }
+        passed_modulus |= now == 0;
+        before = Some(now);
+    }
+    assert!(passed_modulus, "{sum:?}, {run}");
+}
+
+#[test]
+fn sums_in_steps_over_the_modulus() {
+    let mut run = Run::start("sums_in_steps_over_the_modulus");
+    // More and more bytes 130, the rest 129: from 249 + 504 × 129 = 65,265 on.
+    let plain = (0..=CONTENTS).map(|more| {
+        let mut bundle = vec![129; CONTENTS];
+        bundle[..more].fill(130);
+        bundle
+    });
+    sum_in_steps(&mut run, Field::PlainSum, plain);
+    // A byte 1 moves on, and the last byte is 127: from 748 + 5 + 127 × 508 =
+    // 65,269 on.
+    let weighted = (0..CONTENTS - 1).map(|position| {
+        let mut bundle = vec![0; CONTENTS];
+        bundle[position] = 1;
+        bundle[CONTENTS - 1] = 127;
+        bundle
+    });
+    sum_in_steps(&mut run, Field::WeightedSum, weighted);
+    run.finish(&[(0, 2 * 505 + 2 * 503)]);
+}

@@ -1,0 +1,55 @@
+//! The static library's C calls, with slices in place of pointers and lengths.
+//!
+//! This is the only module with unsafe code. Each function returns the number
+//! that the library returned and leaves `answer` as the library left it.
+
+/// Where a call puts the numbers of its answer.
+pub type Answer = [u64; 4];
+
+unsafe extern "C" {
+    fn hov_open(
+        file: *const u8,
+        file_len: usize,
+        output: *mut u8,
+        output_len: usize,
+        answer: *mut u64,
+    ) -> u32;
+
+    fn hov_seal(
+        bundle: *const u8,
+        bundle_len: usize,
+        output: *mut u8,
+        output_len: usize,
+        answer: *mut u64,
+    ) -> u32;
+}
+
+/// Calls `hov_open`.
+pub fn open(file: &[u8], output: &mut [u8], answer: &mut Answer) -> u32 {
+    // SAFETY: Slices and references are never null and are valid for their
+    // lengths. The two exclusive ones overlap with nothing, and the library
+    // keeps no pointer after the call. `Answer` has the four numbers it needs.
+    unsafe {
+        hov_open(
+            file.as_ptr(),
+            file.len(),
+            output.as_mut_ptr(),
+            output.len(),
+            answer.as_mut_ptr(),
+        )
+    }
+}
+
+/// Calls `hov_seal`.
+pub fn seal(bundle: &[u8], output: &mut [u8], answer: &mut Answer) -> u32 {
+    // SAFETY: As for `hov_open`, with the bundle in place of the file.
+    unsafe {
+        hov_seal(
+            bundle.as_ptr(),
+            bundle.len(),
+            output.as_mut_ptr(),
+            output.len(),
+            answer.as_mut_ptr(),
+        )
+    }
+}

@@ -1,0 +1,43 @@
+//! Opens and seals files with the proved static library.
+//!
+//! A *sealed file* is 1 to 128 blocks of 512 bytes, each with its number, its
+//! used count, 504 bytes of contents and two checksums. The used contents of
+//! its blocks, joined, are the *bundle*: 1 to 64,512 bytes. [`seal`] makes the
+//! file from the bundle, [`open`] checks the file and gives the bundle back.
+//!
+//! A call that cannot give a result returns a [`Refusal`] and writes nothing.
+//!
+//! ```
+//! use hovmekhar::Refusal;
+//!
+//! let mut file = hovmekhar::seal_vec(b"some bytes")?;
+//! assert_eq!(file.len(), hovmekhar::BLOCK_SIZE);
+//! assert_eq!(hovmekhar::open_vec(&file)?, b"some bytes");
+//!
+//! file[4] ^= 1;
+//! let refusal = hovmekhar::open_vec(&file).unwrap_err();
+//! assert_eq!(refusal.number, Refusal::BLOCK);
+//! assert_eq!(
+//!     refusal.to_string(),
+//!     "refusal 2: block 0 breaks a rule of the file format"
+//! );
+//! # Ok::<(), Refusal>(())
+//! ```
+
+#![deny(missing_docs)]
+#![deny(unsafe_code)]
+#![deny(unsafe_op_in_unsafe_fn)]
+
+#[cfg(not(target_pointer_width = "64"))]
+compile_error!("the static library is built for targets with 64-bit pointers");
+
+mod blocks;
+// Public for tests that look at every number of an answer; not part of the API.
+#[allow(unsafe_code)]
+#[doc(hidden)]
+pub mod ffi;
+mod refusal;
+
+pub use blocks::{open, open_vec, seal, seal_vec};
+pub use blocks::{BLOCK_SIZE, CONTENTS_SIZE, MAX_BLOCKS, MAX_BUNDLE_SIZE, MAX_FILE_SIZE};
+pub use refusal::Refusal;

@@ -1,0 +1,20 @@
+//! A second implementation of the file format, in plain safe Rust.
+//!
+//! It is written from the product's rules alone and shares no code with the
+//! proved library, so that tests can compare the two. See [`open`] and [`seal`].
+
+#![forbid(unsafe_code)]
+#![deny(missing_docs)]
+
+mod blocks;
+
+pub use blocks::{open, seal};
+
+/// Why a call gave no result.
+#[derive(Clone, Copy, Debug, PartialEq, Eq)]
+pub struct Refusal {
+    /// The number in the refusal table.
+    pub number: u8,
+    /// The spot that the refusal table gives for this number.
+    pub spot: usize,
+}
