@@ -1,5 +1,5 @@
 /*
- * Hovmekhar: opening and sealing of files. C11 and C++.
+ * Hovmekhar: opening and sealing of files, and the log table. C11 and C++.
  *
  * A sealed file is 1 to 128 blocks of 512 bytes. Numbers of two bytes have the
  * low byte first. A block holds:
@@ -12,14 +12,24 @@
  *
  * The used contents of all blocks, joined, are the bundle.
  *
+ * A log is a list of words, and a word is a list of events, each a byte below
+ * the event count n. The prefixes of a log are all beginnings of its words; the
+ * empty word is always one. The log table has a row for each distinct count
+ * vector of a prefix, in the order of first occurrence:
+ *
+ *   numbers 0-11   how often each event occurs in the prefix; zero from n on
+ *   number 12      a mask: bit e is set when a prefix with these counts is
+ *                  followed by event e in the log
+ *
  * Every call returns 0 for a result, else the number of a refusal (see
- * enum hov_refusal). A result's length or a refusal's spot is in answer[0].
- * Numbers of answer that a call does not use stay as they were.
+ * enum hov_refusal). A refusal's spot is in answer[0]; where a result is, each
+ * call says. Numbers of answer that a call does not use stay as they were.
  *
  * The caller's duties, for every call:
  *   - No pointer is NULL, not even one with length 0.
- *   - Each pointer is valid for its length: inputs for reads; outputs and the
- *     four aligned numbers of answer for reads and writes.
+ *   - Each pointer is valid for its length: inputs for reads; outputs, the
+ *     table and the four numbers of answer for reads and writes. The numbers
+ *     of table and answer are aligned.
  *   - The buffers of one call do not overlap.
  *   - Nothing else writes to these buffers during the call, and nothing else
  *     reads those that the call may write to.
@@ -52,6 +62,21 @@ extern "C" {
 /** The largest length of a bundle: HOV_MAX_BLOCKS * HOV_CONTENTS_SIZE. */
 #define HOV_MAX_BUNDLE_SIZE 64512
 
+/** The largest event count n. */
+#define HOV_MAX_EVENTS 12
+
+/** Numbers of a row of the log table: HOV_MAX_EVENTS counts and the mask. */
+#define HOV_ROW_SIZE 13
+
+/** The largest number of rows in the log table. */
+#define HOV_MAX_ROWS 256
+
+/** Numbers of the log table: HOV_MAX_ROWS * HOV_ROW_SIZE. */
+#define HOV_TABLE_SIZE 3328
+
+/** The largest number of events in a log, over all its words. */
+#define HOV_MAX_LOG_EVENTS 1024
+
 /**
  * The numbers of the refusals.
  *
@@ -59,7 +84,7 @@ extern "C" {
  * stays as it was. No refusal writes to an output or to an input.
  *
  * This is the whole table, so that a number keeps its meaning when calls are
- * added. The calls declared below refuse with numbers 1 to 4.
+ * added. The calls declared below refuse with numbers 1 to 5, 7 to 9 and 16.
  */
 enum hov_refusal {
     /**
@@ -87,7 +112,7 @@ enum hov_refusal {
     HOV_BUNDLE_LENGTH = 4,
 
     /**
-     * fresh, summary, judge: the table has fewer than 3,328 numbers.
+     * fresh, take, judge: the table has fewer than 3,328 numbers.
      * Spot: 3,328. As it was: the table.
      */
     HOV_TABLE_SHORT = 5,
@@ -100,24 +125,24 @@ enum hov_refusal {
     HOV_BUNDLE_END = 6,
 
     /**
-     * summary, judge, screen: a value is outside its range, or names a row,
-     * event or place that is not there.
+     * take, judge, screen: a value is outside its range, or names a row, event
+     * or place that is not there.
      * Spot: the offset of the field; in a lent word, the position in the word.
-     * As it was: from the summary, the table and the summary. The judge,
-     * refusing with any number but 4 and 5, leaves the table's numbers 0 to
-     * 3,327 zero and the rest as it was.
+     * As it was: from take, the table. The judge, refusing with any number but
+     * 4 and 5, leaves the table's numbers 0 to 3,327 zero and the rest as it
+     * was.
      */
     HOV_VALUE = 7,
 
     /**
-     * summary, judge, screen: the events would pass 1,024.
-     * Spot: the offset of the word's length byte; for a summary 0.
+     * take, judge, screen: the events would pass 1,024.
+     * Spot: the offset of the word's length byte; from take 0.
      * As it was: as for HOV_VALUE.
      */
     HOV_EVENTS = 8,
 
     /**
-     * summary, judge: the rows would pass 256.
+     * take, judge: the rows would pass 256.
      * Spot: as for HOV_EVENTS. As it was: as for HOV_VALUE.
      */
     HOV_ROWS = 9,
@@ -164,8 +189,8 @@ enum hov_refusal {
     HOV_WORD_EVENT = 15,
 
     /**
-     * fresh, summary: the event count is not 1 to 12, the rows are not 1 to
-     * 256, or the events are above 1,024.
+     * fresh, take: the event count is not 1 to 12, the rows are not 1 to 256,
+     * or the events are above 1,024.
      * Spot: 0. As it was: the table.
      */
     HOV_SUMMARY = 16
@@ -197,6 +222,50 @@ uint32_t hov_open(const uint8_t *file, size_t file_len,
  */
 uint32_t hov_seal(const uint8_t *bundle, size_t bundle_len,
                   uint8_t *output, size_t output_len,
+                  uint64_t answer[4]);
+
+/**
+ * Starts a log over n events: sets the first HOV_TABLE_SIZE numbers of the
+ * table to zero and leaves the rest as it was. The table then has one row, that
+ * of the empty prefix. table_len counts numbers, not bytes.
+ *
+ * Returns 0, with the summary of the log in answer[0] to answer[2]: the event
+ * count n, the rows, 1, and the events so far, 0. answer[3] stays as it was.
+ *
+ * Or returns the first refusal that applies in the order HOV_TABLE_SHORT,
+ * HOV_SUMMARY, with its spot in answer[0]. answer[1] to answer[3] stay as they
+ * were.
+ */
+uint32_t hov_fresh(size_t n,
+                   uint16_t *table, size_t table_len,
+                   uint64_t answer[4]);
+
+/**
+ * Takes a further word of a log, whose summary so far is n, rows and events.
+ * table_len counts numbers, not bytes.
+ *
+ * For each prefix of the word, shortest first, from the empty one to the whole
+ * word: the lowest of the rows with its counts is used; where there is none, a
+ * row with its counts and mask 0 is appended. Then, where an event follows in
+ * the word, that event's bit is set in the row's mask. No other number of the
+ * table changes.
+ *
+ * Returns 0, with the next summary in answer[0] to answer[2]: the event count
+ * n, the rows and the events so far, to be handed to the next call. answer[3]
+ * stays as it was.
+ *
+ * Or returns the first refusal that applies in the order HOV_TABLE_SHORT,
+ * HOV_SUMMARY, HOV_EVENTS, HOV_VALUE, HOV_ROWS, with its spot in answer[0].
+ * answer[1] to answer[3] and the table stay as they were, so the log can go on
+ * with another word.
+ *
+ * A table with other contents than hov_fresh and hov_take left follows the same
+ * steps: all twelve counts of a row are compared, and rows beyond those of the
+ * summary are not looked at.
+ */
+uint32_t hov_take(size_t n, size_t rows, size_t events,
+                  const uint8_t *word, size_t word_len,
+                  uint16_t *table, size_t table_len,
                   uint64_t answer[4]);
 
 #ifdef __cplusplus

@@ -4,7 +4,14 @@ use Prim.Native.Nat.{ℕ}
 use lib.ListN.{set}
 use Rattle.refusals.specs.Answers.{valueOf}
 use Rattle.refusals.specs.declared.Written.{Written}
+use Rattle.logs.specs.declared.Taken.{Taken}
+use Rattle.logs.specs.declared.Taken.the-variants.{Next, Refused}
 
 -- a length, or a refusal's spot, in the first; the others stay
 unfoldable pub withValue : List ℕ → Written → List ℕ
 withValue numbers written = set numbers 0 (valueOf written)
+
+-- a summary's n, rows and events in the first three, or a refusal's spot in the first; the others stay
+unfoldable pub withTaken : List ℕ → Taken → List ℕ
+withTaken numbers (Next s) = set (set (set numbers 0 (s .n)) 1 (s .rows)) 2 (s .events)
+withTaken numbers (Refused r) = set numbers 0 (r .spot)

@@ -1,46 +1,5 @@
 // The calls for programs in C and in Rust. A slice is a pointer and a length; include/hovmekhar.h is the C side.
 // Each returns 0 for a result, else the number of the refusal. `answer` takes the result's numbers, or in answer[0] the
 // refusal's spot; those of its numbers that a call does not use stay as they were.
-use refusals::Written;
-ghost use mathlib.Core.Path.{_≡_};
-ghost use lib.ListN.{length};
-ghost use Rattle.refusals.specs.Answers.{answer as answerTo, written, numberOf};
-ghost use Rattle.block.specs.File.{opened, sealed};
-ghost use Rattle.abi.specs.Numbers.{withValue};
-
-// Hands an answer out as numbers.
-fn handed(written: Written, answer: &mut [u64; 4]) -> u32
-    ensures { λ r. ⌜ r ≡ numberOf written ⌝ }
-    ensures { λ _. ⌜ now (answer .exit) ≡ withValue (now (answer .entry)) written ⌝ }
-{
-    match written {
-        Written::Length(n) => {
-            answer[0] = n as u64;
-            0
-        }
-        Written::Refused(r) => {
-            answer[0] = r.spot as u64;
-            r.number as u32
-        }
-    }
-}
-
-// Opens a sealed file. answer[0]: the length of the bundle, in front of the output.
-#[no_mangle]
-pub extern "C" fn hov_open(file: &[u8], output: &mut [u8], answer: &mut [u64; 4]) -> u32
-    ensures { λ r. ⌜ r ≡ numberOf (answerTo (opened (now (file .entry))) (length (now (output .entry)))) ⌝ }
-    ensures { λ _. ⌜ now (output .exit) ≡ written (opened (now (file .entry))) (now (output .entry)) ⌝ }
-    ensures { λ _. ⌜ now (answer .exit) ≡ withValue (now (answer .entry)) (answerTo (opened (now (file .entry))) (length (now (output .entry)))) ⌝ }
-{
-    handed(block::open(file, output), answer)
-}
-
-// Seals a bundle. answer[0]: the length of the sealed file, in front of the output.
-#[no_mangle]
-pub extern "C" fn hov_seal(bundle: &[u8], output: &mut [u8], answer: &mut [u64; 4]) -> u32
-    ensures { λ r. ⌜ r ≡ numberOf (answerTo (sealed (now (bundle .entry))) (length (now (output .entry)))) ⌝ }
-    ensures { λ _. ⌜ now (output .exit) ≡ written (sealed (now (bundle .entry))) (now (output .entry)) ⌝ }
-    ensures { λ _. ⌜ now (answer .exit) ≡ withValue (now (answer .entry)) (answerTo (sealed (now (bundle .entry))) (length (now (output .entry)))) ⌝ }
-{
-    handed(block::seal(bundle, output), answer)
-}
+pub mod files; // opening and sealing
+pub mod tables; // the log table

@@ -4,7 +4,7 @@ use mathlib.Core.Bool.{Bool, true, false, cond, _&&_}
 use Prim.Native.Nat.{ℕ, _+_, _-_, _%_}
 use lib.ListN.{length, take, drop, replicate}
 use lib.Dec.{eqb, leb}
-use Rattle.laws.specs.Tests.{all}
+use Rattle.laws.specs.Lists.{all}
 use Rattle.laws.specs.Sums.{weighted}
 use Rattle.laws.specs.Numbers.{le16, numberAt}
 use Rattle.refusals.specs.Table.{BLOCK}

@@ -8,7 +8,8 @@ use lib.ListN.{length, take, drop, replicate, length-append, length-take, length
 use lib.Seq.{take-all, take-at, drop-at}
 use lib.Dec.{eqb, leb}
 use borrow.Author.Tests.{leb-true, eqb-true, eq-eqb, ne-eqb, le-leb}
-use Rattle.laws.specs.Tests.{all, and-left, and-right}
+use Rattle.laws.specs.Booleans.{and-left, and-right}
+use Rattle.laws.specs.Lists.{all}
 use Rattle.laws.specs.Parts.{front, spliced, front-next, adjacent, drop-replicate}
 use Rattle.laws.specs.Numbers.{Bytes, le16, numberAt, numberAt-after, le16-numberAt}
 use Rattle.refusals.specs.Table.{BLOCK}

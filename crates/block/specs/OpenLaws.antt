@@ -10,7 +10,7 @@ use lib.ListN.{length, take, drop, length-append, length-take, length-drop}
 use lib.Seq.{drop-drop}
 use lib.Dec.{eqb, leb}
 use borrow.Author.Tests.{leb-true, eqb-true, eqb-false, ne-eqb, eq-eqb}
-use Rattle.laws.specs.Tests.{and-left, and-right}
+use Rattle.laws.specs.Booleans.{and-left, and-right}
 use Rattle.laws.specs.Parts.{take-drop-take}
 use Rattle.laws.specs.Pieces.{joined, joined-next, length-joined}
 use Rattle.laws.specs.Scans.{firstFalse-all, firstFalse-at, firstFalse-none, firstFalse-fails, firstFalse-most}

@@ -7,7 +7,7 @@ use native.Mathlib.Omega.{arith}
 use lib.ListN.{length, length-append, length-take, length-drop}
 use lib.Dec.{leb}
 use borrow.Author.Tests.{leb-true, le-leb}
-use Rattle.laws.specs.Tests.{and-left, and-right}
+use Rattle.laws.specs.Booleans.{and-left, and-right}
 use Rattle.laws.specs.Pieces.{joined, length-joined}
 use Rattle.refusals.specs.Table.{BUNDLE-LENGTH}
 use Rattle.refusals.specs.Answers.{refusal, Result}

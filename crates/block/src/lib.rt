@@ -12,7 +12,7 @@ use slices::write_at;
 ghost use mathlib.Core.Path.{_≡_};
 ghost use Prim.Native.Nat.{_+_, _*_, min, _≤_, _<_};
 ghost use lib.ListN.{length};
-ghost use Rattle.laws.specs.Tests.{all};
+ghost use Rattle.laws.specs.Lists.{all};
 ghost use Rattle.laws.specs.Parts.{front};
 ghost use Rattle.refusals.specs.Answers.{answer, written};
 ghost use Rattle.block.specs.Block.{plainSum, positionSum, summedBytes, block, blank, usedCount, isZero, rightCount, rightSums, fault};

@@ -1,6 +1,10 @@
-pub mod Tests
+pub mod Booleans
+pub mod Lists
+pub mod Distinct
 pub mod Parts
 pub mod Pieces
 pub mod Scans
 pub mod Sums
+pub mod Differences
+pub mod Bits
 pub mod Numbers

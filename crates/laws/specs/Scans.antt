@@ -1,9 +1,15 @@
--- The lowest index at which a test fails.
-use mathlib.Core.Path.{_≡_, refl, ap}
+-- The lowest index at which a test fails: of the numbers below n, and of the elements of a list.
+use mathlib.Core.Path.{_≡_, refl, ap, _∙_}
 use mathlib.Core.Bool.{Bool, true, false, cond}
-use Prim.Native.Nat.{ℕ, zero, suc, _≤_, _<_, zero-le, suc-le-suc}
+use mathlib.Core.List.{List, [], _∷_, _++_}
+use Prim.Native.Nat.{ℕ, zero, suc, _+_, _≤_, _<_, zero-le, suc-le-suc}
 use native.Mathlib.Nat.{not-suc-le-zero, le-of-suc-le-suc, zero-lt-suc, suc-inj}
+use native.Mathlib.Numerals.{add-one}
 use native.Mathlib.Omega.{arith}
+use lib.ListN.{length, drop, getD, drop-of-length-le}
+use lib.Seq.{drop-cons}
+
+-- ---- Of numbers
 
 -- the lowest k below n at which the test is false, or n where there is none
 unfoldable pub firstFalse : (ℕ → Bool) → ℕ → ℕ
@@ -55,3 +61,54 @@ firstFalse-most test (suc n) = go (test 0) (firstFalse-most (λ (j : ℕ). test 
     go : (b : Bool) → firstFalse (λ (j : ℕ). test (suc j)) n ≤ n → cond b (suc (firstFalse (λ (j : ℕ). test (suc j)) n)) 0 ≤ suc n
     go true h = suc-le-suc h
     go false h = zero-le
+
+-- ---- Of elements
+
+module _ {A : Type 0} where
+  -- the position of the first element that fails the test, or the length where none does
+  unfoldable pub firstFailing : (A → Bool) → List A → ℕ
+  firstFailing test [] = 0
+  firstFailing test (x ∷ xs) = cond (test x) (suc (firstFailing test xs)) 0
+
+  pub failing-most : (test : A → Bool) (l : List A) → firstFailing test l ≤ length l
+  unfolding firstFailing
+  failing-most test [] = zero-le
+  failing-most test (x ∷ l) = go (test x) (failing-most test l)
+    where
+      go : (b : Bool) → firstFailing test l ≤ length l → cond b (suc (firstFailing test l)) 0 ≤ suc (length l)
+      go true h = suc-le-suc h
+      go false h = zero-le
+
+  -- what stands behind an element that fails does not matter, nor does that element
+  pub failing-append : (test : A → Bool) (xs : List A) (y : A) (ys : List A) → test y ≡ false → firstFailing test (xs ++ y ∷ ys) ≡ firstFailing test xs
+  unfolding firstFailing
+  failing-append test [] y ys e = rw e
+  failing-append test (x ∷ xs) y ys e = ap (λ (n : ℕ). cond (test x) (suc n) 0) (failing-append test xs y ys e)
+
+  -- where none fails, each passes
+  pub failing-none : (test : A → Bool) (d : A) (l : List A) → length l ≤ firstFailing test l → (k : ℕ) → k < length l → test (getD l k d) ≡ true
+  unfolding firstFailing
+  failing-none test d [] h k b = absurd (not-suc-le-zero b)
+  failing-none test d (x ∷ l) h k b = go (test x) refl (failing-none test d l) h k b
+    where
+      go : (t : Bool) → test x ≡ t → (length l ≤ firstFailing test l → (k : ℕ) → k < length l → test (getD l k d) ≡ true)
+          → suc (length l) ≤ cond t (suc (firstFailing test l)) 0 → (k : ℕ) → k < suc (length l) → test (getD (x ∷ l) k d) ≡ true
+      go false e below h k b = absurd (not-suc-le-zero h)
+      go true e below h zero b = e
+      go true e below h (suc k) b = below (le-of-suc-le-suc h) k (le-of-suc-le-suc b)
+
+  -- a loop over the elements that has passed i of them
+  module _ (test : A → Bool) (d : A) (l : List A) (i : ℕ) (h : i < length l) (inv : firstFailing test l ≡ i + firstFailing test (drop i l)) where
+    failing-step : firstFailing test (drop i l) ≡ cond (test (getD l i d)) (suc (firstFailing test (drop (i + 1) l))) 0
+    unfolding firstFailing
+    failing-step = rw (drop-cons l i d h, add-one)
+
+    pub failing-here : test (getD l i d) ≡ false → firstFailing test l ≡ i
+    failing-here e = inv ∙ rw (failing-step, e) (omega arith)
+
+    pub failing-again : test (getD l i d) ≡ true → firstFailing test l ≡ i + 1 + firstFailing test (drop (i + 1) l)
+    failing-again e = inv ∙ rw (failing-step, e) (omega arith)
+
+  pub failing-end : (test : A → Bool) (l : List A) (i : ℕ) → firstFailing test l ≡ i + firstFailing test (drop i l) → length l ≤ i → firstFailing test l ≡ i
+  unfolding firstFailing
+  failing-end test l i inv h = inv ∙ rw (drop-of-length-le l h) (omega arith)

@@ -1,11 +1,13 @@
--- Weighted sums of a list of numbers, for any weights and any length.
-use mathlib.Core.Path.{_≡_, ap, _∙_}
+-- Weighted sums of a list of numbers, for any weights and any length, and sums over an index.
+use mathlib.Core.Path.{_≡_, refl, sym, ap, ap₂, _∙_}
 use mathlib.Core.List.{List, [], _∷_}
-use Prim.Native.Nat.{ℕ, zero, suc, _+_, _*_, _<_}
-use native.Mathlib.Nat.{not-suc-le-zero, le-of-suc-le-suc}
+use Prim.Native.Nat.{ℕ, zero, suc, _+_, _*_, _≤_, _<_}
+use native.Mathlib.Nat.{not-suc-le-zero, le-of-suc-le-suc, le-refl, add-zero, mul-add, mul-zero, add-le-add, lt-suc-self, suc-mul}
 use native.Mathlib.Omega.{arith}
 use native.Mathlib.Numerals.{add-one}
 use lib.ListN.{length, take, getD}
+
+-- ---- Over a list
 
 -- the sum of w(i) × (element i) over the elements of a list
 unfoldable pub weighted : (ℕ → ℕ) → List ℕ → ℕ
@@ -21,3 +23,50 @@ weighted-next w xs i h = ap (λ (k : ℕ). weighted w (take k xs)) (add-one i) �
     go w [] i h = absurd (not-suc-le-zero h)
     go w (x ∷ xs) zero h = omega arith
     go w (x ∷ xs) (suc i) h = omega (arith, go (λ (k : ℕ). w (suc k)) xs i (le-of-suc-le-suc h))
+
+-- ---- Over an index
+
+-- f 0 + .. + f (n - 1)
+unfoldable pub sum : ℕ → (ℕ → ℕ) → ℕ
+sum zero f = zero
+sum (suc n) f = sum n f + f n
+
+pub sum-add : (n : ℕ) (f g : ℕ → ℕ) → sum n (λ i. f i + g i) ≡ sum n f + sum n g
+unfolding sum
+sum-add zero f g = refl
+sum-add (suc n) f g = omega (arith, sum-add n f g)
+
+pub sum-mul : (n a : ℕ) (f : ℕ → ℕ) → sum n (λ i. a * f i) ≡ a * sum n f
+unfolding sum
+sum-mul zero a f = sym (mul-zero a)
+sum-mul (suc n) a f = omega (arith, sum-mul n a f, mul-add a (sum n f) (f n))
+
+pub sum-le : (n : ℕ) (f g : ℕ → ℕ) → ((i : ℕ) → i < n → f i ≤ g i) → sum n f ≤ sum n g
+unfolding sum
+sum-le zero f g h = le-refl zero
+sum-le (suc n) f g h = add-le-add (sum-le n f g (λ i b. h i (omega arith))) (h n (lt-suc-self n))
+
+pub sum-same : (n : ℕ) (f g : ℕ → ℕ) → ((i : ℕ) → i < n → f i ≡ g i) → sum n f ≡ sum n g
+unfolding sum
+sum-same zero f g h = refl
+sum-same (suc n) f g h = ap₂ _+_ (sum-same n f g (λ i b. h i (omega arith))) (h n (lt-suc-self n))
+
+-- where no term is above b
+pub sum-bound : (n b : ℕ) (f : ℕ → ℕ) → ((i : ℕ) → i < n → f i ≤ b) → sum n f ≤ n * b
+unfolding sum
+sum-bound zero b f h = omega arith
+sum-bound (suc n) b f h = omega (arith, sum-bound n b f (λ i k. h i (omega arith)), h n (omega arith), suc-mul n b)
+
+-- terms that are zero add nothing
+pub sum-wide : (n k : ℕ) (f : ℕ → ℕ) → ((i : ℕ) → n ≤ i → f i ≡ 0) → sum (n + k) f ≡ sum n f
+unfolding sum
+sum-wide n zero f h = ap (λ (m : ℕ). sum m f) (add-zero n)
+sum-wide n (suc k) f h =
+    let more : n + suc k ≡ suc (n + k) = omega arith in
+    rw more (omega (arith, sum-wide n k f h, h (n + k) (omega arith)))
+
+-- the first term apart
+pub sum-first : (n : ℕ) (f : ℕ → ℕ) → sum (suc n) f ≡ f 0 + sum n (λ i. f (suc i))
+unfolding sum
+sum-first zero f = omega arith
+sum-first (suc n) f = omega (arith, sum-first n f)

@@ -8,24 +8,34 @@
 mod calls;
 mod timing;
 
+use calls::Call;
 use timing::ROUNDS;
 
 fn main() {
     println!("Time of one call in nanoseconds: the median of {ROUNDS} rounds, ours and the");
     println!("reference in turn. Both get the same buffers, allocated once and not cleared");
-    println!("between calls. The ratio is ours / reference; below 1 ours is faster.");
+    println!("between calls. A log is a fresh table and then all of its words, one by one. The");
+    println!("ratio is ours / reference; below 1 ours is faster.");
     println!();
     println!(
-        "{:<6} {:<11} {:>10} {:>10} {:>6}",
+        "{:<5} {:<31} {:>10} {:>10} {:>6}",
         "call", "size", "ours", "reference", "ratio"
     );
-    for call in calls::all() {
-        let (ours, reference) = timing::compare(&call);
-        println!(
-            "{:<6} {:<11} {ours:>10.1} {reference:>10.1} {:>6.2}",
-            call.name,
-            call.size,
-            ours / reference
-        );
+    for call in calls::on_files() {
+        print(&call);
     }
+    for call in calls::on_logs() {
+        print(&call);
+    }
+}
+
+/// Times a call and prints its line.
+fn print<I, T: Default + Clone + PartialEq>(call: &Call<I, T>) {
+    let (ours, reference) = timing::compare(call);
+    println!(
+        "{:<5} {:<31} {ours:>10.1} {reference:>10.1} {:>6.2}",
+        call.name,
+        call.size,
+        ours / reference
+    );
 }

@@ -12,7 +12,7 @@ pub const ROUNDS: usize = 51;
 const ROUND_TIME: Duration = Duration::from_millis(2);
 
 /// The median nanoseconds of one call: ours, then the reference's.
-pub fn compare(call: &Call) -> (f64, f64) {
+pub fn compare<I, T: Default + Clone + PartialEq>(call: &Call<I, T>) -> (f64, f64) {
     let mut buffers = (call.prepare)();
     check_agreement(call, &mut buffers);
 
@@ -29,10 +29,13 @@ pub fn compare(call: &Call) -> (f64, f64) {
 }
 
 /// Times are comparable only where both sides give the same result.
-fn check_agreement(call: &Call, buffers: &mut Buffers) {
+fn check_agreement<I, T: Default + Clone + PartialEq>(
+    call: &Call<I, T>,
+    buffers: &mut Buffers<I, T>,
+) {
     let ours = (call.ours)(buffers);
     let ours_output = buffers.output.clone();
-    buffers.output.fill(0);
+    buffers.output.fill(T::default());
     let reference = (call.reference)(buffers);
     assert!(ours.is_some(), "{} was refused", call.name);
     assert_eq!(ours, reference, "{}: different answers", call.name);
@@ -44,7 +47,7 @@ fn check_agreement(call: &Call, buffers: &mut Buffers) {
 }
 
 /// How many calls fill a round.
-fn repetitions(side: Side, buffers: &mut Buffers) -> u32 {
+fn repetitions<I, T>(side: Side<I, T>, buffers: &mut Buffers<I, T>) -> u32 {
     let mut repetitions = 1;
     while time(side, repetitions, buffers) < ROUND_TIME {
         repetitions *= 2;
@@ -53,11 +56,11 @@ fn repetitions(side: Side, buffers: &mut Buffers) -> u32 {
 }
 
 /// The nanoseconds of one call, over a round.
-fn round(side: Side, repetitions: u32, buffers: &mut Buffers) -> f64 {
+fn round<I, T>(side: Side<I, T>, repetitions: u32, buffers: &mut Buffers<I, T>) -> f64 {
     time(side, repetitions, buffers).as_nanos() as f64 / f64::from(repetitions)
 }
 
-fn time(side: Side, repetitions: u32, buffers: &mut Buffers) -> Duration {
+fn time<I, T>(side: Side<I, T>, repetitions: u32, buffers: &mut Buffers<I, T>) -> Duration {
     let start = Instant::now();
     for _ in 0..repetitions {
         black_box(side(buffers));

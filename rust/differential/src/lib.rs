@@ -5,6 +5,7 @@
 //! - [`rng`]: the random generator.
 //! - [`files`]: bundles and sound files.
 //! - [`faults`]: files that have to be refused.
+//! - [`logs`]: logs and log tables.
 //! - [`guarded`]: lent buffers with guards on both sides.
 //! - [`run`]: makes each call on both sides, compares, and counts.
 //!
@@ -20,5 +21,6 @@
 pub mod faults;
 pub mod files;
 pub mod guarded;
+pub mod logs;
 pub mod rng;
 pub mod run;

@@ -2,6 +2,24 @@
 
 use std::ops::RangeInclusive;
 
+/// What a lent buffer holds.
+pub trait Item: Copy + PartialEq {
+    /// The low bits of a number.
+    fn low_bits(number: u64) -> Self;
+}
+
+impl Item for u8 {
+    fn low_bits(number: u64) -> Self {
+        number as Self
+    }
+}
+
+impl Item for u16 {
+    fn low_bits(number: u64) -> Self {
+        number as Self
+    }
+}
+
 /// A seeded random generator.
 pub struct Rng(u64);
 
@@ -54,6 +72,20 @@ impl Rng {
             chunk.copy_from_slice(&self.number().to_le_bytes()[..chunk.len()]);
         }
         bytes
+    }
+
+    /// Random items of a buffer.
+    pub fn items<T: Item>(&mut self, length: usize) -> Vec<T> {
+        (0..length).map(|_| T::low_bits(self.number())).collect()
+    }
+
+    /// The items in another order; each order is as likely as any other.
+    pub fn shuffled<T: Clone>(&mut self, items: &[T]) -> Vec<T> {
+        let mut items = items.to_vec();
+        for last in (1..items.len()).rev() {
+            items.swap(last, self.below(last + 1));
+        }
+        items
     }
 
     /// Random numbers.

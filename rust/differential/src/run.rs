@@ -1,17 +1,20 @@
 //! Makes each call on both sides, compares, and counts.
 
 use crate::guarded::Guarded;
-use crate::rng::Rng;
+use crate::logs::{ROW, TABLE};
+use crate::rng::{Item, Rng};
 use hovmekhar::ffi;
-use reference::Refusal;
+use reference::{Refusal, Summary};
+use std::collections::BTreeMap;
 use std::time::{SystemTime, UNIX_EPOCH};
 use std::{env, fmt};
 
-/// What a call answers: a length or a refusal.
-pub type Outcome = Result<usize, Refusal>;
+/// What a call answers: a result or a refusal. The result is a length, except
+/// for the calls on a log table.
+pub type Outcome<R = usize> = Result<R, Refusal>;
 
 /// The refusal with this number and spot.
-pub fn refusal(number: u8, spot: usize) -> Outcome {
+pub fn refusal<R>(number: u8, spot: usize) -> Outcome<R> {
     Err(Refusal { number, spot })
 }
 
@@ -21,6 +24,38 @@ pub struct Done {
     pub outcome: Outcome,
     /// The whole output after the call.
     pub output: Vec<u8>,
+}
+
+/// What a call on a log table did, the same on both sides.
+pub struct Taken {
+    /// The answer.
+    pub outcome: Outcome<Summary>,
+    /// The whole table after the call.
+    pub table: Vec<u16>,
+}
+
+/// What a result allows a call to write.
+struct Written {
+    /// The numbers of the answer, from `answer[0]` on.
+    answer: Vec<u64>,
+    /// How many items at the front of the output or table.
+    items: usize,
+}
+
+impl Written {
+    fn length(&length: &usize) -> Self {
+        Self {
+            answer: vec![length as u64],
+            items: length,
+        }
+    }
+
+    fn summary(&Summary { n, rows, events }: &Summary, items: usize) -> Self {
+        Self {
+            answer: [n, rows, events].map(|number| number as u64).to_vec(),
+            items,
+        }
+    }
 }
 
 /// The run of one test: its random numbers and its counts. As text it says how
@@ -34,10 +69,9 @@ pub struct Run {
     calls: usize,
     /// How often each number was returned; 0 stands for a result.
     counts: [usize; 17],
+    /// How often the test noted each class of cases.
+    classes: BTreeMap<&'static str, usize>,
 }
-
-type Ours = fn(&[u8], &mut [u8], &mut ffi::Answer) -> u32;
-type Reference = fn(&[u8], &mut [u8]) -> Outcome;
 
 impl Run {
     /// Starts the test with this name and prints its seed.
@@ -56,6 +90,7 @@ impl Run {
             multiplier,
             calls: 0,
             counts: [0; 17],
+            classes: BTreeMap::new(),
         }
     }
 
@@ -66,29 +101,61 @@ impl Run {
 
     /// Opens on both sides and compares.
     pub fn open(&mut self, file: &[u8], output_len: usize) -> Done {
-        self.compare(file, output_len, ffi::open, reference::open)
+        let noise = self.rng.bytes(output_len);
+        let (outcome, output) =
+            self.compare(file, noise, ffi::open, reference::open, Written::length);
+        Done { outcome, output }
     }
 
     /// Seals on both sides and compares.
     pub fn seal(&mut self, bundle: &[u8], output_len: usize) -> Done {
-        self.compare(bundle, output_len, ffi::seal, reference::seal)
+        let noise = self.rng.bytes(output_len);
+        let (outcome, output) =
+            self.compare(bundle, noise, ffi::seal, reference::seal, Written::length);
+        Done { outcome, output }
+    }
+
+    /// Starts a log on both sides, with copies of this table, and compares.
+    pub fn fresh(&mut self, n: usize, table: &[u16]) -> Taken {
+        let (outcome, table) = self.compare(
+            &[],
+            table.to_vec(),
+            |_, table, answer| ffi::fresh(n, table, answer),
+            |_, table| reference::fresh(n, table),
+            |summary| Written::summary(summary, TABLE),
+        );
+        Taken { outcome, table }
+    }
+
+    /// Takes a word on both sides, with copies of this table, and compares.
+    pub fn take(&mut self, summary: Summary, word: &[u8], table: &[u16]) -> Taken {
+        let Summary { n, rows, events } = summary;
+        let (outcome, table) = self.compare(
+            word,
+            table.to_vec(),
+            |word, table, answer| ffi::take(n, rows, events, word, table, answer),
+            |word, table| reference::take(summary, word, table),
+            |next| Written::summary(next, next.rows * ROW),
+        );
+        Taken { outcome, table }
     }
 
     /// Makes one call on both sides, with equal inputs and outputs, and compares
-    /// the answers and every byte of the outputs. Nothing but the front of our
-    /// output and `answer[0]` may have changed. Inputs and outputs are anywhere
-    /// in memory, also at odd addresses.
-    fn compare(
+    /// the answers and every item of the outputs. Nothing may have changed but
+    /// what the result allows; a refusal may only write `answer[0]`. Inputs and
+    /// outputs are anywhere in memory, bytes also at odd addresses. A table counts
+    /// as output.
+    fn compare<T: Item, R>(
         &mut self,
         input: &[u8],
-        output_len: usize,
-        ours: Ours,
-        reference: Reference,
-    ) -> Done {
+        mut reference_output: Vec<T>,
+        ours: impl FnOnce(&[u8], &mut [T], &mut ffi::Answer) -> u32,
+        reference: impl FnOnce(&[u8], &mut [T]) -> Outcome<R>,
+        written: impl FnOnce(&R) -> Written,
+    ) -> (Outcome<R>, Vec<T>) {
         self.calls += 1;
-        let noise = self.rng.bytes(output_len);
         let input = self.guarded(input);
-        let mut output = self.guarded(&noise);
+        let mut output = self.guarded(&reference_output);
         let mut answer = Guarded::new(
             &self.rng.numbers::<4>(),
             &self.rng.numbers::<4>(),
@@ -96,29 +163,34 @@ impl Run {
         );
         let four: &mut ffi::Answer = answer.lent_mut().try_into().expect("four numbers");
         let number = ours(input.lent(), output.lent_mut(), four);
-        let length_or_spot = answer.lent()[0];
 
-        let mut reference_output = noise;
         let outcome = reference(input.lent(), &mut reference_output);
-
-        let (reference_number, reference_spot, written) = match outcome {
-            Ok(length) => (0, length, length),
-            Err(Refusal { number, spot }) => (number, spot, 0),
+        let (reference_number, written) = match &outcome {
+            Ok(result) => (0, written(result)),
+            Err(Refusal { number, spot }) => (
+                *number,
+                Written {
+                    answer: vec![*spot as u64],
+                    items: 0,
+                },
+            ),
         };
+
+        let answered = written.answer.len();
         assert_eq!(
-            (number, length_or_spot),
-            (u32::from(reference_number), reference_spot as u64),
-            "number and length or spot, ours and the reference's: {self}"
+            (number, &answer.lent()[..answered]),
+            (u32::from(reference_number), written.answer.as_slice()),
+            "number and answer, ours and the reference's: {self}"
         );
         let same = output.lent() == reference_output;
         assert!(same, "the outputs differ: {self}");
         assert!(
-            output.kept_beyond(written),
+            output.kept_beyond(written.items),
             "changed beyond the result, in the output or around it: {self}"
         );
         assert!(
-            answer.kept_beyond(1),
-            "changed beyond answer[0], in the answer or around it: {self}"
+            answer.kept_beyond(answered),
+            "changed beyond what was answered, in the answer or around it: {self}"
         );
         assert!(
             input.kept_beyond(0),
@@ -126,16 +198,13 @@ impl Run {
         );
 
         self.counts[usize::from(reference_number)] += 1;
-        Done {
-            outcome,
-            output: reference_output,
-        }
+        (outcome, reference_output)
     }
 
     /// A buffer with guards of noise, at any alignment.
-    fn guarded(&mut self, lent: &[u8]) -> Guarded<u8> {
+    fn guarded<T: Item>(&mut self, lent: &[T]) -> Guarded<T> {
         let front = 64 + self.rng.below(64);
-        Guarded::new(&self.rng.bytes(front), lent, &self.rng.bytes(64))
+        Guarded::new(&self.rng.items(front), lent, &self.rng.items(64))
     }
 
     /// Counts a call that the test makes by itself and that has to return this
@@ -145,10 +214,25 @@ impl Run {
         self.counts[usize::from(number)] += 1;
     }
 
+    /// Counts a case of this class.
+    pub fn note(&mut self, class: &'static str) {
+        *self.classes.entry(class).or_default() += 1;
+    }
+
     /// Ends the test: prints the counts and checks that each number that is
     /// listed was returned at least so often, 0 standing for a result. So a
     /// generator that no longer makes what it should is noticed.
     pub fn finish(self, at_least: &[(u8, usize)]) {
+        self.finish_with_classes(at_least, &[]);
+    }
+
+    /// Ends the test like [`Run::finish`], and checks that each class that is
+    /// listed was noted at least so often.
+    pub fn finish_with_classes(
+        self,
+        at_least: &[(u8, usize)],
+        classes_at_least: &[(&'static str, usize)],
+    ) {
         let counts: Vec<String> = self
             .counts
             .iter()
@@ -160,11 +244,21 @@ impl Run {
             })
             .collect();
         println!("{}: {} calls: {}", self.name, self.calls, counts.join(", "));
+        for (class, count) in &self.classes {
+            println!("{}: {class}: {count}", self.name);
+        }
         for &(number, least) in at_least {
             let count = self.counts[usize::from(number)];
             assert!(
                 count >= least,
                 "only {count} of {least} answers with number {number}: {self}"
+            );
+        }
+        for &(class, least) in classes_at_least {
+            let count = self.classes.get(class).copied().unwrap_or_default();
+            assert!(
+                count >= least,
+                "only {count} of {least} cases of the class '{class}': {self}"
             );
         }
     }

@@ -60,8 +60,34 @@ fn round_trip() {
 }
 
 #[test]
+fn log_table() {
+    assert_eq!(
+        run("logs"),
+        "fresh: 0, 4 1 0\n\
+         first word: 0, 4 4 3\n\
+         second word: 0, 4 6 6\n\
+         counts 0 0 0 0, allowed 0 1\n\
+         counts 1 0 0 0, allowed 1\n\
+         counts 1 1 0 0, allowed 2 3\n\
+         counts 1 1 1 0, allowed\n\
+         counts 0 1 0 0, allowed 0\n\
+         counts 1 1 0 1, allowed\n\
+         short table: 5, 3328, table as it was\n\
+         no rows: 16, 0, table as it was\n\
+         too many events: 8, 0, table as it was\n\
+         wrong event: 7, 1, table as it was\n\
+         too many rows: 9, 0, table as it was\n\
+         fresh with 13 events: 16, 0\n"
+    );
+}
+
+#[test]
 fn pages_around_the_buffers_are_not_touched() {
-    assert_eq!(run("pages"), "1280 calls\n");
+    assert_eq!(
+        run("pages"),
+        "1280 calls on files\n\
+         5100 calls on tables\n"
+    );
 }
 
 /// The header has the same numbers as the Rust crate.
@@ -103,6 +129,11 @@ fn header_and_crate_agree() {
         ("HOV_MAX_BLOCKS", hovmekhar::MAX_BLOCKS),
         ("HOV_MAX_FILE_SIZE", hovmekhar::MAX_FILE_SIZE),
         ("HOV_MAX_BUNDLE_SIZE", hovmekhar::MAX_BUNDLE_SIZE),
+        ("HOV_MAX_EVENTS", hovmekhar::MAX_EVENTS),
+        ("HOV_ROW_SIZE", hovmekhar::ROW_SIZE),
+        ("HOV_MAX_ROWS", hovmekhar::MAX_ROWS),
+        ("HOV_TABLE_SIZE", hovmekhar::TABLE_SIZE),
+        ("HOV_MAX_LOG_EVENTS", hovmekhar::MAX_LOG_EVENTS),
     ] {
         assert!(has(&["#define", name, &size.to_string()]), "{name} {size}");
     }

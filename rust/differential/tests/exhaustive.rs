@@ -1,7 +1,10 @@
-//! Every value of each field, every single bit, and sums in steps of one.
+//! Every value of each field, every single bit, and sums in steps of one; every
+//! pair of short words, and every event.
 
 use differential::files::{build, write_sums, Field, BLOCK, CONTENTS, MODULUS};
+use differential::logs::{table_of, COUNTS, TABLE};
 use differential::run::{refusal, Run};
+use reference::{log_rows, Summary};
 
 /// Every value of each two-byte field of a file of one block. The sums are made
 /// right again where number or used count is altered.
@@ -93,4 +96,73 @@ fn sums_in_steps_over_the_modulus() {
     });
     sum_in_steps(&mut run, Field::WeightedSum, weighted);
     run.finish(&[(0, 2 * 505 + 2 * 503)]);
+}
+
+/// All words of up to three of three events.
+fn short_words() -> Vec<Vec<u8>> {
+    let mut words = vec![Vec::new()];
+    for start in 0.. {
+        let word: Vec<u8> = match words.get(start) {
+            Some(word) if word.len() < 3 => word.clone(),
+            _ => return words,
+        };
+        words.extend((0..3).map(|event| [word.as_slice(), &[event]].concat()));
+    }
+    words
+}
+
+/// Every log of two words of up to three of three events.
+#[test]
+fn every_pair_of_short_words() {
+    let mut run = Run::start("every_pair_of_short_words");
+    let words = short_words();
+    let noise: Vec<u16> = run.rng.items(TABLE);
+    for first in &words {
+        for second in &words {
+            let log = [first.clone(), second.clone()];
+            let mut taken = run.fresh(3, &noise);
+            for word in &log {
+                let summary = taken.outcome.expect("few rows and events");
+                taken = run.take(summary, word, &taken.table);
+            }
+            let summary = Summary {
+                n: 3,
+                rows: log_rows(3, &log).len(),
+                events: first.len() + second.len(),
+            };
+            assert_eq!(taken.outcome, Ok(summary), "{log:?}, {run}");
+            assert!(taken.table == table_of(3, &log), "{log:?}, {run}");
+        }
+    }
+    // 1 + 3 + 9 + 27 = 40 words, and three calls for each pair.
+    run.finish(&[(0, 40 * 40 * 3)]);
+}
+
+/// Every event count with every byte, at every position of a word of three.
+#[test]
+fn every_event() {
+    let mut run = Run::start("every_event");
+    for n in 1..=COUNTS {
+        let fresh = run.fresh(n, &[9; TABLE]);
+        let summary = fresh.outcome.expect("an allowed event count");
+        for event in 0..=255 {
+            for position in 0..3 {
+                let mut word = [0; 3];
+                word[position] = event;
+                let expected = if usize::from(event) < n {
+                    Ok(Summary {
+                        n,
+                        rows: 4,
+                        events: 3,
+                    })
+                } else {
+                    refusal(7, position)
+                };
+                let taken = run.take(summary, &word, &fresh.table);
+                assert_eq!(taken.outcome, expected, "{word:?}, n = {n}, {run}");
+            }
+        }
+    }
+    // 1 + 2 + … + 12 = 78 right events.
+    run.finish(&[(0, 12 + 3 * 78), (7, 3 * (12 * 256 - 78))]);
 }

@@ -1,32 +1,40 @@
-//! Guard bytes around every lent buffer, at every alignment.
+//! Guards around every lent buffer, at every alignment.
 
 use differential::files::{build, bundle_length, BLOCK, CONTENTS};
 use differential::guarded::Guarded;
+use differential::logs::TABLE;
+use differential::rng::Item;
 use differential::run::Run;
 use hovmekhar::ffi;
 
 /// Alignments to try: all within a cache line, more than any load asks for.
 const ALIGNMENTS: usize = 64;
 
+/// A call with an input and an output, or a word and a table.
+type Call<T> = Box<dyn Fn(&[u8], &mut [T], &mut ffi::Answer) -> u32>;
+
 /// A call, and what has to come of it.
-struct Case<'a> {
-    call: fn(&[u8], &mut [u8], &mut ffi::Answer) -> u32,
+struct Case<'a, T> {
+    call: Call<T>,
     input: &'a [u8],
-    output_len: usize,
+    output: &'a [T],
     number: u8,
+    answered: usize,
     written: usize,
 }
 
 /// Makes the call with guards of these lengths before input and output, and
-/// checks that nothing changed but the bytes to be written and `answer[0]`.
-fn call_between_guards(run: &mut Run, case: &Case, input_front: usize, output_front: usize) {
+/// checks that nothing changed but the items to be written and the numbers to be
+/// answered.
+fn call_between_guards<T: Item>(
+    run: &mut Run,
+    case: &Case<T>,
+    input_front: usize,
+    output_front: usize,
+) {
     let rng = &mut run.rng;
     let input = Guarded::new(&rng.bytes(input_front), case.input, &rng.bytes(100));
-    let mut output = Guarded::new(
-        &rng.bytes(output_front),
-        &rng.bytes(case.output_len),
-        &rng.bytes(100),
-    );
+    let mut output = Guarded::new(&rng.items(output_front), case.output, &rng.items(100));
     let mut answer = Guarded::new(
         &rng.numbers::<4>(),
         &rng.numbers::<4>(),
@@ -43,24 +51,34 @@ fn call_between_guards(run: &mut Run, case: &Case, input_front: usize, output_fr
         output.kept_beyond(case.written),
         "output or its guards: {place}"
     );
-    assert!(answer.kept_beyond(1), "answer or its guards: {place}");
+    assert!(
+        answer.kept_beyond(case.answered),
+        "answer or its guards: {place}"
+    );
 }
 
 /// One call for each answer that opening and sealing have, and outputs longer
-/// than the result.
-fn cases<'a>(bundle: &'a [u8], file: &'a [u8], faulty_file: &'a [u8]) -> [Case<'a>; 10] {
+/// than the result. The noise is longer than any output.
+fn block_cases<'a>(
+    bundle: &'a [u8],
+    file: &'a [u8],
+    faulty_file: &'a [u8],
+    noise: &'a [u8],
+) -> [Case<'a, u8>; 10] {
     let open = |input, output_len, number, written| Case {
-        call: ffi::open,
+        call: Box::new(ffi::open),
         input,
-        output_len,
+        output: &noise[..output_len],
         number,
+        answered: 1,
         written,
     };
     let seal = |input, output_len, number, written| Case {
-        call: ffi::seal,
+        call: Box::new(ffi::seal),
         input,
-        output_len,
+        output: &noise[..output_len],
         number,
+        answered: 1,
         written,
     };
     [
@@ -78,8 +96,8 @@ fn cases<'a>(bundle: &'a [u8], file: &'a [u8], faulty_file: &'a [u8]) -> [Case<'
 }
 
 #[test]
-fn guards_stay_as_they_were() {
-    let mut run = Run::start("guards_stay_as_they_were");
+fn guards_of_files_stay_as_they_were() {
+    let mut run = Run::start("guards_of_files_stay_as_they_were");
     for alignment in 0..ALIGNMENTS {
         for blocks in [1, 2, 5] {
             let last = run.rng.within(1..=CONTENTS);
@@ -87,8 +105,9 @@ fn guards_stay_as_they_were() {
             let file = build(&bundle);
             let mut faulty_file = file.clone();
             faulty_file[(blocks - 1) * BLOCK + 4] ^= 1;
+            let noise = run.rng.bytes(file.len() + 9);
 
-            for case in cases(&bundle, &file, &faulty_file) {
+            for case in block_cases(&bundle, &file, &faulty_file, &noise) {
                 let this = ALIGNMENTS + alignment;
                 let other = ALIGNMENTS + run.rng.below(ALIGNMENTS);
                 call_between_guards(&mut run, &case, this, other);
@@ -98,4 +117,57 @@ fn guards_stay_as_they_were() {
     }
     // For each of 64 alignments 3 sizes, each of the 10 cases twice.
     run.finish(&[(0, 1_536), (1, 384), (2, 384), (3, 1_152), (4, 384)]);
+}
+
+/// One call for each answer that the calls on a log table have, and tables longer
+/// than needed. The noise is longer than any table; no row of it has the counts
+/// of a short prefix, so a word needs one row more than it has events.
+fn table_cases(noise: &[u16]) -> [Case<'_, u16>; 12] {
+    let case = |call, input, length, number| Case {
+        call,
+        input,
+        output: &noise[..length],
+        number,
+        answered: if number == 0 { 3 } else { 1 },
+        written: if number == 0 { TABLE } else { 0 },
+    };
+    let fresh = |n, length, number| {
+        let call: Call<u16> = Box::new(move |_, table, answer| ffi::fresh(n, table, answer));
+        case(call, &[], length, number)
+    };
+    let take = |rows, events, word, length, number| {
+        let call: Call<u16> =
+            Box::new(move |word, table, answer| ffi::take(2, rows, events, word, table, answer));
+        case(call, word, length, number)
+    };
+    [
+        fresh(2, TABLE, 0),
+        fresh(2, TABLE + 9, 0),
+        fresh(2, TABLE - 1, 5),
+        fresh(2, 0, 5),
+        fresh(0, TABLE, 16),
+        take(250, 1_019, &[0, 1, 1, 0, 1], TABLE, 0),
+        take(1, 0, &[0, 1, 1, 0, 1], TABLE + 9, 0),
+        take(1, 0, &[0, 1], TABLE - 1, 5),
+        take(1, 0, &[0, 1, 2], TABLE, 7),
+        take(1, 1_019, &[0, 1, 0, 1, 0, 1], TABLE, 8),
+        take(251, 0, &[0, 1, 0, 1, 0], TABLE, 9),
+        take(0, 0, &[0, 1], TABLE, 16),
+    ]
+}
+
+#[test]
+fn guards_of_tables_stay_as_they_were() {
+    let mut run = Run::start("guards_of_tables_stay_as_they_were");
+    for alignment in 0..ALIGNMENTS {
+        let noise: Vec<u16> = run.rng.items(TABLE + 9);
+        for case in table_cases(&noise) {
+            let this = ALIGNMENTS + alignment;
+            let other = ALIGNMENTS + run.rng.below(ALIGNMENTS);
+            call_between_guards(&mut run, &case, this, other);
+            call_between_guards(&mut run, &case, other, this);
+        }
+    }
+    // For each of 64 alignments each of the 12 cases twice.
+    run.finish(&[(0, 512), (5, 384), (7, 128), (8, 128), (9, 128), (16, 256)]);
 }

@@ -2,14 +2,24 @@
 
 use differential::faults::{BlockFault, LengthFault};
 use differential::files::{build, random_bundle, MAX_BUNDLE};
+use differential::logs::{
+    random_word, Contents, COUNTS, MAX_EVENTS, MAX_ROWS, TABLE, WRONG_EVENTS, WRONG_N, WRONG_ROWS,
+};
 use differential::run::{output_lengths, Outcome, Run};
-use hovmekhar::Refusal;
+use hovmekhar::{Refusal, Summary, TABLE_SIZE};
 use std::collections::HashSet;
 use std::error::Error;
+use std::fmt::Debug;
+use std::ops::RangeInclusive;
 
 /// A result of the safe calls in the reference's terms.
-fn outcome(result: Result<usize, Refusal>) -> Outcome {
+fn outcome<R>(result: Result<R, Refusal>) -> Outcome<R> {
     result.map_err(|Refusal { number, spot }| reference::Refusal { number, spot })
+}
+
+/// A summary in the reference's terms.
+fn reference_summary(Summary { n, rows, events }: Summary) -> reference::Summary {
+    reference::Summary { n, rows, events }
 }
 
 /// A file of any kind: one in three is sound.
@@ -101,6 +111,67 @@ fn vectors_agree() {
     run.finish(&[(0, 700), (1, 200), (2, 200), (4, 100)]);
 }
 
+/// A number of the range; one in ten is one of the wrong ones instead.
+fn mostly_within(run: &mut Run, range: RangeInclusive<usize>, wrong: &[usize]) -> usize {
+    match run.rng.below(10) {
+        0 => run.rng.choose(wrong),
+        _ => run.rng.within(range),
+    }
+}
+
+/// A table of any length and contents for this word: nine in ten are long enough.
+fn any_table(run: &mut Run, n: usize, word: &[u8]) -> Vec<u16> {
+    let contents = run.rng.choose(&Contents::ALL);
+    let longer = TABLE + run.rng.below(100);
+    let mut table = contents.table(&mut run.rng, n, word, longer);
+    if run.rng.below(10) == 0 {
+        table.truncate(run.rng.below(TABLE));
+    }
+    table
+}
+
+#[test]
+fn fresh_agrees() {
+    let mut run = Run::start("fresh_agrees");
+    for _ in 0..run.cases(1_000) {
+        let n = mostly_within(&mut run, 1..=COUNTS, &WRONG_N);
+        let mut table = any_table(&mut run, COUNTS, &[]);
+        let fresh = run.fresh(n, &table);
+
+        let result = Summary::fresh(n, &mut table);
+        let result = outcome(result.map(reference_summary));
+        assert_eq!(result, fresh.outcome, "{run}");
+        assert!(table == fresh.table, "{run}");
+    }
+    run.finish(&[(0, 600), (5, 30), (16, 40)]);
+}
+
+#[test]
+fn take_agrees() {
+    let mut run = Run::start("take_agrees");
+    for _ in 0..run.cases(2_000) {
+        let n = run.rng.within(1..=COUNTS);
+        let length = run.rng.choose(&[5, 20, 200]);
+        let mut word = random_word(&mut run.rng, n, 0..=length);
+        let mut table = any_table(&mut run, n, &word);
+        if run.rng.below(10) == 0 {
+            word.push(run.rng.within(n..=255) as u8);
+        }
+        let summary = Summary {
+            n: mostly_within(&mut run, n..=n, &WRONG_N),
+            rows: mostly_within(&mut run, 1..=MAX_ROWS, &WRONG_ROWS),
+            events: mostly_within(&mut run, 0..=MAX_EVENTS, &WRONG_EVENTS),
+        };
+        let taken = run.take(reference_summary(summary), &word, &table);
+
+        let result = summary.take(&word, &mut table);
+        let result = outcome(result.map(reference_summary));
+        assert_eq!(result, taken.outcome, "{run}");
+        assert!(table == taken.table, "{run}");
+    }
+    run.finish(&[(0, 400), (5, 100), (7, 50), (8, 10), (9, 50), (16, 200)]);
+}
+
 /// Each refusal that these calls can give is an error with its number, its spot
 /// and a sentence with both.
 #[test]
@@ -133,17 +204,47 @@ fn refusals_are_errors() -> Result<(), Box<dyn Error>> {
             0,
         ),
     ] {
-        let refusal = result.expect_err("each of these is refused");
-        assert_eq!(refusal, Refusal { number, spot });
-        let error: Box<dyn Error> = Box::new(refusal);
-        let sentence = error.to_string();
-        assert!(
-            sentence.starts_with(&format!("refusal {number}: ")),
-            "{sentence}"
-        );
-        assert!(sentence.contains(&spot.to_string()), "{sentence}");
+        check_error(result, number, spot);
+    }
+
+    let mut table = [0; TABLE_SIZE];
+    let summary = Summary::fresh(3, &mut table)?;
+    for (result, number, spot) in [
+        (
+            Summary::fresh(3, &mut table[1..]),
+            Refusal::TABLE_SHORT,
+            3_328,
+        ),
+        (Summary::fresh(0, &mut table), Refusal::SUMMARY, 0),
+        (
+            summary.take(&[0], &mut table[1..]),
+            Refusal::TABLE_SHORT,
+            3_328,
+        ),
+        (summary.take(&[0, 2, 3], &mut table), Refusal::VALUE, 2),
+        (summary.take(&[0; 1_025], &mut table), Refusal::EVENTS, 0),
+        (summary.take(&[0; 256], &mut table), Refusal::ROWS, 0),
+        (
+            Summary { rows: 0, ..summary }.take(&[0], &mut table),
+            Refusal::SUMMARY,
+            0,
+        ),
+    ] {
+        check_error(result, number, spot);
     }
     Ok(())
+}
+
+fn check_error<R: Debug>(result: Result<R, Refusal>, number: u8, spot: usize) {
+    let refusal = result.expect_err("each of these is refused");
+    assert_eq!(refusal, Refusal { number, spot });
+    let error: Box<dyn Error> = Box::new(refusal);
+    let sentence = error.to_string();
+    assert!(
+        sentence.starts_with(&format!("refusal {number}: ")),
+        "{sentence}"
+    );
+    assert!(sentence.contains(&spot.to_string()), "{sentence}");
 }
 
 /// Every number of the refusal table, and one that is not in it, has a sentence

@@ -99,15 +99,7 @@ pub fn seal_vec(bundle: &[u8]) -> Result<Vec<u8>, Refusal> {
 /// Reads what a call of the library returned: 0 and a length, or a refusal's
 /// number and spot.
 fn length_or_refusal(number: u32, answer: Answer) -> Result<usize, Refusal> {
-    // `usize` has 64 bits here, and the refusal table ends at 16, so both
-    // conversions keep the value.
-    let length_or_spot = answer[0] as usize;
-    if number == 0 {
-        Ok(length_or_spot)
-    } else {
-        Err(Refusal {
-            number: number as u8,
-            spot: length_or_spot,
-        })
-    }
+    Refusal::check(number, answer)?;
+    // `usize` has 64 bits here, so the conversion keeps the value.
+    Ok(answer[0] as usize)
 }

@@ -22,6 +22,19 @@ unsafe extern "C" {
         output_len: usize,
         answer: *mut u64,
     ) -> u32;
+
+    fn hov_fresh(n: usize, table: *mut u16, table_len: usize, answer: *mut u64) -> u32;
+
+    fn hov_take(
+        n: usize,
+        rows: usize,
+        events: usize,
+        word: *const u8,
+        word_len: usize,
+        table: *mut u16,
+        table_len: usize,
+        answer: *mut u64,
+    ) -> u32;
 }
 
 /// Calls `hov_open`.
@@ -49,6 +62,39 @@ pub fn seal(bundle: &[u8], output: &mut [u8], answer: &mut Answer) -> u32 {
             bundle.len(),
             output.as_mut_ptr(),
             output.len(),
+            answer.as_mut_ptr(),
+        )
+    }
+}
+
+/// Calls `hov_fresh`.
+pub fn fresh(n: usize, table: &mut [u16], answer: &mut Answer) -> u32 {
+    // SAFETY: As for `hov_open`, with the table in place of the output and
+    // without an input. The table's length is in numbers.
+    unsafe { hov_fresh(n, table.as_mut_ptr(), table.len(), answer.as_mut_ptr()) }
+}
+
+/// Calls `hov_take`.
+pub fn take(
+    n: usize,
+    rows: usize,
+    events: usize,
+    word: &[u8],
+    table: &mut [u16],
+    answer: &mut Answer,
+) -> u32 {
+    // SAFETY: As for `hov_open`, with the word in place of the file and the table
+    // in place of the output. The table's length is in numbers. The library checks
+    // `n`, `rows` and `events`, and any contents of the table are allowed.
+    unsafe {
+        hov_take(
+            n,
+            rows,
+            events,
+            word.as_ptr(),
+            word.len(),
+            table.as_mut_ptr(),
+            table.len(),
             answer.as_mut_ptr(),
         )
     }

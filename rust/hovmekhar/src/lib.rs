@@ -1,9 +1,13 @@
-//! Opens and seals files with the proved static library.
+//! Opens and seals files, and keeps log tables, with the proved static library.
 //!
 //! A *sealed file* is 1 to 128 blocks of 512 bytes, each with its number, its
 //! used count, 504 bytes of contents and two checksums. The used contents of
 //! its blocks, joined, are the *bundle*: 1 to 64,512 bytes. [`seal`] makes the
 //! file from the bundle, [`open`] checks the file and gives the bundle back.
+//!
+//! A *log* is a list of words of events. Its *log table* has a row for each
+//! distinct count vector of a beginning of a word, with the events that follow
+//! there. [`Summary::fresh`] starts a log, [`Summary::take`] takes a further word.
 //!
 //! A call that cannot give a result returns a [`Refusal`] and writes nothing.
 //!
@@ -36,8 +40,10 @@ mod blocks;
 #[allow(unsafe_code)]
 #[doc(hidden)]
 pub mod ffi;
+mod logs;
 mod refusal;
 
 pub use blocks::{open, open_vec, seal, seal_vec};
 pub use blocks::{BLOCK_SIZE, CONTENTS_SIZE, MAX_BLOCKS, MAX_BUNDLE_SIZE, MAX_FILE_SIZE};
+pub use logs::{Summary, MAX_EVENTS, MAX_LOG_EVENTS, MAX_ROWS, ROW_SIZE, TABLE_SIZE};
 pub use refusal::Refusal;

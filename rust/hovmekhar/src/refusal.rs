@@ -1,5 +1,6 @@
 //! Why a call gave no result.
 
+use crate::ffi::Answer;
 use std::error::Error;
 use std::fmt;
 
@@ -60,6 +61,20 @@ impl Refusal {
     /// A summary's event count is not 1 to 12, its rows are not 1 to 256, or its
     /// events are above 1,024. Spot: 0.
     pub const SUMMARY: u8 = 16;
+
+    /// Reads what a call of the library returned: 0 for a result, or a refusal's
+    /// number, with the spot in the answer.
+    pub(crate) fn check(number: u32, answer: Answer) -> Result<(), Refusal> {
+        if number == 0 {
+            return Ok(());
+        }
+        Err(Refusal {
+            // The refusal table ends at 16 and `usize` has 64 bits here, so both
+            // conversions keep the value.
+            number: number as u8,
+            spot: answer[0] as usize,
+        })
+    }
 }
 
 impl fmt::Display for Refusal {

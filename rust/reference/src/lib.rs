@@ -1,14 +1,21 @@
-//! A second implementation of the file format, in plain safe Rust.
+//! A second implementation of the file format and the log table, in plain safe
+//! Rust.
 //!
 //! It is written from the product's rules alone and shares no code with the
-//! proved library, so that tests can compare the two. See [`open`] and [`seal`].
+//! proved library, so that tests can compare the two. See [`open`] and [`seal`]
+//! for files, [`fresh`] and [`take`] for the log table. [`log_rows`] has the same
+//! rows without a table.
 
 #![forbid(unsafe_code)]
 #![deny(missing_docs)]
 
 mod blocks;
+mod logs;
+mod tables;
 
 pub use blocks::{open, seal};
+pub use logs::{log_rows, Row};
+pub use tables::{fresh, take, Summary};
 
 /// Why a call gave no result.
 #[derive(Clone, Copy, Debug, PartialEq, Eq)]

@@ -5,7 +5,7 @@ use Prim.Native.Nat.{_-_, _≤_}
 use borrow.Author.Tests.{ne-eqb}
 use lib.ListN.{length, drop, drop-of-length-le}
 use Rattle.block.specs.Block.{isZero}
-use Rattle.laws.specs.Tests.{all, all-next}
+use Rattle.laws.specs.Lists.{all, all-next}
 use Rattle.block.proofs.all_zero.Statement.{statement}
 use Rattle.block.proofs.all_zero.Tie as tie
 

@@ -77,7 +77,7 @@ static uint8_t *make(call *function, const uint8_t *input, size_t input_len, siz
     return output;
 }
 
-static void make_calls(const uint8_t *bundle, size_t bundle_len, size_t file_len)
+static void make_file_calls(const uint8_t *bundle, size_t bundle_len, size_t file_len)
 {
     static uint8_t file[HOV_MAX_FILE_SIZE];
     memcpy(file, make(hov_seal, bundle, bundle_len, file_len, 0), file_len);
@@ -89,6 +89,68 @@ static void make_calls(const uint8_t *bundle, size_t bundle_len, size_t file_len
     make(hov_open, file, file_len, bundle_len - 1, HOV_OUTPUT_SHORT);
     file[file_len - 1] ^= 1;
     make(hov_open, file, file_len, bundle_len, HOV_BLOCK);
+}
+
+/* A table of this length, in numbers. */
+static uint16_t *lend_table(size_t table_len)
+{
+    return (uint16_t *)(void *)lend(output_pages, table_len * sizeof(uint16_t), at_end);
+}
+
+/* Starts a log over 12 events, which has to return this number, and gives back
+   its table. */
+static uint16_t *make_fresh(size_t table_len, uint32_t number)
+{
+    uint16_t *table = lend_table(table_len);
+    uint64_t answer[4] = {0};
+
+    if (hov_fresh(HOV_MAX_EVENTS, table, table_len, answer) != number) {
+        fail("another number than expected");
+    }
+    calls++;
+    return table;
+}
+
+/* Takes a word over 12 events, which has to return this number. */
+static void make_take(size_t rows, size_t events, const uint8_t *word, size_t word_len,
+                      size_t table_len, uint32_t number)
+{
+    uint8_t *lent = lend(input_pages, word_len, at_end);
+    uint64_t answer[4] = {0};
+
+    memcpy(lent, word, word_len);
+    protect(input_pages, PROT_READ);
+    if (hov_take(HOV_MAX_EVENTS, rows, events, lent, word_len, lend_table(table_len), table_len,
+                 answer) != number) {
+        fail("another number than expected");
+    }
+    protect(input_pages, PROT_READ | PROT_WRITE);
+    calls++;
+}
+
+/* One call for each answer, with a word of these events. It needs one row more
+   than it has events. */
+static void make_table_calls(const uint8_t *events, size_t word_len)
+{
+    uint8_t word[HOV_MAX_ROWS];
+    memcpy(word, events, word_len);
+
+    make_fresh(HOV_TABLE_SIZE - 1, HOV_TABLE_SHORT);
+    make_fresh(0, HOV_TABLE_SHORT);
+    uint16_t *table = make_fresh(HOV_TABLE_SIZE, 0);
+    /* The row of the empty prefix is there already. */
+    make_take(1, HOV_MAX_LOG_EVENTS - word_len, word, word_len, HOV_TABLE_SIZE, 0);
+    make_take(1, HOV_MAX_LOG_EVENTS - word_len + 1, word, word_len, HOV_TABLE_SIZE, HOV_EVENTS);
+    make_take(1, 0, word, word_len, HOV_TABLE_SIZE - 1, HOV_TABLE_SHORT);
+    make_take(1, 0, word, word_len, 0, HOV_TABLE_SHORT);
+
+    /* No row has the counts of a prefix. */
+    memset(table, 255, HOV_TABLE_SIZE * sizeof *table);
+    make_take(HOV_MAX_ROWS - word_len, 0, word, word_len, HOV_TABLE_SIZE, HOV_ROWS);
+    word[word_len - 1] = HOV_MAX_EVENTS;
+    make_take(HOV_MAX_ROWS - word_len, 0, word, word_len, HOV_TABLE_SIZE, HOV_VALUE);
+    /* Without its last event there are exactly enough rows. */
+    make_take(HOV_MAX_ROWS - word_len, 0, word, word_len - 1, HOV_TABLE_SIZE, 0);
 }
 
 int main(void)
@@ -105,10 +167,23 @@ int main(void)
         size_t used = 1 + (blocks - 1) * 503 / 127;
         size_t bundle_len = (blocks - 1) * HOV_CONTENTS_SIZE + used;
         at_end = false;
-        make_calls(bundle, bundle_len, blocks * HOV_BLOCK_SIZE);
+        make_file_calls(bundle, bundle_len, blocks * HOV_BLOCK_SIZE);
         at_end = true;
-        make_calls(bundle, bundle_len, blocks * HOV_BLOCK_SIZE);
+        make_file_calls(bundle, bundle_len, blocks * HOV_BLOCK_SIZE);
     }
-    printf("%u calls\n", calls);
+    printf("%u calls on files\n", calls);
+
+    calls = 0;
+    static uint8_t events[HOV_MAX_ROWS];
+    for (size_t i = 0; i < sizeof events; i++) {
+        events[i] = (uint8_t)(i % 251 % HOV_MAX_EVENTS);
+    }
+    for (size_t word_len = 1; word_len < HOV_MAX_ROWS; word_len++) {
+        at_end = false;
+        make_table_calls(events, word_len);
+        at_end = true;
+        make_table_calls(events, word_len);
+    }
+    printf("%u calls on tables\n", calls);
     return 0;
 }

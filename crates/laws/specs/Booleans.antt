@@ -1,0 +1,58 @@
+-- Booleans: tests passed or failed, taken apart and put together.
+use mathlib.Core.Path.{_≡_, refl}
+use mathlib.Core.Bool.{Bool, true, false, false≢true, true≢false, not, _&&_, _||_}
+use mathlib.Core.Logic.{_⊎_, inl, inr, ⊎-elim}
+use Prim.Native.Nat.{ℕ, _≤_, _<_}
+use lib.Dec.{T, ltb}
+use borrow.Author.Tests.{ltb-true, ltb-false}
+
+pub and-left : (a b : Bool) → (a && b) ≡ true → a ≡ true
+and-left true b e = refl
+and-left false b e = e
+
+pub and-right : (a b : Bool) → (a && b) ≡ true → b ≡ true
+and-right true b e = e
+and-right false b e = absurd (false≢true e)
+
+pub neither : (a b : Bool) → (a || b) ≡ false → (a ≡ false) × (b ≡ false)
+neither true b h = (h, absurd (true≢false h))
+neither false b h = (refl, h)
+
+pub true-or-false : (b : Bool) → (b ≡ true) ⊎ (b ≡ false)
+true-or-false true = inl refl
+true-or-false false = inr refl
+
+pub lt-or-le : (a b : ℕ) → (a < b) ⊎ (b ≤ a)
+lt-or-le a b = ⊎-elim (λ e. inl (ltb-true a b e)) (λ e. inr (ltb-false a b e)) (true-or-false (ltb a b))
+
+-- a test passed or failed
+pub decide : (b : Bool) → T b ⊎ T (not b)
+decide true = inl tt
+decide false = inr tt
+
+pub yes-true : (b : Bool) → T b → b ≡ true
+yes-true true t = refl
+yes-true false t = absurd t
+
+pub no-false : (b : Bool) → T (not b) → b ≡ false
+no-false true t = absurd t
+no-false false t = refl
+
+-- two tests that pass together are equal
+pub same-test : (a b : Bool) → (T a → T b) → (T b → T a) → a ≡ b
+same-test true true f g = refl
+same-test true false f g = absurd (f tt)
+same-test false true f g = absurd (g tt)
+same-test false false f g = refl
+
+pub or-yes : (a b : Bool) → T (a || b) → T a ⊎ T b
+or-yes true b t = inl tt
+or-yes false b t = inr t
+
+pub yes-or-left : (a b : Bool) → T a → T (a || b)
+yes-or-left true b t = tt
+yes-or-left false b t = absurd t
+
+pub yes-or-right : (a b : Bool) → T b → T (a || b)
+yes-or-right true b t = tt
+yes-or-right false b t = t

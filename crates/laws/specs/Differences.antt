@@ -1,0 +1,100 @@
+-- Signed numbers as differences of two natural numbers, `subℕ a b`: each law takes a statement on signed numbers to one on natural
+-- numbers, which `omega` reads.
+use mathlib.Core.Path.{_≡_, refl, sym, ap, ap₂, _∙_}
+use mathlib.Core.Bool.{Bool, true, false, cond}
+use mathlib.Core.Logic.{_↔_}
+use Prim.Native.Nat.{ℕ, zero, suc, _+_, _-_, _*_, _≤_, _<_, zero-le}
+use native.Mathlib.Nat.{add-zero, zero-mul, suc-mul}
+use native.Mathlib.Omega.{arith}
+use lib.Dec.{T, ltb}
+use lib.IntN.{ℤ, pos, negsuc, negℤ, subℕ, _+ℤ_, _-ℤ_, _*ℤ_, +ℤ-assoc, +ℤ-comm, negℤ-+ℤ, zero-*ℤ, sucℤ-*ℤ}
+use lib.Signed.{mag, nonNeg, leZ}
+use borrow.Author.Tests.{ltb-true, ltb-false, le-ltb, le-leb}
+use Rattle.laws.specs.Sums.{sum}
+
+pub difference : (a b : ℕ) → pos a -ℤ pos b ≡ subℕ a b
+difference a zero = ap pos (add-zero a) ∙ from-zero
+  where
+    from-zero : pos a ≡ subℕ a zero
+    from-zero = rw (le-ltb a zero zero-le) (ap pos (omega arith))
+difference a (suc b) = refl
+
+exchange : (x y z w : ℤ) → (x +ℤ y) +ℤ (z +ℤ w) ≡ (x +ℤ z) +ℤ (y +ℤ w)
+exchange x y z w =
+    +ℤ-assoc x y (z +ℤ w)
+    ∙ ap (λ (t : ℤ). x +ℤ t) (sym (+ℤ-assoc y z w) ∙ ap (λ (t : ℤ). t +ℤ w) (+ℤ-comm y z) ∙ +ℤ-assoc z y w)
+    ∙ sym (+ℤ-assoc x z (y +ℤ w))
+
+pub difference-add : (a b c d : ℕ) → subℕ a b +ℤ subℕ c d ≡ subℕ (a + c) (b + d)
+difference-add a b c d =
+    ap₂ _+ℤ_ (sym (difference a b)) (sym (difference c d))
+    ∙ exchange (pos a) (negℤ (pos b)) (pos c) (negℤ (pos d))
+    ∙ ap (λ (t : ℤ). pos (a + c) +ℤ t) (sym (negℤ-+ℤ (pos b) (pos d)))
+    ∙ difference (a + c) (b + d)
+
+pub difference-mul : (k a b : ℕ) → pos k *ℤ subℕ a b ≡ subℕ (k * a) (k * b)
+difference-mul zero a b = zero-*ℤ (subℕ a b) ∙ ap₂ subℕ (sym (zero-mul a)) (sym (zero-mul b))
+difference-mul (suc k) a b =
+    sucℤ-*ℤ (pos k) (subℕ a b)
+    ∙ ap (λ (t : ℤ). t +ℤ subℕ a b) (difference-mul k a b)
+    ∙ difference-add (k * a) (k * b) a b
+    ∙ ap₂ subℕ (sym (suc-mul k a)) (sym (suc-mul k b))
+
+-- a − b, with m more
+pub pos-difference : (m a b : ℕ) → pos m +ℤ subℕ a b ≡ subℕ (m + a) b
+pos-difference m a b =
+    ap (λ (t : ℤ). pos m +ℤ t) (sym (difference a b))
+    ∙ sym (+ℤ-assoc (pos m) (pos a) (negℤ (pos b)))
+    ∙ difference (m + a) b
+
+-- and with o less
+pub difference-minus : (a b o : ℕ) → subℕ a b -ℤ pos o ≡ subℕ a (b + o)
+difference-minus a b o =
+    ap (λ (t : ℤ). t -ℤ pos o) (sym (difference a b))
+    ∙ +ℤ-assoc (pos a) (negℤ (pos b)) (negℤ (pos o))
+    ∙ ap (λ (t : ℤ). pos a +ℤ t) (sym (negℤ-+ℤ (pos b) (pos o)))
+    ∙ difference a (b + o)
+
+pub nonNeg-difference : (a b : ℕ) → T (nonNeg (subℕ a b)) ↔ (b ≤ a)
+nonNeg-difference a b = (to (ltb a b) refl, from (ltb a b) refl)
+  where
+    to : (t : Bool) → ltb a b ≡ t → T (nonNeg (cond t (negsuc (b - suc a)) (pos (a - b)))) → b ≤ a
+    to true e h = absurd h
+    to false e h = ltb-false a b e
+
+    from : (t : Bool) → ltb a b ≡ t → b ≤ a → T (nonNeg (cond t (negsuc (b - suc a)) (pos (a - b))))
+    from true e h = omega (arith, ltb-true a b e)
+    from false e h = tt
+
+-- as code tests it
+pub zero-leZ : (z : ℤ) → leZ (pos 0) z ≡ nonNeg z
+zero-leZ (pos n) = le-leb 0 n zero-le
+zero-leZ (negsuc n) = refl
+
+-- a difference of two numbers below a bound is within the signed range of that bound
+pub mag-difference : (a b h : ℕ) → a < h → b < h → mag (subℕ a b) < h
+mag-difference a b h p q = go (ltb a b)
+  where
+    go : (t : Bool) → mag (cond t (negsuc (b - suc a)) (pos (a - b))) < h
+    go true = omega arith
+    go false = omega arith
+
+-- ---- Sums
+
+-- f 0 + .. + f (n - 1), of signed numbers
+unfoldable pub sumℤ : ℕ → (ℕ → ℤ) → ℤ
+sumℤ zero f = pos 0
+sumℤ (suc n) f = sumℤ n f +ℤ f n
+
+pub sumℤ-same : (n : ℕ) (f g : ℕ → ℤ) → ((i : ℕ) → i < n → f i ≡ g i) → sumℤ n f ≡ sumℤ n g
+unfolding sumℤ
+sumℤ-same zero f g h = refl
+sumℤ-same (suc n) f g h = ap₂ _+ℤ_ (sumℤ-same n f g (λ i b. h i (omega arith))) (h n (omega arith))
+
+-- a sum of products with differences is a difference of sums
+pub difference-sum : (n : ℕ) (a b c : ℕ → ℕ) → sumℤ n (λ i. pos (a i) *ℤ (pos (b i) -ℤ pos (c i))) ≡ subℕ (sum n (λ i. a i * b i)) (sum n (λ i. a i * c i))
+unfolding sumℤ sum
+difference-sum zero a b c = refl
+difference-sum (suc n) a b c =
+    ap₂ _+ℤ_ (difference-sum n a b c) (ap (λ (t : ℤ). pos (a n) *ℤ t) (difference (b n) (c n)) ∙ difference-mul (a n) (b n) (c n))
+    ∙ difference-add (sum n (λ i. a i * b i)) (sum n (λ i. a i * c i)) (a n * b n) (a n * c n)

@@ -1,0 +1,214 @@
+-- Tests over lists, with the law of each: `all`, `any`, `keep` (the members that pass a test, in order), `tabulate`, equality and
+-- membership of lists of numbers, and a list for each member, joined.
+use mathlib.Core.Path.{_≡_, refl, sym, ap, ap₂, _∙_, subst}
+use mathlib.Core.Bool.{Bool, true, false, not, cond, _&&_, _||_, and-true, and-assoc}
+use mathlib.Core.Logic.{_⊎_, inl, inr, ⊎-elim}
+use mathlib.Core.List.{List, [], _∷_, _++_, map, flatMap, append-assoc, List·Memᴰ, List·Memᴰ·head, List·Memᴰ·tail, List·Memᴰ·not-nil, List·Memᴰ·cases-cons, Memᴰ·cast, List·Memᴰ·append-cases, Memᴰ·append-left, Memᴰ·append-right}
+use Prim.Native.Nat.{ℕ, zero, suc, _+_, _≤_, _<_, zero-le, suc-le-suc}
+use native.Mathlib.Nat.{not-suc-le-zero, le-of-suc-le-suc}
+use native.Mathlib.Numerals.{add-one}
+use lib.Dec.{T, eqb, eqb→eq, eqb-refl}
+use native.Mathlib.Omega.{arith}
+use lib.ListN.{length, take, drop, getD, length-append}
+use lib.Seq.{drop-cons, take-at, drop-at}
+use lib.Ieee.Fits.{and-i, and-l, and-r}
+use Rattle.laws.specs.Booleans.{same-test, or-yes, yes-or-left, yes-or-right}
+
+-- ---- every member, some member, the members that pass
+module _ {A : Type 0} where
+  unfoldable pub all : (A → Bool) → List A → Bool
+  all f [] = true
+  all f (x ∷ xs) = f x && all f xs
+
+  unfoldable pub any : (A → Bool) → List A → Bool
+  any f [] = false
+  any f (x ∷ xs) = f x || any f xs
+
+  unfoldable pub keep : (A → Bool) → List A → List A
+  keep f [] = []
+  keep f (x ∷ xs) = cond (f x) (x ∷ keep f xs) (keep f xs)
+
+  module _ (f : A → Bool) where
+    pub all-member : {x : A} (xs : List A) → T (all f xs) → List·Memᴰ x xs → T (f x)
+    unfolding all
+    all-member (y ∷ xs) t (List·Memᴰ·head e) = subst (λ (a : A). T (f a)) (sym e) (and-l (f y) (all f xs) t)
+    all-member (y ∷ xs) t (List·Memᴰ·tail m) = all-member xs (and-r (f y) (all f xs) t) m
+
+    pub all-intro : (xs : List A) → ((x : A) → List·Memᴰ x xs → T (f x)) → T (all f xs)
+    unfolding all
+    all-intro [] h = tt
+    all-intro (y ∷ xs) h = and-i (f y) (all f xs) (h y (List·Memᴰ·head refl)) (all-intro xs (λ x m. h x (List·Memᴰ·tail m)))
+
+    pub any-witness : (xs : List A) → T (any f xs) → (x : A) × List·Memᴰ x xs × T (f x)
+    unfolding any
+    any-witness [] t = absurd t
+    any-witness (y ∷ xs) t = go (any-witness xs) (or-yes (f y) (any f xs) t)
+      where
+        go : (T (any f xs) → (x : A) × List·Memᴰ x xs × T (f x)) → T (f y) ⊎ T (any f xs) → (x : A) × List·Memᴰ x (y ∷ xs) × T (f x)
+        go below (inl h) = (y, List·Memᴰ·head refl, h)
+        go below (inr h) = let r = below h in (r .0, List·Memᴰ·tail (r .1), r .2)
+
+    pub any-intro : {x : A} (xs : List A) → List·Memᴰ x xs → T (f x) → T (any f xs)
+    unfolding any
+    any-intro (y ∷ xs) (List·Memᴰ·head e) t = yes-or-left (f y) (any f xs) (subst (λ (a : A). T (f a)) e t)
+    any-intro (y ∷ xs) (List·Memᴰ·tail m) t = yes-or-right (f y) (any f xs) (any-intro xs m t)
+
+    pub keep-member : {x : A} (xs : List A) → List·Memᴰ x (keep f xs) → List·Memᴰ x xs × T (f x)
+    unfolding keep
+    keep-member [] m = absurd (List·Memᴰ·not-nil m)
+    keep-member {x} (y ∷ xs) m = go (f y) refl (keep-member xs) m
+      where
+        deeper : List·Memᴰ x xs × T (f x) → List·Memᴰ x (y ∷ xs) × T (f x)
+        deeper r = (List·Memᴰ·tail (r .0), r .1)
+
+        go : (b : Bool) → f y ≡ b → (List·Memᴰ x (keep f xs) → List·Memᴰ x xs × T (f x)) → List·Memᴰ x (cond b (y ∷ keep f xs) (keep f xs)) → List·Memᴰ x (y ∷ xs) × T (f x)
+        go true e below m′ = ⊎-elim (λ h. (List·Memᴰ·head h, subst T (sym (ap f h ∙ e)) tt)) (λ k. deeper (below k)) (List·Memᴰ·cases-cons m′)
+        go false e below m′ = deeper (below m′)
+
+    pub keep-intro : {x : A} (xs : List A) → List·Memᴰ x xs → T (f x) → List·Memᴰ x (keep f xs)
+    unfolding keep
+    keep-intro {x} (y ∷ xs) (List·Memᴰ·head e) t = go (f y) (subst (λ (a : A). T (f a)) e t)
+      where
+        go : (b : Bool) → T b → List·Memᴰ x (cond b (y ∷ keep f xs) (keep f xs))
+        go true u = List·Memᴰ·head e
+        go false u = absurd u
+    keep-intro {x} (y ∷ xs) (List·Memᴰ·tail m) t = go (f y) (keep-intro xs m t)
+      where
+        go : (b : Bool) → List·Memᴰ x (keep f xs) → List·Memᴰ x (cond b (y ∷ keep f xs) (keep f xs))
+        go true k = List·Memᴰ·tail k
+        go false k = k
+
+  -- the elements from i on pass when element i does, and those after it do
+  pub all-next : (f : A → Bool) (l : List A) (i : ℕ) (d : A) → i < length l → all f (drop i l) ≡ (f (getD l i d) && all f (drop (i + 1) l))
+  unfolding all
+  all-next f l i d h = rw (add-one, drop-cons l i d h)
+
+  -- more members, and a test that agrees on the old ones
+  pub keep-in : (f g : A → Bool) (xs ys : List A) → ((x : A) → List·Memᴰ x xs → List·Memᴰ x ys) → ((x : A) → List·Memᴰ x xs → f x ≡ g x) → (x : A) → List·Memᴰ x (keep f xs) → List·Memᴰ x (keep g ys)
+  keep-in f g xs ys more same x m = let r = keep-member f xs m in keep-intro g ys (more x (r .0)) (subst T (same x (r .0)) (r .1))
+
+-- ---- f 0, .., f (n - 1)
+module _ {A : Type 0} where
+  unfoldable pub tabulate : ℕ → (ℕ → A) → List A
+  tabulate zero f = []
+  tabulate (suc n) f = f zero ∷ tabulate n (λ i. f (suc i))
+
+  pub length-tabulate : (n : ℕ) (f : ℕ → A) → length (tabulate n f) ≡ n
+  unfolding tabulate
+  length-tabulate zero f = refl
+  length-tabulate (suc n) f = ap suc (length-tabulate n (λ i. f (suc i)))
+
+  pub getD-tabulate : (n : ℕ) (f : ℕ → A) (i : ℕ) (d : A) → i < n → getD (tabulate n f) i d ≡ f i
+  unfolding tabulate
+  getD-tabulate zero f i d h = absurd (not-suc-le-zero h)
+  getD-tabulate (suc n) f zero d h = refl
+  getD-tabulate (suc n) f (suc i) d h = getD-tabulate n (λ j. f (suc j)) i d (le-of-suc-le-suc h)
+
+  pub tabulate-member : (n : ℕ) (f : ℕ → A) (i : ℕ) → i < n → List·Memᴰ (f i) (tabulate n f)
+  unfolding tabulate
+  tabulate-member zero f i h = absurd (not-suc-le-zero h)
+  tabulate-member (suc n) f zero h = List·Memᴰ·head refl
+  tabulate-member (suc n) f (suc i) h = List·Memᴰ·tail (tabulate-member n (λ j. f (suc j)) i (le-of-suc-le-suc h))
+
+  pub tabulate-inverse : (n : ℕ) (f : ℕ → A) {x : A} → List·Memᴰ x (tabulate n f) → (i : ℕ) × (i < n) × (x ≡ f i)
+  unfolding tabulate
+  tabulate-inverse zero f m = absurd (List·Memᴰ·not-nil m)
+  tabulate-inverse (suc n) f {x} m = go (tabulate-inverse n (λ j. f (suc j))) (List·Memᴰ·cases-cons m)
+    where
+      go : (List·Memᴰ x (tabulate n (λ j. f (suc j))) → (i : ℕ) × (i < n) × (x ≡ f (suc i))) → (x ≡ f zero) ⊎ List·Memᴰ x (tabulate n (λ j. f (suc j))) → (i : ℕ) × (i < suc n) × (x ≡ f i)
+      go below (inl e) = (zero, suc-le-suc zero-le, e)
+      go below (inr k) = let r = below k in (suc (r .0), suc-le-suc (r .1), r .2)
+
+-- ---- lists of numbers: equality and membership
+
+-- the number is among the elements
+abbrev pub among : ℕ → List ℕ → Bool
+among x = any (eqb x)
+
+unfoldable pub equal : List ℕ → List ℕ → Bool
+equal [] [] = true
+equal [] (b ∷ v) = false
+equal (a ∷ u) [] = false
+equal (a ∷ u) (b ∷ v) = eqb a b && equal u v
+
+pub equal→eq : (u v : List ℕ) → T (equal u v) → u ≡ v
+unfolding equal
+equal→eq [] [] t = refl
+equal→eq [] (b ∷ v) t = absurd t
+equal→eq (a ∷ u) [] t = absurd t
+equal→eq (a ∷ u) (b ∷ v) t = ap₂ _∷_ (eqb→eq a b (and-l (eqb a b) (equal u v) t)) (equal→eq u v (and-r (eqb a b) (equal u v) t))
+
+equal-refl : (u : List ℕ) → T (equal u u)
+unfolding equal
+equal-refl [] = tt
+equal-refl (a ∷ u) = and-i (eqb a a) (equal u u) (eqb-refl a) (equal-refl u)
+
+pub eq→equal : (u v : List ℕ) → u ≡ v → T (equal u v)
+eq→equal u v e = subst (λ (x : List ℕ). T (equal u x)) e (equal-refl u)
+
+equal-suc : (a b : List ℕ) (i : ℕ) → i < length a → i < length b → equal (take (suc i) a) (take (suc i) b) ≡ (equal (take i a) (take i b) && eqb (getD a i 0) (getD b i 0))
+unfolding equal
+equal-suc [] b i ha hb = absurd (not-suc-le-zero ha)
+equal-suc (x ∷ a) [] i ha hb = absurd (not-suc-le-zero hb)
+equal-suc (x ∷ a) (y ∷ b) zero ha hb = and-true (eqb x y)
+equal-suc (x ∷ a) (y ∷ b) (suc i) ha hb =
+    ap (λ (t : Bool). eqb x y && t) (equal-suc a b i (le-of-suc-le-suc ha) (le-of-suc-le-suc hb))
+    ∙ sym (and-assoc (eqb x y) (equal (take i a) (take i b)) (eqb (getD a i 0) (getD b i 0)))
+
+-- a loop that compares a and b: one element more
+pub equal-next : (a b : List ℕ) (i : ℕ) → i < length a → i < length b → equal (take (i + 1) a) (take (i + 1) b) ≡ (equal (take i a) (take i b) && eqb (getD a i 0) (getD b i 0))
+equal-next a b i ha hb = ap (λ (n : ℕ). equal (take n a) (take n b)) (add-one i) ∙ equal-suc a b i ha hb
+
+pub equal-sym : (a b : List ℕ) → equal a b ≡ equal b a
+equal-sym a b = same-test (equal a b) (equal b a) (λ t. eq→equal b a (sym (equal→eq a b t))) (λ t. eq→equal a b (sym (equal→eq b a t)))
+
+-- equal lists, the test as an equation
+pub equal-true : (a b : List ℕ) → equal a b ≡ true → a ≡ b
+equal-true a b e = equal→eq a b (subst T (sym e) tt)
+
+abbrev pub member : List ℕ → List (List ℕ) → Bool
+member u = any (equal u)
+
+pub member→ : (u : List ℕ) (l : List (List ℕ)) → T (member u l) → List·Memᴰ u l
+member→ u l t = let r = any-witness (equal u) l t in Memᴰ·cast (equal→eq u (r .0) (r .2)) (r .1)
+
+pub →member : (u : List ℕ) (l : List (List ℕ)) → List·Memᴰ u l → T (member u l)
+→member u l m = any-intro (equal u) l m (equal-refl u)
+
+-- ---- a list for each member, joined
+module _ {A B : Type 0} (f : A → List B) where
+  pub flatMap-member : (l : List A) {y : B} → List·Memᴰ y (flatMap f l) → (x : A) × List·Memᴰ x l × List·Memᴰ y (f x)
+  unfolding flatMap
+  flatMap-member [] m = absurd (List·Memᴰ·not-nil m)
+  flatMap-member (x ∷ l) {y} m = go (flatMap-member l) (List·Memᴰ·append-cases (f x) m)
+    where
+      go : (List·Memᴰ y (flatMap f l) → (z : A) × List·Memᴰ z l × List·Memᴰ y (f z)) → List·Memᴰ y (f x) ⊎ List·Memᴰ y (flatMap f l) → (z : A) × List·Memᴰ z (x ∷ l) × List·Memᴰ y (f z)
+      go below (inl k) = (x, List·Memᴰ·head refl, k)
+      go below (inr k) = let r = below k in (r .0, List·Memᴰ·tail (r .1), r .2)
+
+  pub flatMap-intro : {x : A} (l : List A) {y : B} → List·Memᴰ x l → List·Memᴰ y (f x) → List·Memᴰ y (flatMap f l)
+  unfolding flatMap
+  flatMap-intro (z ∷ l) {y} (List·Memᴰ·head e) k = Memᴰ·append-left (flatMap f l) (subst (λ (a : A). List·Memᴰ y (f a)) e k)
+  flatMap-intro (z ∷ l) (List·Memᴰ·tail m) k = Memᴰ·append-right (f z) (flatMap-intro l m k)
+
+module _ {A B : Type 0} where
+  pub flatMap-append : (f : A → List B) (l m : List A) → flatMap f (l ++ m) ≡ flatMap f l ++ flatMap f m
+  unfolding flatMap
+  flatMap-append f [] m = refl
+  flatMap-append f (x ∷ l) m = ap (λ (r : List B). f x ++ r) (flatMap-append f l m) ∙ sym (append-assoc (f x) (flatMap f l) (flatMap f m))
+
+  pub map-append : (f : A → B) (l m : List A) → map f (l ++ m) ≡ map f l ++ map f m
+  map-append f [] m = refl
+  map-append f (x ∷ l) m = ap (λ (r : List B). f x ∷ r) (map-append f l m)
+
+  pub map-same : (f g : A → B) (l : List A) → ((x : A) → List·Memᴰ x l → f x ≡ g x) → map f l ≡ map g l
+  map-same f g [] h = refl
+  map-same f g (x ∷ l) h = ap₂ _∷_ (h x (List·Memᴰ·head refl)) (map-same f g l (λ y m. h y (List·Memᴰ·tail m)))
+
+module _ {A : Type 0} where
+  -- two lists with an element behind each
+  pub append-last : (a b : List A) (x y : A) → a ++ x ∷ [] ≡ b ++ y ∷ [] → (a ≡ b) × (x ≡ y)
+  append-last a b x y e =
+      let size : length b ≡ length a = omega (arith, length-append a (x ∷ []), length-append b (y ∷ []), ap length e) in
+      let last : x ∷ [] ≡ y ∷ [] = sym (drop-at a (x ∷ []) (length a) refl) ∙ ap (drop (length a)) e ∙ drop-at b (y ∷ []) (length a) size in
+      (sym (take-at a (x ∷ []) (length a) refl) ∙ ap (take (length a)) e ∙ take-at b (y ∷ []) (length a) size, cc)

@@ -1,0 +1,12 @@
+pub mod Rows
+pub mod Answers
+pub mod Flat
+pub mod Searching
+pub mod Prefixes
+pub mod Growth
+pub mod Taking
+pub mod AnswerLaws
+pub mod Log
+pub mod LogRows
+pub mod LogTable
+pub mod Order

@@ -1,0 +1,40 @@
+-- The table of a log: its rows by the definitions of nets, and the words of a log taken one after the other.
+use mathlib.Core.Path.{_≡_}
+use mathlib.Core.List.{List, [], _∷_, map}
+use Prim.Native.Nat.{ℕ, _+_}
+use lib.ListN.{length}
+use Rattle.laws.specs.Bits.{maskOf}
+use Rattle.nets.specs.Nets.{Word, Log, Counts, rows, allowed}
+use Rattle.nets.specs.Machine.{COUNTS}
+use Rattle.logs.specs.Rows.{Row, takeWord, none}
+use Rattle.logs.specs.Answers.{takenAnswer, takenTable}
+use Rattle.logs.specs.declared.Summary.{Summary}
+use Rattle.logs.specs.declared.Taken.the-variants.{Next}
+
+-- the events that the log allows after the counts v, as a mask
+unfoldable pub maskAt : Log → Counts → ℕ
+maskAt log v = maskOf COUNTS (λ e. allowed COUNTS log (record { row = v; event = e }))
+
+-- counts with their masks, as rows
+abbrev pub withMasks : (Counts → ℕ) → List Counts → List Row
+withMasks m vs = map (λ (v : Counts). record { counts = v; mask = m v }) vs
+
+-- the rows of a log, in their order
+unfoldable pub logRows : Log → List Row
+logRows log = withMasks (maskAt log) (rows COUNTS log)
+
+-- how many events a log has
+unfoldable pub logEvents : Log → ℕ
+logEvents [] = 0
+logEvents (w ∷ ws) = length w + logEvents ws
+
+-- the rows after the words of a log are taken one after the other
+unfoldable pub takeLog : List Row → Log → List Row
+takeLog rs [] = rs
+takeLog rs (w ∷ ws) = takeLog (takeWord rs none w) ws
+
+-- from the summary s and the table t, the words ws are taken one after the other, none is refused, and s′ and t′ are left
+unfoldable pub Takes : Summary → List ℕ → Log → Summary → List ℕ → Type 0
+Takes s t [] s′ t′ = (s′ ≡ s) × (t′ ≡ t)
+Takes s t (w ∷ ws) s′ t′ =
+    (next : Summary) × (takenAnswer s t w ≡ Next next) × Takes next (takenTable (takenAnswer s t w) s t w) ws s′ t′

@@ -1,0 +1,103 @@
+-- The log table as a list of rows: how rows lie in a list of numbers, and what taking a word does to them.
+use mathlib.Core.Path.{_≡_}
+use mathlib.Core.Bool.{not, cond}
+use mathlib.Core.List.{List, [], _∷_, _++_}
+use Prim.Native.Nat.{ℕ, zero, suc, _+_, _*_, _<_}
+use lib.ListN.{length, getD, take, drop, set, replicate}
+use lib.Dec.{ltb}
+use Rattle.laws.specs.Lists.{equal}
+use Rattle.laws.specs.Scans.{firstFailing}
+use Rattle.laws.specs.Bits.{withBit}
+use Rattle.nets.specs.Nets.{Word, Counts, at}
+use Rattle.nets.specs.Machine.{COUNTS}
+
+-- ---- How rows lie in a table
+
+-- the numbers of a row: twelve counts, then the mask
+abbrev pub ROW : ℕ
+ROW = 13
+
+pub record Row : Type 0 where
+  pub counts : Counts
+  pub mask : ℕ
+
+-- the row that a list of numbers starts with, and a row as numbers
+unfoldable pub rowAt : List ℕ → Row
+rowAt t = record { counts = take COUNTS t; mask = getD t COUNTS 0 }
+
+unfoldable pub numbers : Row → List ℕ
+numbers r = r .counts ++ (r .mask ∷ [])
+
+-- the first k rows of a table
+unfoldable pub rowsOf : ℕ → List ℕ → List Row
+rowsOf zero t = []
+rowsOf (suc k) t = rowAt t ∷ rowsOf k (drop ROW t)
+
+unfoldable pub flat : List Row → List ℕ
+flat [] = []
+flat (r ∷ rs) = numbers r ++ flat rs
+
+-- the table t with the rows rs at its front, the rest of t untouched
+abbrev pub withRows : List Row → List ℕ → List ℕ
+withRows rs t = flat rs ++ drop (ROW * length rs) t
+
+-- the table t with its first k numbers zero
+unfoldable pub cleared : ℕ → List ℕ → List ℕ
+cleared k t = replicate k 0 ++ drop k t
+
+-- ---- Taking a word
+
+-- the lowest row with the counts v, or the number of rows where there is none
+unfoldable pub findRow : Counts → List Row → ℕ
+findRow v rs = firstFailing (λ r. not (equal (r .counts) v)) rs
+
+-- a row that nothing follows yet
+abbrev pub newRow : Counts → Row
+newRow v = record { counts = v; mask = 0 }
+
+-- the rows with a row for the counts v: as they are, or with a new one appended
+unfoldable pub present : Counts → List Row → List Row
+present v rs = cond (ltb (findRow v rs) (length rs)) rs (rs ++ (newRow v ∷ []))
+
+-- the row with bit e of its mask set
+abbrev pub marked : ℕ → Row → Row
+marked e r = record { counts = r .counts; mask = withBit (r .mask) e }
+
+-- the rows with f applied to row r
+unfoldable pub updateAt : ℕ → (Row → Row) → List Row → List Row
+updateAt r f [] = []
+updateAt zero f (x ∷ rs) = f x ∷ rs
+updateAt (suc r) f (x ∷ rs) = x ∷ updateAt r f rs
+
+-- the counts with one more of event e
+unfoldable pub bump : Counts → ℕ → Counts
+bump v e = set v e (at v e + 1)
+
+-- from the prefix with counts v on, shortest first: its row is found or appended, then the bit of the event that follows is set in it
+unfoldable pub takeWord : List Row → Counts → Word → List Row
+takeWord rs v [] = present v rs
+takeWord rs v (e ∷ w) = takeWord (updateAt (findRow v rs) (marked e) (present v rs)) (bump v e) w
+
+-- the counts of the empty prefix
+abbrev pub none : Counts
+none = replicate COUNTS 0
+
+-- ---- What is known before anything is written
+
+-- each event of w is below n
+abbrev pub EventsBelow : ℕ → Word → Type 0
+EventsBelow n w = (k : ℕ) → k < length w → getD w k 0 < n
+
+-- 1 where no row has the counts v, else 0
+unfoldable pub absent : Counts → List Row → ℕ
+absent v rs = cond (ltb (findRow v rs) (length rs)) 0 1
+
+-- how many prefixes, from the one with counts v on, have no row
+unfoldable pub newRows : List Row → Counts → Word → ℕ
+newRows rs v [] = absent v rs
+newRows rs v (e ∷ w) = absent v rs + newRows rs (bump v e) w
+
+-- t′ is t with the k rows rs at its front
+pub record Holds (k : ℕ) (rs : List Row) (t t′ : List ℕ) : Type 0 where
+  pub front : rowsOf k t′ ≡ rs
+  pub rest : drop (ROW * k) t′ ≡ drop (ROW * k) t

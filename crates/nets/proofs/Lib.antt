@@ -1,0 +1,3 @@
+-- Laws that several proofs of `nets` cite.
+pub mod Signed
+pub mod Bounds

@@ -1,0 +1,14 @@
+pub mod Nets
+pub mod Surplus
+pub mod Weights
+pub mod Words
+pub mod Rows
+pub mod Fits
+pub mod Certificates
+pub mod Screening
+pub mod Comparison
+pub mod CountLaws
+pub mod LogLaws
+pub mod Wide
+pub mod Machine
+pub mod Samples

@@ -1,0 +1,46 @@
+-- Laws for code that takes a log word by word: the prefixes, the rows and the allowed steps with one word more.
+use mathlib.Core.Path.{_≡_, refl, sym, ap, _∙_, subst}
+use mathlib.Core.Logic.{_↔_, _⊎_, inl, inr, ⊎-elim}
+use mathlib.Core.List.{List, [], _∷_, _++_, map, flatMap, foldl, append-nil, append-assoc, foldl-append, List·Memᴰ, List·Memᴰ·append-cases, Memᴰ·append-left, Memᴰ·append-right}
+use Prim.Native.Nat.{ℕ}
+use lib.Dec.{T}
+use Rattle.laws.specs.Lists.{flatMap-append, map-append}
+use Rattle.nets.specs.Nets.{Word, Log, Step, counts, beginnings, prefixes, addRow, rows, allowed}
+use Rattle.nets.specs.Words.{Prefix, Begins, →beginning, beginning→, allowed→, →allowed}
+
+module _ (log : Log) (w : Word) where
+  pub prefixes-snoc : prefixes (log ++ w ∷ []) ≡ prefixes log ++ beginnings w
+  unfolding prefixes flatMap
+  prefixes-snoc = ap (λ (r : List Word). [] ∷ r) (flatMap-append beginnings log (w ∷ []) ∙ rw append-nil)
+
+  pub prefix-snoc : (u : Word) → Prefix (log ++ w ∷ []) u ↔ (Prefix log u ⊎ Begins u w)
+  prefix-snoc u = (to, ⊎-elim old new)
+    where
+      to : Prefix (log ++ w ∷ []) u → Prefix log u ⊎ Begins u w
+      to m = ⊎-elim (λ k. inl k) (λ k. inr (beginning→ w k)) (List·Memᴰ·append-cases (prefixes log) (rw prefixes-snoc at m))
+
+      old : Prefix log u → Prefix (log ++ w ∷ []) u
+      old m = rw prefixes-snoc (Memᴰ·append-left (beginnings w) m)
+
+      new : Begins u w → Prefix (log ++ w ∷ []) u
+      new b = rw prefixes-snoc (Memᴰ·append-right (prefixes log) (subst (λ (x : Word). List·Memᴰ u (beginnings x)) (b .1) (→beginning u (b .0))))
+
+  -- a word's prefixes, shortest first, add their rows
+  pub rows-snoc : (n : ℕ) → rows n (log ++ w ∷ []) ≡ foldl addRow (rows n log) (map (counts n) (beginnings w))
+  unfolding rows
+  rows-snoc n = rw (prefixes-snoc, map-append, foldl-append)
+
+  -- a step is allowed where it was, or where the word has it
+  pub allowed-snoc : (n : ℕ) (s : Step) → T (allowed n (log ++ w ∷ []) s) ↔ (T (allowed n log s) ⊎ ((u : Word) × (counts n u ≡ s .row) × Begins (u ++ s .event ∷ []) w))
+  allowed-snoc n s = (to, ⊎-elim old new)
+    where
+      to : T (allowed n (log ++ w ∷ []) s) → T (allowed n log s) ⊎ ((u : Word) × (counts n u ≡ s .row) × Begins (u ++ s .event ∷ []) w)
+      to t =
+          let f = allowed→ n (log ++ w ∷ []) s t in
+          ⊎-elim (λ k. inl (→allowed n log s (f .0, f .1, k))) (λ k. inr (f .0, f .1, k)) (prefix-snoc (f .0 ++ s .event ∷ []) .0 (f .2))
+
+      old : T (allowed n log s) → T (allowed n (log ++ w ∷ []) s)
+      old t = let f = allowed→ n log s t in →allowed n (log ++ w ∷ []) s (f .0, f .1, prefix-snoc (f .0 ++ s .event ∷ []) .1 (inl (f .2)))
+
+      new : (u : Word) × (counts n u ≡ s .row) × Begins (u ++ s .event ∷ []) w → T (allowed n (log ++ w ∷ []) s)
+      new f = →allowed n (log ++ w ∷ []) s (f .0, f .1, prefix-snoc (f .0 ++ s .event ∷ []) .1 (inr (f .2)))

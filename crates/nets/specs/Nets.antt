@@ -1,0 +1,243 @@
+-- Words, logs, places, nets, certificates and acceptance: the definitions of the product, with natural numbers of any size.
+-- Events are the numbers below n. Every test is a Bool and computes; the laws are in the other files.
+use mathlib.Core.Bool.{Bool, true, false, not, cond, _&&_}
+use mathlib.Core.List.{List, [], _∷_, _++_, map, flatMap, foldl}
+use Prim.Native.Nat.{ℕ, zero, suc, _+_, _*_}
+use lib.Dec.{leb, eqb}
+use lib.IntN.{ℤ, pos, _+ℤ_, _-ℤ_, _*ℤ_}
+use lib.ListN.{length, getD}
+use lib.Signed.{nonNeg}
+use Rattle.laws.specs.Lists.{all, any, keep, tabulate, equal, member}
+use Rattle.laws.specs.Differences.{sumℤ}
+
+-- ---- What there is
+
+-- a word: events, in order
+abbrev pub Word : Type 0
+Word = List ℕ
+
+abbrev pub Log : Type 0
+Log = List Word
+
+-- a count vector v (Parikh vector): v(i) says how often event i occurs
+abbrev pub Counts : Type 0
+Counts = List ℕ
+
+-- an event after a count vector
+pub record Step : Type 0 where
+  pub row : Counts
+  pub event : ℕ
+
+-- a place (region): m, its initial tokens; in(i), the tokens that event i puts there; out(i), those that it takes
+pub record Place : Type 0 where
+  pub initial : ℕ
+  pub produced : ℕ → ℕ
+  pub consumed : ℕ → ℕ
+
+-- a net: a finite list of places, the empty list included, each with natural numbers of any size.
+-- 'Every net' means every value of this type, whether or not a bundle could hold it.
+abbrev pub Net : Type 0
+Net = List Place
+
+-- a weight g on a step
+pub record Term : Type 0 where
+  pub step : Step
+  pub weight : ℕ
+
+-- the certificate of a wrong continuation (the answer to an event/state separation problem)
+pub data Certificate : Type 0 where
+  -- kind 0: the place of this number refuses the step
+  byPlace : ℕ → Certificate
+  -- kind 1: k and weighted steps (Farkas weights) that show that no place which fits can refuse it
+  byWeights : ℕ → List Term → Certificate
+
+pub record Bundle : Type 0 where
+  pub events : ℕ
+  pub log : Log
+  pub net : Net
+  pub certificates : List Certificate
+
+-- the answer of screening a word
+pub data Screened : Type 0 where
+  permitted : Screened
+  -- the position of the first refused step, and the lowest place that refuses it
+  stopped : ℕ → ℕ → Screened
+
+-- ---- Counting
+
+-- [a = b]: 1 if true, else 0
+unfoldable pub same : ℕ → ℕ → ℕ
+same a b = cond (eqb a b) 1 0
+
+-- how often i occurs in a word
+unfoldable pub occurrences : ℕ → Word → ℕ
+occurrences i [] = 0
+occurrences i (a ∷ w) = same a i + occurrences i w
+
+-- v(i)
+abbrev pub at : Counts → ℕ → ℕ
+at v i = getD v i 0
+
+-- the sum of g × h(u, f) over the terms
+unfoldable pub weighed : (Step → ℕ) → List Term → ℕ
+weighed h [] = 0
+weighed h (t ∷ ts) = t .weight * h (t .step) + weighed h ts
+
+-- ---- Prefixes
+
+-- the beginnings of a word, shortest first
+unfoldable pub beginnings : Word → List Word
+beginnings [] = [] ∷ []
+beginnings (a ∷ w) = [] ∷ map {B = Word} (λ u. a ∷ u) (beginnings w)
+
+-- a log's prefixes: the beginnings of its words; the empty word is always one
+unfoldable pub prefixes : Log → List Word
+prefixes log = [] ∷ flatMap beginnings log
+
+-- a new row at the end, if there is none with these counts
+unfoldable pub addRow : List Counts → Counts → List Counts
+addRow rows v = cond (member v rows) rows (rows ++ v ∷ [])
+
+module _ (n : ℕ) where
+  -- the count vector of a word
+  unfoldable pub counts : Word → Counts
+  counts w = tabulate n (λ i. occurrences i w)
+
+  -- event e after the events of u
+  abbrev pub stepAfter : Word → ℕ → Step
+  stepAfter u e = record { row = counts u; event = e }
+
+  -- ---- Places and nets
+
+  -- the tokens in a place after counts v (its marking): m + sum of v(i) × (in(i) − out(i))
+  unfoldable pub tokens : Place → Counts → ℤ
+  tokens p v = pos (p .initial) +ℤ sumℤ n (λ i. pos (at v i) *ℤ (pos (p .produced i) -ℤ pos (p .consumed i)))
+
+  -- the surplus at (v, e): m + sum of v(i) × (in(i) − out(i)) − out(e)
+  unfoldable pub surplus : Place → Step → ℤ
+  surplus p s = tokens p (s .row) -ℤ pos (p .consumed (s .event))
+
+  -- a place permits e after v when the surplus is 0 or more, and refuses it when negative
+  unfoldable pub placePermits : Place → Step → Bool
+  placePermits p s = nonNeg (surplus p s)
+
+  unfoldable pub netPermits : Net → Step → Bool
+  netPermits net s = all (λ p. placePermits p s) net
+
+  -- the net permits the steps of w, which follow those of u
+  unfoldable pub permitsAfter : Net → Word → Word → Bool
+  permitsAfter net u [] = true
+  permitsAfter net u (e ∷ w) = netPermits net (stepAfter u e) && permitsAfter net (u ++ e ∷ []) w
+
+  -- a net permits a word when every place permits each of its steps
+  unfoldable pub permits : Net → Word → Bool
+  permits net w = permitsAfter net [] w
+
+  -- ---- Screening
+
+  -- the lowest place that refuses the step, or the number of places where none does
+  unfoldable pub firstRefusing : Net → Step → ℕ
+  firstRefusing [] s = 0
+  firstRefusing (p ∷ net) s = cond (placePermits p s) (suc (firstRefusing net s)) 0
+
+  -- the first refused step of w, whose steps follow those of u
+  unfoldable pub screenAfter : Net → Word → Word → Screened
+  screenAfter net u [] = permitted
+  screenAfter net u (e ∷ w) =
+      cond (netPermits net (stepAfter u e)) (screenAfter net (u ++ e ∷ []) w) (stopped (length u) (firstRefusing net (stepAfter u e)))
+
+  unfoldable pub screen : Net → Word → Screened
+  screen net w = screenAfter net [] w
+
+  -- ---- The log's rows and steps
+
+  -- the rows: the distinct count vectors of prefixes, by first occurrence
+  unfoldable pub rows : Log → List Counts
+  rows log = foldl addRow [] (map counts (prefixes log))
+
+  -- an allowed step: some prefix with these counts is followed by the event in the log
+  unfoldable pub allowed : Log → Step → Bool
+  allowed log s = any (λ u. equal (counts u) (s .row) && member (u ++ s .event ∷ []) (prefixes log)) (prefixes log)
+
+  -- a row with each event
+  unfoldable pub rowSteps : Counts → List Step
+  rowSteps v = tabulate n (λ e. record { row = v; event = e })
+
+  -- each row with each event, by row, then event
+  unfoldable pub continuations : Log → List Step
+  continuations log = flatMap rowSteps (rows log)
+
+  unfoldable pub allowedSteps : Log → List Step
+  allowedSteps log = keep (allowed log) (continuations log)
+
+  -- the wrong continuations: a row and an event that is not allowed there, by row, then event
+  unfoldable pub wrongContinuations : Log → List Step
+  wrongContinuations log = keep (λ s. not (allowed log s)) (continuations log)
+
+  -- a place fits when it permits every allowed step
+  unfoldable pub fits : Log → Place → Bool
+  fits log p = all (placePermits p) (allowedSteps log)
+
+  -- ---- Certificates
+
+  -- place number j is there, and refuses the step
+  unfoldable pub refusedBy : Net → ℕ → Step → Bool
+  refusedBy [] j s = false
+  refusedBy (p ∷ net) zero s = not (placePermits p s)
+  refusedBy (p ∷ net) (suc j) s = refusedBy net j s
+
+  -- the second inequality at event i: the sum of g × u(i) is at most k × v(i)
+  unfoldable pub weighsBefore : Step → ℕ → List Term → ℕ → Bool
+  weighsBefore s k ts i = leb (weighed (λ t. at (t .row) i) ts) (k * at (s .row) i)
+
+  -- the third: the sum of g × (u(i) + [f = i]) is at least k × (v(i) + [e = i])
+  unfoldable pub weighsAfter : Step → ℕ → List Term → ℕ → Bool
+  weighsAfter s k ts i = leb (k * (at (s .row) i + same (s .event) i)) (weighed (λ t. at (t .row) i + same (t .event) i) ts)
+
+  -- a kind 1 certificate holds: k is at least 1, the terms' steps are allowed, the sum of g is at most k, and the other two at each event
+  unfoldable pub weightsHold : Log → Step → ℕ → List Term → Bool
+  weightsHold log s k ts =
+      leb 1 k
+      && all (λ t. allowed log (t .step)) ts
+      && leb (weighed (λ t. 1) ts) k
+      && all (weighsBefore s k ts) (tabulate n (λ i. i))
+      && all (weighsAfter s k ts) (tabulate n (λ i. i))
+
+  -- a certificate solves the step
+  unfoldable pub solves : Log → Net → Step → Certificate → Bool
+  solves log net s (byPlace j) = refusedBy net j s
+  solves log net s (byWeights k ts) = weightsHold log s k ts
+
+  -- one certificate for each step, in order
+  unfoldable pub solvesAll : Log → Net → List Step → List Certificate → Bool
+  solvesAll log net [] [] = true
+  solvesAll log net [] (c ∷ cs) = false
+  solvesAll log net (s ∷ ss) [] = false
+  solvesAll log net (s ∷ ss) (c ∷ cs) = solves log net s c && solvesAll log net ss cs
+
+-- ---- Acceptance
+
+-- the net permits every log word, and each wrong continuation has its certificate
+unfoldable pub accepted : Bundle → Bool
+accepted b =
+    all (permits (b .events) (b .net)) (b .log)
+    && solvesAll (b .events) (b .log) (b .net) (wrongContinuations (b .events) (b .log)) (b .certificates)
+
+unfoldable pub isByPlace : Certificate → Bool
+isByPlace (byPlace j) = true
+isByPlace (byWeights k ts) = false
+
+-- the four counts of a verdict: rows, allowed steps, kind 0 and kind 1 certificates
+pub record Tally : Type 0 where
+  pub rowCount : ℕ
+  pub allowedCount : ℕ
+  pub byPlaceCount : ℕ
+  pub byWeightsCount : ℕ
+
+unfoldable pub tally : Bundle → Tally
+tally b = record {
+  rowCount = length (rows (b .events) (b .log));
+  allowedCount = length (allowedSteps (b .events) (b .log));
+  byPlaceCount = length (keep isByPlace (b .certificates));
+  byWeightsCount = length (keep (λ c. not (isByPlace c)) (b .certificates));
+}

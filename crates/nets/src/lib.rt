@@ -1,0 +1,79 @@
+// Places of a net, and the masks of a log table: what a place permits after given counts of events.
+// The definitions are in specs/Nets.antt, over numbers of any size.
+ghost use mathlib.Core.Path.{_≡_};
+ghost use Prim.Native.Nat.{_≤_, _<_};
+ghost use lib.IntN.{pos, _-ℤ_, _*ℤ_};
+ghost use lib.ListN.{length};
+ghost use Rattle.laws.specs.Bits.{bit, bitCount, withBit};
+ghost use Rattle.nets.specs.Nets.{tokens as tokensAfter, surplus as surplusOf, placePermits};
+ghost use Rattle.nets.specs.Machine.{COUNTS, placeOf};
+
+// The counts of a row: as many as a bundle may have events.
+pub const COUNTS: usize = 12;
+
+// A place: its initial tokens m, and for each event the tokens in(i) that it puts there and out(i) that it takes.
+pub struct Place {
+    pub initial: u16,
+    pub produced: [u16; 12],
+    pub consumed: [u16; 12],
+}
+
+// The tokens that `count` occurrences of an event put into a place, less those that they take.
+fn gain(count: u16, produced: u16, consumed: u16) -> i64
+    ensures { λ r. ⌜ r ≡ pos count *ℤ (pos produced -ℤ pos consumed) ⌝ }
+{
+    count as i64 * (produced as i64 - consumed as i64)
+}
+
+// The tokens in a place after the events of `counts`: negative where it could not permit them all. (Inner function.)
+pub fn tokens(place: Place, counts: &[u16]) -> i64
+    requires { ⌜ COUNTS ≤ length (now counts) ⌝ }
+    ensures { λ r. ⌜ r ≡ tokensAfter COUNTS (placeOf place) (now (counts .entry)) ⌝ }
+{
+    let mut total = place.initial as i64;
+    let mut i = 0;
+    while i < COUNTS {
+        total += gain(counts[i], place.produced[i], place.consumed[i]);
+        i += 1;
+    }
+    total
+}
+
+// The surplus of a place at the counts and the event. (Inner function.)
+pub fn surplus(place: Place, counts: &[u16], event: usize) -> i64
+    requires { ⌜ (event < COUNTS) × (COUNTS ≤ length (now counts)) ⌝ }
+    ensures { λ r. ⌜ r ≡ surplusOf COUNTS (placeOf place) (record { row = now (counts .entry); event = event }) ⌝ }
+{
+    tokens(place, counts) - place.consumed[event] as i64
+}
+
+// Whether a place permits the event after the counts. (Inner function.)
+pub fn permits(place: Place, counts: &[u16], event: usize) -> bool
+    requires { ⌜ (event < COUNTS) × (COUNTS ≤ length (now counts)) ⌝ }
+    ensures { λ r. ⌜ r ≡ placePermits COUNTS (placeOf place) (record { row = now (counts .entry); event = event }) ⌝ }
+{
+    0 <= surplus(place, counts, event)
+}
+
+// The mask with bit `event` set. (Inner function.)
+pub fn with_bit(mask: u16, event: usize) -> u16
+    requires { ⌜ event < 16 ⌝ }
+    ensures { λ r. ⌜ r ≡ withBit mask event ⌝ }
+{
+    mask | (1 << event)
+}
+
+// Whether bit `event` of the mask is set. (Inner function.)
+pub fn has_bit(mask: u16, event: usize) -> bool
+    requires { ⌜ event < 16 ⌝ }
+    ensures { λ r. ⌜ r ≡ bit mask event ⌝ }
+{
+    (mask >> event) & 1 != 0
+}
+
+// How many bits of the mask are set. (Inner function.)
+pub fn bit_count(mask: u16) -> u32
+    ensures { λ r. ⌜ r ≡ bitCount 16 mask ⌝ }
+{
+    u16::count_ones(mask)
+}
