@@ -1,5 +1,6 @@
 /*
- * Hovmekhar: opening and sealing of files, and the log table. C11 and C++.
+ * Hovmekhar: opening and sealing of files, the log table, and judging. C11 and
+ * C++.
  *
  * A sealed file is 1 to 128 blocks of 512 bytes. Numbers of two bytes have the
  * low byte first. A block holds:
@@ -20,6 +21,29 @@
  *   numbers 0-11   how often each event occurs in the prefix; zero from n on
  *   number 12      a mask: bit e is set when a prefix with these counts is
  *                  followed by event e in the log
+ *
+ * These set bits are the allowed steps. A pair of a row and an event below n
+ * with its bit clear is a wrong continuation; they are numbered from 0, by row
+ * and then by event. A bundle that is judged holds in this order:
+ *
+ *   1 byte         n, 1 to 12
+ *   1 byte         the number of words
+ *   each word      its length (1 byte), then its events
+ *   1 byte         the number of places, 0 to 64
+ *   each place     m, its initial tokens, then n numbers in(i), then n numbers
+ *                  out(i), all of two bytes
+ *   a certificate  for each wrong continuation, of kind 0: 0 and the number of a
+ *                  place (1 byte each); or of kind 1: 1 (1 byte), k (2 bytes, at
+ *                  least 1), the number of terms (1 byte, 0 to 64), and for each
+ *                  term a row (2 bytes), an event (1 byte), a weight (2 bytes)
+ *
+ * A place permits event e after the counts v when its surplus is 0 or more:
+ * m + the sum of v(i) * (in(i) - out(i)) - out(e). It fits when it permits every
+ * allowed step. A certificate of kind 0 holds for (v, e) when its place refuses
+ * e after v. One of kind 1, with weights g on allowed steps (u, f), holds when
+ * the sum of g is at most k and, for each event i, the sum of g * u(i) is at
+ * most k * v(i) and the sum of g * (u(i) + [f = i]) is at least
+ * k * (v(i) + [e = i]), where [ ] is 1 if true, else 0.
  *
  * Every call returns 0 for a result, else the number of a refusal (see
  * enum hov_refusal). A refusal's spot is in answer[0]; where a result is, each
@@ -84,7 +108,7 @@ extern "C" {
  * stays as it was. No refusal writes to an output or to an input.
  *
  * This is the whole table, so that a number keeps its meaning when calls are
- * added. The calls declared below refuse with numbers 1 to 5, 7 to 9 and 16.
+ * added. The calls declared below refuse with numbers 1 to 13 and 16.
  */
 enum hov_refusal {
     /**
@@ -267,6 +291,28 @@ uint32_t hov_take(size_t n, size_t rows, size_t events,
                   const uint8_t *word, size_t word_len,
                   uint16_t *table, size_t table_len,
                   uint64_t answer[4]);
+
+/**
+ * Judges a bundle: it is accepted when every place fits and every certificate
+ * holds. table_len counts numbers, not bytes.
+ *
+ * Returns 0 when it is accepted, with four counts in answer[0] to answer[3]: the
+ * rows, the allowed steps, the certificates of kind 0 and those of kind 1. The
+ * first HOV_TABLE_SIZE numbers of the table are then the rows of the log and
+ * zeros behind them, whatever they were before, and the rest is as it was.
+ *
+ * Or returns the first refusal that applies, with its spot in answer[0];
+ * answer[1] to answer[3] stay as they were. HOV_BUNDLE_LENGTH comes first, then
+ * HOV_TABLE_SHORT; they leave the table as it was. Then the others come in the
+ * order of the bundle, and leave the first HOV_TABLE_SIZE numbers of the table
+ * zero and the rest as it was. A word's length byte is followed by HOV_EVENTS,
+ * then by its events one by one, with HOV_BUNDLE_END or HOV_VALUE at the first
+ * that is missing or wrong, then by HOV_ROWS. HOV_PLACE_FIT comes after the last
+ * place. A certificate is read whole before HOV_PLACE_PERMITS or HOV_WEIGHTS.
+ */
+uint32_t hov_judge(const uint8_t *bundle, size_t bundle_len,
+                   uint16_t *table, size_t table_len,
+                   uint64_t answer[4]);
 
 #ifdef __cplusplus
 }

@@ -6,6 +6,8 @@ use Rattle.refusals.specs.Answers.{valueOf}
 use Rattle.refusals.specs.declared.Written.{Written}
 use Rattle.logs.specs.declared.Taken.{Taken}
 use Rattle.logs.specs.declared.Taken.the-variants.{Next, Refused}
+use Rattle.verdicts.specs.declared.Verdict.{Verdict}
+use Rattle.verdicts.specs.declared.Verdict.the-variants as verdicts
 
 -- a length, or a refusal's spot, in the first; the others stay
 unfoldable pub withValue : List ℕ → Written → List ℕ
@@ -15,3 +17,8 @@ withValue numbers written = set numbers 0 (valueOf written)
 unfoldable pub withTaken : List ℕ → Taken → List ℕ
 withTaken numbers (Next s) = set (set (set numbers 0 (s .n)) 1 (s .rows)) 2 (s .events)
 withTaken numbers (Refused r) = set numbers 0 (r .spot)
+
+-- the four counts, or a refusal's spot in the first; then the others stay
+unfoldable pub withVerdict : List ℕ → Verdict → List ℕ
+withVerdict numbers (verdicts.Accepted c) = set (set (set (set numbers 0 (c .rows)) 1 (c .allowed)) 2 (c .«by_place»)) 3 (c .«by_weights»)
+withVerdict numbers (verdicts.Refused r) = set numbers 0 (r .spot)

@@ -3,3 +3,4 @@
 // refusal's spot; those of its numbers that a call does not use stay as they were.
 pub mod files; // opening and sealing
 pub mod tables; // the log table
+pub mod judgement; // judging

@@ -56,3 +56,12 @@ yes-or-left false b t = absurd t
 pub yes-or-right : (a b : Bool) → T b → T (a || b)
 yes-or-right true b t = tt
 yes-or-right false b t = t
+
+-- if a, then b
+pub implied : (a b : Bool) → T (not a || b) → T a → T b
+implied true b t h = t
+implied false b t h = absurd h
+
+pub implies : (a b : Bool) → (T a → T b) → T (not a || b)
+implies true b f = f tt
+implies false b f = tt

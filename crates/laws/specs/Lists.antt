@@ -5,11 +5,11 @@ use mathlib.Core.Bool.{Bool, true, false, not, cond, _&&_, _||_, and-true, and-a
 use mathlib.Core.Logic.{_⊎_, inl, inr, ⊎-elim}
 use mathlib.Core.List.{List, [], _∷_, _++_, map, flatMap, append-assoc, List·Memᴰ, List·Memᴰ·head, List·Memᴰ·tail, List·Memᴰ·not-nil, List·Memᴰ·cases-cons, Memᴰ·cast, List·Memᴰ·append-cases, Memᴰ·append-left, Memᴰ·append-right}
 use Prim.Native.Nat.{ℕ, zero, suc, _+_, _≤_, _<_, zero-le, suc-le-suc}
-use native.Mathlib.Nat.{not-suc-le-zero, le-of-suc-le-suc}
+use native.Mathlib.Nat.{not-suc-le-zero, le-of-suc-le-suc, add-zero, add-suc, le-add-right}
 use native.Mathlib.Numerals.{add-one}
 use lib.Dec.{T, eqb, eqb→eq, eqb-refl}
 use native.Mathlib.Omega.{arith}
-use lib.ListN.{length, take, drop, getD, length-append}
+use lib.ListN.{length, take, drop, getD, replicate, length-append}
 use lib.Seq.{drop-cons, take-at, drop-at}
 use lib.Ieee.Fits.{and-i, and-l, and-r}
 use Rattle.laws.specs.Booleans.{same-test, or-yes, yes-or-left, yes-or-right}
@@ -83,9 +83,39 @@ module _ {A : Type 0} where
   unfolding all
   all-next f l i d h = rw (add-one, drop-cons l i d h)
 
+  -- two lists, one behind the other
+  pub all-append : (f : A → Bool) (xs ys : List A) → all f (xs ++ ys) ≡ (all f xs && all f ys)
+  unfolding all
+  all-append f [] ys = refl
+  all-append f (x ∷ xs) ys = ap (λ (b : Bool). f x && b) (all-append f xs ys) ∙ sym (and-assoc (f x) (all f xs) (all f ys))
+
+  -- tests that agree on the members
+  pub all-same : (f g : A → Bool) (xs : List A) → ((x : A) → List·Memᴰ x xs → f x ≡ g x) → all f xs ≡ all g xs
+  unfolding all
+  all-same f g [] h = refl
+  all-same f g (x ∷ xs) h = ap₂ _&&_ (h x (List·Memᴰ·head refl)) (all-same f g xs (λ y m. h y (List·Memᴰ·tail m)))
+
   -- more members, and a test that agrees on the old ones
   pub keep-in : (f g : A → Bool) (xs ys : List A) → ((x : A) → List·Memᴰ x xs → List·Memᴰ x ys) → ((x : A) → List·Memᴰ x xs → f x ≡ g x) → (x : A) → List·Memᴰ x (keep f xs) → List·Memᴰ x (keep g ys)
   keep-in f g xs ys more same x m = let r = keep-member f xs m in keep-intro g ys (more x (r .0)) (subst T (same x (r .0)) (r .1))
+
+-- an element of a list of copies, or the default where that is the same
+pub getD-copies : {A : Type 0} (n i : ℕ) (a : A) → getD (replicate n a) i a ≡ a
+getD-copies zero i a = refl
+getD-copies (suc n) zero a = refl
+getD-copies (suc n) (suc i) a = getD-copies n i a
+
+-- an element of a list is a member of it
+pub getD-member : {A : Type 0} (l : List A) (i : ℕ) (d : A) → i < length l → List·Memᴰ (getD l i d) l
+getD-member [] i d h = absurd (not-suc-le-zero h)
+getD-member (x ∷ l) zero d h = List·Memᴰ·head refl
+getD-member (x ∷ l) (suc i) d h = List·Memᴰ·tail (getD-member l i d (le-of-suc-le-suc h))
+
+-- element i of a list, under f, whatever the defaults
+pub getD-map : {A B : Type 0} (f : A → B) (l : List A) (i : ℕ) (d : A) (e : B) → i < length l → getD (map f l) i e ≡ f (getD l i d)
+getD-map f [] i d e h = absurd (not-suc-le-zero h)
+getD-map f (x ∷ l) zero d e h = refl
+getD-map f (x ∷ l) (suc i) d e h = getD-map f l i d e (le-of-suc-le-suc h)
 
 -- ---- f 0, .., f (n - 1)
 module _ {A : Type 0} where
@@ -118,6 +148,52 @@ module _ {A : Type 0} where
       go : (List·Memᴰ x (tabulate n (λ j. f (suc j))) → (i : ℕ) × (i < n) × (x ≡ f (suc i))) → (x ≡ f zero) ⊎ List·Memᴰ x (tabulate n (λ j. f (suc j))) → (i : ℕ) × (i < suc n) × (x ≡ f i)
       go below (inl e) = (zero, suc-le-suc zero-le, e)
       go below (inr k) = let r = below k in (suc (r .0), suc-le-suc (r .1), r .2)
+
+  pub tabulate-same : (n : ℕ) (f g : ℕ → A) → ((i : ℕ) → i < n → f i ≡ g i) → tabulate n f ≡ tabulate n g
+  unfolding tabulate
+  tabulate-same zero f g h = refl
+  tabulate-same (suc n) f g h = ap₂ _∷_ (h zero (suc-le-suc zero-le)) (tabulate-same n (λ i. f (suc i)) (λ i. g (suc i)) (λ i b. h (suc i) (suc-le-suc b)))
+
+  pub tabulate-last : (n : ℕ) (f : ℕ → A) → tabulate (suc n) f ≡ tabulate n f ++ f n ∷ []
+  unfolding tabulate
+  tabulate-last zero f = refl
+  tabulate-last (suc n) f = ap (λ (l : List A). f zero ∷ l) (tabulate-last n (λ i. f (suc i)))
+
+-- ---- a test of each number below n
+
+-- f 0 && .. && f (n - 1)
+abbrev pub allBelow : ℕ → (ℕ → Bool) → Bool
+allBelow n f = all f (tabulate n (λ i. i))
+
+pub allBelow-none : (f : ℕ → Bool) → allBelow 0 f ≡ true
+unfolding all tabulate
+allBelow-none f = refl
+
+allBelow-suc : (n : ℕ) (f : ℕ → Bool) → allBelow (suc n) f ≡ (allBelow n f && f n)
+unfolding all
+allBelow-suc n f =
+    ap (all f) (tabulate-last n (λ i. i))
+    ∙ all-append f (tabulate n (λ i. i)) (n ∷ [])
+    ∙ ap (λ (b : Bool). allBelow n f && b) (and-true (f n))
+
+-- a loop that tests them: one number more
+pub allBelow-next : (n : ℕ) (f : ℕ → Bool) → allBelow (n + 1) f ≡ (allBelow n f && f n)
+allBelow-next n f = ap (λ (k : ℕ). allBelow k f) (add-one n) ∙ allBelow-suc n f
+
+-- tests that agree below n
+pub allBelow-same : (n : ℕ) (f g : ℕ → Bool) → ((i : ℕ) → i < n → f i ≡ g i) → allBelow n f ≡ allBelow n g
+allBelow-same n f g h = all-same f g (tabulate n (λ i. i))
+    (λ x m. let r = tabulate-inverse n (λ i. i) m in ap f (r .2) ∙ h (r .0) (r .1) ∙ ap g (sym (r .2)))
+
+-- numbers that pass by themselves add nothing
+pub allBelow-wide : (n k : ℕ) (f : ℕ → Bool) → ((i : ℕ) → n ≤ i → f i ≡ true) → allBelow (n + k) f ≡ allBelow n f
+allBelow-wide n zero f h = ap (λ (m : ℕ). allBelow m f) (add-zero n)
+allBelow-wide n (suc k) f h =
+    ap (λ (m : ℕ). allBelow m f) (add-suc n k)
+    ∙ allBelow-suc (n + k) f
+    ∙ ap (λ (b : Bool). allBelow (n + k) f && b) (h (n + k) (le-add-right n k))
+    ∙ and-true (allBelow (n + k) f)
+    ∙ allBelow-wide n k f h
 
 -- ---- lists of numbers: equality and membership
 
@@ -200,6 +276,11 @@ module _ {A B : Type 0} where
   pub map-append : (f : A → B) (l m : List A) → map f (l ++ m) ≡ map f l ++ map f m
   map-append f [] m = refl
   map-append f (x ∷ l) m = ap (λ (r : List B). f x ∷ r) (map-append f l m)
+
+  pub all-map : (p : B → Bool) (f : A → B) (l : List A) → all p (map f l) ≡ all (λ x. p (f x)) l
+  unfolding all
+  all-map p f [] = refl
+  all-map p f (x ∷ l) = ap (λ (b : Bool). p (f x) && b) (all-map p f l)
 
   pub map-same : (f g : A → B) (l : List A) → ((x : A) → List·Memᴰ x l → f x ≡ g x) → map f l ≡ map g l
   map-same f g [] h = refl

@@ -4,7 +4,7 @@ use mathlib.Core.List.{List, [], _∷_, _++_, append-assoc, append-nil}
 use Prim.Native.Nat.{ℕ, zero, suc, _+_, _-_, _≤_, min}
 use native.Mathlib.Nat.{zero-min, min-zero, suc-min-suc, sub-zero, zero-sub, suc-sub-suc}
 use native.Mathlib.Omega.{arith}
-use lib.ListN.{length, take, drop, replicate, length-append, length-drop, drop-of-length-le}
+use lib.ListN.{length, take, drop, getD, replicate, length-append, length-drop, drop-of-length-le}
 use lib.Seq.{take-take, take-all, take-length, take-add, paste, sets, sets-eq, take-append-seam, drop-append-add, drop-drop}
 
 module _ {A : Type 0} where
@@ -73,3 +73,11 @@ module _ {A : Type 0} where
   drop-replicate zero n a = rw sub-zero
   drop-replicate (suc k) zero a = rw zero-sub
   drop-replicate (suc k) (suc n) a = rw suc-sub-suc (drop-replicate k n a)
+
+  -- what stands past the end of a list is the default, so more of it there changes nothing
+  pub getD-padded : (l : List A) (k i : ℕ) (d : A) → getD (l ++ replicate k d) i d ≡ getD l i d
+  getD-padded [] zero i d = refl
+  getD-padded [] (suc k) zero d = refl
+  getD-padded [] (suc k) (suc i) d = getD-padded [] k i d
+  getD-padded (x ∷ l) k zero d = refl
+  getD-padded (x ∷ l) k (suc i) d = getD-padded l k i d

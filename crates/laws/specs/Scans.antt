@@ -1,13 +1,14 @@
 -- The lowest index at which a test fails: of the numbers below n, and of the elements of a list.
-use mathlib.Core.Path.{_≡_, refl, ap, _∙_}
-use mathlib.Core.Bool.{Bool, true, false, cond}
-use mathlib.Core.List.{List, [], _∷_, _++_}
+use mathlib.Core.Path.{_≡_, refl, ap, ap₂, _∙_}
+use mathlib.Core.Bool.{Bool, true, false, cond, _&&_}
+use mathlib.Core.List.{List, [], _∷_, _++_, map}
 use Prim.Native.Nat.{ℕ, zero, suc, _+_, _≤_, _<_, zero-le, suc-le-suc}
 use native.Mathlib.Nat.{not-suc-le-zero, le-of-suc-le-suc, zero-lt-suc, suc-inj}
 use native.Mathlib.Numerals.{add-one}
 use native.Mathlib.Omega.{arith}
 use lib.ListN.{length, drop, getD, drop-of-length-le}
 use lib.Seq.{drop-cons}
+use Rattle.laws.specs.Lists.{all}
 
 -- ---- Of numbers
 
@@ -112,3 +113,28 @@ module _ {A : Type 0} where
   pub failing-end : (test : A → Bool) (l : List A) (i : ℕ) → firstFailing test l ≡ i + firstFailing test (drop i l) → length l ≤ i → firstFailing test l ≡ i
   unfolding firstFailing
   failing-end test l i inv h = inv ∙ rw (drop-of-length-le l h) (omega arith)
+
+  -- all pass exactly when none fails
+  pub failing-all : (test : A → Bool) (l : List A) → length l ≤ firstFailing test l → all test l ≡ true
+  unfolding firstFailing all
+  failing-all test [] h = refl
+  failing-all test (x ∷ l) h = go (test x) (failing-all test l) h
+    where
+      go : (b : Bool) → (length l ≤ firstFailing test l → all test l ≡ true) → suc (length l) ≤ cond b (suc (firstFailing test l)) 0 → (b && all test l) ≡ true
+      go true rest h = rest (le-of-suc-le-suc h)
+      go false rest h = absurd (not-suc-le-zero h)
+
+  pub failing-some : (test : A → Bool) (l : List A) → firstFailing test l < length l → all test l ≡ false
+  unfolding firstFailing all
+  failing-some test [] h = absurd (not-suc-le-zero h)
+  failing-some test (x ∷ l) h = go (test x) (failing-some test l) h
+    where
+      go : (b : Bool) → (firstFailing test l < length l → all test l ≡ false) → cond b (suc (firstFailing test l)) 0 < suc (length l) → (b && all test l) ≡ false
+      go true rest h = rest (le-of-suc-le-suc h)
+      go false rest h = refl
+
+-- of the images of a list, where the tests agree
+pub failing-map : {A B : Type 0} (p : B → Bool) (q : A → Bool) (f : A → B) → ((x : A) → q x ≡ p (f x)) → (l : List A) → firstFailing q l ≡ firstFailing p (map f l)
+unfolding firstFailing
+failing-map p q f agree [] = refl
+failing-map p q f agree (x ∷ l) = ap₂ (λ (b : Bool) (k : ℕ). cond b (suc k) 0) (agree x) (failing-map p q f agree l)

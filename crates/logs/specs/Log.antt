@@ -1,8 +1,7 @@
 -- The table of a log: its rows by the definitions of nets, and the words of a log taken one after the other.
 use mathlib.Core.Path.{_≡_}
 use mathlib.Core.List.{List, [], _∷_, map}
-use Prim.Native.Nat.{ℕ, _+_}
-use lib.ListN.{length}
+use Prim.Native.Nat.{ℕ}
 use Rattle.laws.specs.Bits.{maskOf}
 use Rattle.nets.specs.Nets.{Word, Log, Counts, rows, allowed}
 use Rattle.nets.specs.Machine.{COUNTS}
@@ -22,11 +21,6 @@ withMasks m vs = map (λ (v : Counts). record { counts = v; mask = m v }) vs
 -- the rows of a log, in their order
 unfoldable pub logRows : Log → List Row
 logRows log = withMasks (maskAt log) (rows COUNTS log)
-
--- how many events a log has
-unfoldable pub logEvents : Log → ℕ
-logEvents [] = 0
-logEvents (w ∷ ws) = length w + logEvents ws
 
 -- the rows after the words of a log are taken one after the other
 unfoldable pub takeLog : List Row → Log → List Row

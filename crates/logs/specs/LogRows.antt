@@ -243,7 +243,7 @@ take-log log (w ∷ ws) below =
     ∙ ap logRows (append-snoc log w ws)
 
 -- the empty log has the row of the empty word
-first-row : logRows [] ≡ newRow none ∷ []
+pub first-row : logRows [] ≡ newRow none ∷ []
 unfolding logRows maskAt maskOf rows counts tabulate occurrences prefixes flatMap addRow any equal allowed
 first-row = refl
 

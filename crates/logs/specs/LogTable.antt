@@ -16,13 +16,13 @@ use Rattle.refusals.specs.declared.Refusal.{Refusal}
 use Rattle.laws.specs.Booleans.{neither}
 use Rattle.laws.specs.Lists.{map-same}
 use Rattle.laws.specs.Bits.{maskOf, maskOf-same}
-use Rattle.nets.specs.Nets.{Word, Log, Counts, rows, allowed}
+use Rattle.nets.specs.Nets.{Word, Log, Counts, eventCount, rows, allowed}
 use Rattle.nets.specs.Fits.{Below, LogBelow}
 use Rattle.nets.specs.Wide.{wide, rows-wide, allowed-wide}
 use Rattle.nets.specs.Machine.{COUNTS}
 use Rattle.logs.specs.Rows.{ROW, Row, rowAt, numbers, rowsOf, flat, withRows, newRow, present, marked, updateAt, bump, findRow, takeWord, none, EventsBelow, cleared}
 use Rattle.logs.specs.Answers.{TABLE, MAX-ROWS, MAX-EVENTS, badEventCount, badSummary, rowsAfter, firstBad, takenAnswer, takenTable, freshAnswer, freshTable}
-use Rattle.logs.specs.Log.{takeLog, maskAt, withMasks, logRows, logEvents, Takes}
+use Rattle.logs.specs.Log.{takeLog, maskAt, withMasks, logRows, Takes}
 use Rattle.logs.specs.declared.Summary.{Summary}
 use Rattle.logs.specs.declared.Taken.{Taken}
 use Rattle.logs.specs.declared.Taken.the-variants.{Next, Refused}
@@ -125,7 +125,7 @@ log-le rs (w ∷ ws) = le-trans (take-le rs none w) (log-le (takeWord rs none w)
 
 -- what the words of ws leave, from any summary and table
 record Left (s : Summary) (t : List ℕ) (ws : Log) (s′ : Summary) (t′ : List ℕ) : Type 0 where
-  summary : s′ ≡ record { n = s .n; rows = length (takeLog (rowsOf (s .rows) t) ws); events = s .events + logEvents ws }
+  summary : s′ ≡ record { n = s .n; rows = length (takeLog (rowsOf (s .rows) t) ws); events = s .events + eventCount ws }
   table : t′ ≡ withRows (takeLog (rowsOf (s .rows) t) ws) t
 
 left-table : (s : Summary) (t w : List ℕ) (next : Summary) → takenAnswer s t w ≡ Next next → takenTable (takenAnswer s t w) s t w ≡ withRows (rowsAfter s t w) t
@@ -133,7 +133,7 @@ unfolding takenTable
 left-table s t w next e = rw e
 
 left : (s : Summary) (t : List ℕ) (ws : Log) (s′ : Summary) (t′ : List ℕ) → ROW * s .rows ≤ length t → Takes s t ws s′ t′ → Left s t ws s′ t′
-unfolding Takes takeLog logEvents
+unfolding Takes takeLog eventCount
 left s t [] s′ t′ room takes =
     record {
       summary = takes .0 ∙ rw (length-rows, add-zero);
@@ -158,11 +158,11 @@ left s t (w ∷ ws) s′ t′ room takes =
     }
 
 -- a fresh table has one row, of zeros
-cleared-first : (m : ℕ) (t : List ℕ) → rowsOf 1 (cleared (ROW + m) t) ≡ newRow none ∷ []
+pub cleared-first : (m : ℕ) (t : List ℕ) → rowsOf 1 (cleared (ROW + m) t) ≡ newRow none ∷ []
 unfolding rowsOf rowAt cleared
 cleared-first m t = rw (← replicate-append-replicate {A = ℕ} ROW m 0)
 
-cleared-length : (k : ℕ) (t : List ℕ) → k ≤ length (cleared k t)
+pub cleared-length : (k : ℕ) (t : List ℕ) → k ≤ length (cleared k t)
 unfolding cleared
 cleared-length k t = rw (length-append, length-replicate) (omega arith)
 
@@ -179,7 +179,7 @@ unfolding freshTable
 fresh-left n t s e = rw e
 
 -- the words that were taken have events below n only
-each-below : (n : ℕ) (w : Word) → EventsBelow n w → Below n w
+pub each-below : (n : ℕ) (w : Word) → EventsBelow n w → Below n w
 each-below n (a ∷ w) h e (List·Memᴰ·head q) = subst (λ (x : ℕ). x < n) (sym q) (h 0 (omega arith))
 each-below n (a ∷ w) h e (List·Memᴰ·tail m) = each-below n w (λ k l. h (suc k) (suc-le-suc l)) e m
 
@@ -201,7 +201,7 @@ fresh-most n t s e =
     ltb-false _ _ (neither (ltb n 1) (ltb COUNTS n) (b .0) .1)
 
 -- there are as many rows as the log has distinct count vectors
-length-logRows : (n : ℕ) (log : Log) → n ≤ COUNTS → LogBelow n log → length (logRows log) ≡ length (rows n log)
+pub length-logRows : (n : ℕ) (log : Log) → n ≤ COUNTS → LogBelow n log → length (logRows log) ≡ length (rows n log)
 unfolding logRows
 length-logRows n log h below =
     let width : n + (COUNTS - n) ≡ COUNTS = omega arith in
@@ -212,7 +212,7 @@ length-logRows n log h below =
 -- THE LAW: from a fresh table, the words of a log leave its rows, zeros up to number 3,327, and the rest of a longer table untouched
 pub log-table : (n : ℕ) (t : List ℕ) (ws : Log) (s s′ : Summary) (t′ : List ℕ)
     → freshAnswer n t ≡ Next s → Takes s (freshTable (freshAnswer n t) t) ws s′ t′
-    → (s′ ≡ record { n = n; rows = length (rows n ws); events = logEvents ws }) × (t′ ≡ withRows (logRows ws) (cleared TABLE t))
+    → (s′ ≡ record { n = n; rows = length (rows n ws); events = eventCount ws }) × (t′ ≡ withRows (logRows ws) (cleared TABLE t))
 log-table n t ws s s′ t′ e takes =
     let most = fresh-most n t s e in
     let from : Takes (record { n = n; rows = 1; events = 0 }) (cleared TABLE t) ws s′ t′ = rw (fresh-left n t s e, fresh-is n t s e) at takes in

@@ -1,6 +1,6 @@
 // The log table and its summary: taking a log word by word. The contracts cite specs/Rows.antt and specs/Answers.antt.
-mod rows;
-mod words;
+pub mod rows; // a row found, appended, marked
+pub mod words; // a word taken
 
 use nets::COUNTS;
 use refusals::EVENTS;

@@ -1,12 +1,16 @@
 -- Laws for code that takes a log word by word: the prefixes, the rows and the allowed steps with one word more.
 use mathlib.Core.Path.{_≡_, refl, sym, ap, _∙_, subst}
 use mathlib.Core.Logic.{_↔_, _⊎_, inl, inr, ⊎-elim}
-use mathlib.Core.List.{List, [], _∷_, _++_, map, flatMap, foldl, append-nil, append-assoc, foldl-append, List·Memᴰ, List·Memᴰ·append-cases, Memᴰ·append-left, Memᴰ·append-right}
-use Prim.Native.Nat.{ℕ}
+use mathlib.Core.List.{List, [], _∷_, _++_, map, flatMap, foldl, append-nil, append-assoc, foldl-append, List·Memᴰ, Memᴰ·cast, List·Memᴰ·append-cases, Memᴰ·append-left, Memᴰ·append-right}
+use Prim.Native.Nat.{ℕ, _+_, _≤_}
+use native.Mathlib.Omega.{arith}
 use lib.Dec.{T}
+use lib.ListN.{length}
 use Rattle.laws.specs.Lists.{flatMap-append, map-append}
-use Rattle.nets.specs.Nets.{Word, Log, Step, counts, beginnings, prefixes, addRow, rows, allowed}
-use Rattle.nets.specs.Words.{Prefix, Begins, →beginning, beginning→, allowed→, →allowed}
+use Rattle.laws.specs.Distinct.{distinct-length-le}
+use Rattle.nets.specs.Nets.{Word, Log, Step, eventCount, counts, beginnings, prefixes, addRow, rows, allowed}
+use Rattle.nets.specs.Rows.{row→, →row, rows-distinct}
+use Rattle.nets.specs.Words.{Prefix, prefix→, empty-prefix, word-begins, Begins, →beginning, beginning→, allowed→, →allowed}
 
 module _ (log : Log) (w : Word) where
   pub prefixes-snoc : prefixes (log ++ w ∷ []) ≡ prefixes log ++ beginnings w
@@ -44,3 +48,21 @@ module _ (log : Log) (w : Word) where
 
       new : (u : Word) × (counts n u ≡ s .row) × Begins (u ++ s .event ∷ []) w → T (allowed n (log ++ w ∷ []) s)
       new f = →allowed n (log ++ w ∷ []) s (f .0, f .1, prefix-snoc (f .0 ++ s .event ∷ []) .1 (inr (f .2)))
+
+-- the events of two logs
+pub eventCount-append : (a c : Log) → eventCount (a ++ c) ≡ eventCount a + eventCount c
+unfolding eventCount
+eventCount-append [] c = omega arith
+eventCount-append (w ∷ a) c = omega (arith, eventCount-append a c)
+
+pub eventCount-snoc : (a : Log) (w : Word) → eventCount (a ++ w ∷ []) ≡ eventCount a + length w
+unfolding eventCount
+eventCount-snoc a w = omega (arith, eventCount-append a (w ∷ []))
+
+-- a longer log has the rows of its beginning
+pub prefixes-longer : (log more : Log) (u : Word) → Prefix log u → Prefix (log ++ more) u
+prefixes-longer log more u m = ⊎-elim (λ e. Memᴰ·cast e (empty-prefix (log ++ more))) (λ r. word-begins (log ++ more) (Memᴰ·append-left more (r .1)) u (r .2)) (prefix→ log u m)
+
+pub rows-longer : (n : ℕ) (log more : Log) → length (rows n log) ≤ length (rows n (log ++ more))
+rows-longer n log more = distinct-length-le (rows n log) (rows n (log ++ more)) (rows-distinct n log)
+    (λ v m. let r = row→ n log m in Memᴰ·cast (sym (r .2)) (→row n (log ++ more) (r .0) (prefixes-longer log more (r .0) (r .1))))

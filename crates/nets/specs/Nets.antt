@@ -74,6 +74,11 @@ unfoldable pub occurrences : ℕ → Word → ℕ
 occurrences i [] = 0
 occurrences i (a ∷ w) = same a i + occurrences i w
 
+-- the events of a log, counted
+unfoldable pub eventCount : Log → ℕ
+eventCount [] = 0
+eventCount (w ∷ log) = length w + eventCount log
+
 -- v(i)
 abbrev pub at : Counts → ℕ → ℕ
 at v i = getD v i 0

@@ -1,14 +1,16 @@
-// Inner functions on slices of bytes that several crates share: a number of two bytes, and a copy to a place.
+// Inner functions on slices of bytes that several crates share: a byte, a number of two bytes, and a copy to a place.
 ghost use mathlib.Core.Path.{_≡_};
 ghost use Prim.Native.Nat.{_+_, _≤_, _<_};
-ghost use lib.ListN.{length};
+ghost use lib.ListN.{length, getD};
 ghost use Rattle.laws.specs.Parts.{spliced};
 ghost use Rattle.laws.specs.Numbers.{numberAt};
 
-fn wide(byte: u8) -> usize
-    ensures { λ r. ⌜ (r ≡ byte) × (r < 256) ⌝ }
+// The byte at `at`.
+pub fn byte_at(bytes: &[u8], at: usize) -> usize
+    requires { ⌜ at < length (now bytes) ⌝ }
+    ensures { λ r. ⌜ (r ≡ getD (now (bytes .entry)) at 0) × (r < 256) ⌝ }
 {
-    byte as usize
+    bytes[at] as usize
 }
 
 // The number in the two bytes at `at`, the low byte first.
@@ -16,7 +18,7 @@ pub fn number_at(bytes: &[u8], at: usize) -> usize
     requires { ⌜ at + 1 < length (now bytes) ⌝ }
     ensures { λ r. ⌜ (r ≡ numberAt (now (bytes .entry)) at) × (r < 65536) ⌝ }
 {
-    wide(bytes[at]) + 256 * wide(bytes[at + 1])
+    byte_at(bytes, at) + 256 * byte_at(bytes, at + 1)
 }
 
 // Copies `piece` into `output` from `at` on.

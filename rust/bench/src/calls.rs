@@ -1,6 +1,9 @@
-//! The calls that are timed. A further one is a further entry in [`on_files`] or
-//! [`on_logs`].
+//! The calls that are timed. A further one is a further entry in [`on_files`],
+//! [`on_logs`] or [`on_bundles`].
 
+use differential::bundles::SAMPLE_A;
+use differential::limits::{Size, LARGEST, MIDDLE};
+use differential::rng::Rng;
 use hovmekhar::{
     Summary, CONTENTS_SIZE, MAX_BLOCKS, MAX_FILE_SIZE, MAX_LOG_EVENTS, MAX_ROWS, TABLE_SIZE,
 };
@@ -86,6 +89,33 @@ pub fn on_logs() -> Vec<Call<Log, u16>> {
     ]
 }
 
+/// Judging of bundles that are accepted.
+pub fn on_bundles() -> Vec<Call<Vec<u8>, u16>> {
+    vec![
+        Call {
+            name: "judge",
+            size: "53 bytes, 5 rows",
+            prepare: || with_table(SAMPLE_A.to_vec()),
+            ours: judge_ours,
+            reference: judge_reference,
+        },
+        Call {
+            name: "judge",
+            size: "1,630 bytes, 43 rows",
+            prepare: || with_table(bundle_of(MIDDLE)),
+            ours: judge_ours,
+            reference: judge_reference,
+        },
+        Call {
+            name: "judge",
+            size: "64,512 bytes, 256 rows",
+            prepare: || with_table(bundle_of(LARGEST)),
+            ours: judge_ours,
+            reference: judge_reference,
+        },
+    ]
+}
+
 fn open_ours(buffers: &mut Buffers<Vec<u8>, u8>) -> Option<usize> {
     hovmekhar::open(black_box(&buffers.input), black_box(&mut buffers.output)).ok()
 }
@@ -146,8 +176,8 @@ fn log_reference(buffers: &mut Buffers<Log, u16>) -> Option<usize> {
     Some(summary.rows)
 }
 
-/// A log and a table.
-fn with_table(input: Log) -> Buffers<Log, u16> {
+/// An input, and a table that is long enough for every call.
+fn with_table<I>(input: I) -> Buffers<I, u16> {
     Buffers {
         input,
         output: vec![0; TABLE_SIZE],
@@ -193,4 +223,22 @@ fn long_words() -> Log {
         n: 12,
         words: vec![[word, backwards]; 4].concat(),
     }
+}
+
+/// Judges, and returns the sum of the counts.
+fn judge_ours(buffers: &mut Buffers<Vec<u8>, u16>) -> Option<usize> {
+    let bundle = black_box(&buffers.input);
+    let counts = hovmekhar::judge(bundle, black_box(&mut buffers.output)).ok()?;
+    Some(counts.rows + counts.allowed + counts.by_place + counts.by_weights)
+}
+
+fn judge_reference(buffers: &mut Buffers<Vec<u8>, u16>) -> Option<usize> {
+    let bundle = black_box(&buffers.input);
+    let counts = reference::judge(bundle, black_box(&mut buffers.output)).ok()?;
+    Some(counts.rows + counts.allowed + counts.by_place + counts.by_weights)
+}
+
+/// A bundle of this size, the same in every run.
+fn bundle_of(size: Size) -> Vec<u8> {
+    size.certified(&mut Rng::new(0)).bundle.bytes()
 }

@@ -15,7 +15,8 @@ fn main() {
     println!("Time of one call in nanoseconds: the median of {ROUNDS} rounds, ours and the");
     println!("reference in turn. Both get the same buffers, allocated once and not cleared");
     println!("between calls. A log is a fresh table and then all of its words, one by one. The");
-    println!("ratio is ours / reference; below 1 ours is faster.");
+    println!("bundles that are judged are accepted. The ratio is ours / reference; below 1 ours");
+    println!("is faster.");
     println!();
     println!(
         "{:<5} {:<31} {:>10} {:>10} {:>6}",
@@ -25,6 +26,9 @@ fn main() {
         print(&call);
     }
     for call in calls::on_logs() {
+        print(&call);
+    }
+    for call in calls::on_bundles() {
         print(&call);
     }
 }

@@ -6,6 +6,13 @@
 //! - [`files`]: bundles and sound files.
 //! - [`faults`]: files that have to be refused.
 //! - [`logs`]: logs and log tables.
+//! - [`bundles`]: bundles and their fields.
+//! - [`nets`]: nets and certificates for logs, with the method of [`simplex`].
+//! - [`limits`]: bundles up to the limits.
+//! - [`bundle_faults`]: bundles that have to be refused.
+//! - [`judging`]: judging, by the definitions.
+//! - [`samples`]: the files in `samples/`.
+//! - [`vectors`]: cases with their answers, from a file.
 //! - [`guarded`]: lent buffers with guards on both sides.
 //! - [`run`]: makes each call on both sides, compares, and counts.
 //!
@@ -18,9 +25,17 @@
 #![forbid(unsafe_code)]
 #![deny(missing_docs)]
 
+pub mod bundle_faults;
+pub mod bundles;
 pub mod faults;
 pub mod files;
 pub mod guarded;
+pub mod judging;
+pub mod limits;
 pub mod logs;
+pub mod nets;
 pub mod rng;
 pub mod run;
+pub mod samples;
+pub mod simplex;
+pub mod vectors;

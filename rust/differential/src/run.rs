@@ -4,7 +4,7 @@ use crate::guarded::Guarded;
 use crate::logs::{ROW, TABLE};
 use crate::rng::{Item, Rng};
 use hovmekhar::ffi;
-use reference::{Refusal, Summary};
+use reference::{Counts, Refusal, Summary};
 use std::collections::BTreeMap;
 use std::time::{SystemTime, UNIX_EPOCH};
 use std::{env, fmt};
@@ -34,7 +34,15 @@ pub struct Taken {
     pub table: Vec<u16>,
 }
 
-/// What a result allows a call to write.
+/// What judging a bundle did, the same on both sides.
+pub struct Judged {
+    /// The answer.
+    pub outcome: Outcome<Counts>,
+    /// The whole table after the call.
+    pub table: Vec<u16>,
+}
+
+/// What an answer allows a call to write.
 struct Written {
     /// The numbers of the answer, from `answer[0]` on.
     answer: Vec<u64>,
@@ -54,6 +62,21 @@ impl Written {
         Self {
             answer: [n, rows, events].map(|number| number as u64).to_vec(),
             items,
+        }
+    }
+
+    fn counts(counts: &Counts) -> Self {
+        let &Counts {
+            rows,
+            allowed,
+            by_place,
+            by_weights,
+        } = counts;
+        Self {
+            answer: [rows, allowed, by_place, by_weights]
+                .map(|number| number as u64)
+                .to_vec(),
+            items: TABLE,
         }
     }
 }
@@ -102,16 +125,28 @@ impl Run {
     /// Opens on both sides and compares.
     pub fn open(&mut self, file: &[u8], output_len: usize) -> Done {
         let noise = self.rng.bytes(output_len);
-        let (outcome, output) =
-            self.compare(file, noise, ffi::open, reference::open, Written::length);
+        let (outcome, output) = self.compare(
+            file,
+            noise,
+            ffi::open,
+            reference::open,
+            Written::length,
+            nothing,
+        );
         Done { outcome, output }
     }
 
     /// Seals on both sides and compares.
     pub fn seal(&mut self, bundle: &[u8], output_len: usize) -> Done {
         let noise = self.rng.bytes(output_len);
-        let (outcome, output) =
-            self.compare(bundle, noise, ffi::seal, reference::seal, Written::length);
+        let (outcome, output) = self.compare(
+            bundle,
+            noise,
+            ffi::seal,
+            reference::seal,
+            Written::length,
+            nothing,
+        );
         Done { outcome, output }
     }
 
@@ -123,6 +158,7 @@ impl Run {
             |_, table, answer| ffi::fresh(n, table, answer),
             |_, table| reference::fresh(n, table),
             |summary| Written::summary(summary, TABLE),
+            nothing,
         );
         Taken { outcome, table }
     }
@@ -136,15 +172,32 @@ impl Run {
             |word, table, answer| ffi::take(n, rows, events, word, table, answer),
             |word, table| reference::take(summary, word, table),
             |next| Written::summary(next, next.rows * ROW),
+            nothing,
         );
         Taken { outcome, table }
     }
 
+    /// Judges a bundle on both sides, with copies of this table, and compares.
+    pub fn judge(&mut self, bundle: &[u8], table: &[u16]) -> Judged {
+        let (outcome, table) = self.compare(
+            bundle,
+            table.to_vec(),
+            ffi::judge,
+            reference::judge,
+            Written::counts,
+            |refused| match refused.number {
+                4 | 5 => 0,
+                _ => TABLE,
+            },
+        );
+        Judged { outcome, table }
+    }
+
     /// Makes one call on both sides, with equal inputs and outputs, and compares
     /// the answers and every item of the outputs. Nothing may have changed but
-    /// what the result allows; a refusal may only write `answer[0]`. Inputs and
-    /// outputs are anywhere in memory, bytes also at odd addresses. A table counts
-    /// as output.
+    /// what the result allows; a refusal may only write `answer[0]`, and as many
+    /// items at the front of the output as `refused` says. Inputs and outputs are
+    /// anywhere in memory, bytes also at odd addresses. A table counts as output.
     fn compare<T: Item, R>(
         &mut self,
         input: &[u8],
@@ -152,6 +205,7 @@ impl Run {
         ours: impl FnOnce(&[u8], &mut [T], &mut ffi::Answer) -> u32,
         reference: impl FnOnce(&[u8], &mut [T]) -> Outcome<R>,
         written: impl FnOnce(&R) -> Written,
+        refused: impl FnOnce(&Refusal) -> usize,
     ) -> (Outcome<R>, Vec<T>) {
         self.calls += 1;
         let input = self.guarded(input);
@@ -167,11 +221,11 @@ impl Run {
         let outcome = reference(input.lent(), &mut reference_output);
         let (reference_number, written) = match &outcome {
             Ok(result) => (0, written(result)),
-            Err(Refusal { number, spot }) => (
-                *number,
+            Err(refusal) => (
+                refusal.number,
                 Written {
-                    answer: vec![*spot as u64],
-                    items: 0,
+                    answer: vec![refusal.spot as u64],
+                    items: refused(refusal),
                 },
             ),
         };
@@ -272,6 +326,11 @@ impl fmt::Display for Run {
             self.name, self.seed, self.multiplier, self.calls
         )
     }
+}
+
+/// How many items a refusal writes, except where the judge clears the table.
+fn nothing(_: &Refusal) -> usize {
+    0
 }
 
 /// Output lengths worth trying with a result of this length: none, too short by

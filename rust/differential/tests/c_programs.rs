@@ -82,11 +82,35 @@ fn log_table() {
 }
 
 #[test]
+fn judging() {
+    assert_eq!(
+        run("judge"),
+        "accepted: 0, 5 4 5 1, table with rows\n\
+         counts 0 0, mask 3\n\
+         counts 0 1, mask 0\n\
+         counts 1 0, mask 1\n\
+         counts 2 0, mask 2\n\
+         counts 2 1, mask 0\n\
+         empty: 4, 0 7 7 7, table as it was\n\
+         short table: 5, 3328 7 7 7, table as it was\n\
+         cut: 6, 52 7 7 7, table zero\n\
+         k = 0: 7, 4 7 7 7, table zero\n\
+         too many events: 8, 1026 7 7 7, table zero\n\
+         too many rows: 9, 258 7 7 7, table zero\n\
+         place does not fit: 10, 0 7 7 7, table zero\n\
+         place permits: 11, 0 7 7 7, table zero\n\
+         no terms: 12, 0 7 7 7, table zero\n\
+         a byte more: 13, 11 7 7 7, table zero\n"
+    );
+}
+
+#[test]
 fn pages_around_the_buffers_are_not_touched() {
     assert_eq!(
         run("pages"),
         "1280 calls on files\n\
-         5100 calls on tables\n"
+         5100 calls on tables\n\
+         2196 judged\n"
     );
 }
 

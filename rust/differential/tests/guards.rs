@@ -1,5 +1,6 @@
 //! Guards around every lent buffer, at every alignment.
 
+use differential::bundles::one_for_each_answer;
 use differential::files::{build, bundle_length, BLOCK, CONTENTS};
 use differential::guarded::Guarded;
 use differential::logs::TABLE;
@@ -170,4 +171,55 @@ fn guards_of_tables_stay_as_they_were() {
     }
     // For each of 64 alignments each of the 12 cases twice.
     run.finish(&[(0, 512), (5, 384), (7, 128), (8, 128), (9, 128), (16, 256)]);
+}
+
+/// Each bundle with tables that are long enough, longer and too short. The noise
+/// is longer than any table.
+fn judge_cases<'a>(noise: &'a [u16], bundle: &'a [u8], number: u8) -> [Case<'a, u16>; 4] {
+    let case = |length, number| Case {
+        call: Box::new(ffi::judge),
+        input: bundle,
+        output: &noise[..length],
+        number,
+        answered: if number == 0 { 4 } else { 1 },
+        written: if [4, 5].contains(&number) { 0 } else { TABLE },
+    };
+    let with_short_table = if number == 4 { 4 } else { 5 };
+    [
+        case(TABLE, number),
+        case(TABLE + 9, number),
+        case(TABLE - 1, with_short_table),
+        case(0, with_short_table),
+    ]
+}
+
+#[test]
+fn guards_of_judging_stay_as_they_were() {
+    let mut run = Run::start("guards_of_judging_stay_as_they_were");
+    for alignment in 0..ALIGNMENTS {
+        let noise: Vec<u16> = run.rng.items(TABLE + 9);
+        for (bundle, outcome) in one_for_each_answer() {
+            let number = outcome.map_or_else(|refused| refused.number, |_| 0);
+            for case in judge_cases(&noise, &bundle, number) {
+                let this = ALIGNMENTS + alignment;
+                let other = ALIGNMENTS + run.rng.below(ALIGNMENTS);
+                call_between_guards(&mut run, &case, this, other);
+                call_between_guards(&mut run, &case, other, this);
+            }
+        }
+    }
+    // For each of 64 alignments each of the 10 bundles with 4 tables, all twice.
+    run.finish(&[
+        (0, 256),
+        (4, 512),
+        (5, 2_304),
+        (6, 256),
+        (7, 256),
+        (8, 256),
+        (9, 256),
+        (10, 256),
+        (11, 256),
+        (12, 256),
+        (13, 256),
+    ]);
 }

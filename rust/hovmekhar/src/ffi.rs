@@ -35,6 +35,14 @@ unsafe extern "C" {
         table_len: usize,
         answer: *mut u64,
     ) -> u32;
+
+    fn hov_judge(
+        bundle: *const u8,
+        bundle_len: usize,
+        table: *mut u16,
+        table_len: usize,
+        answer: *mut u64,
+    ) -> u32;
 }
 
 /// Calls `hov_open`.
@@ -93,6 +101,22 @@ pub fn take(
             events,
             word.as_ptr(),
             word.len(),
+            table.as_mut_ptr(),
+            table.len(),
+            answer.as_mut_ptr(),
+        )
+    }
+}
+
+/// Calls `hov_judge`.
+pub fn judge(bundle: &[u8], table: &mut [u16], answer: &mut Answer) -> u32 {
+    // SAFETY: As for `hov_open`, with the bundle in place of the file and the
+    // table in place of the output. The table's length is in numbers, and any
+    // contents of it are allowed.
+    unsafe {
+        hov_judge(
+            bundle.as_ptr(),
+            bundle.len(),
             table.as_mut_ptr(),
             table.len(),
             answer.as_mut_ptr(),

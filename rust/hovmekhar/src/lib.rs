@@ -1,4 +1,5 @@
-//! Opens and seals files, and keeps log tables, with the proved static library.
+//! Opens and seals files, keeps log tables and judges bundles, with the proved
+//! static library.
 //!
 //! A *sealed file* is 1 to 128 blocks of 512 bytes, each with its number, its
 //! used count, 504 bytes of contents and two checksums. The used contents of
@@ -9,7 +10,12 @@
 //! distinct count vector of a beginning of a word, with the events that follow
 //! there. [`Summary::fresh`] starts a log, [`Summary::take`] takes a further word.
 //!
-//! A call that cannot give a result returns a [`Refusal`] and writes nothing.
+//! A bundle holds a log, a net of places, and a certificate for each *wrong
+//! continuation*: each event that does not follow the counts of a row in the log.
+//! [`judge`] accepts it when the net permits the log and every certificate holds.
+//!
+//! A call that cannot give a result returns a [`Refusal`] and writes nothing; only
+//! [`judge`] clears the table.
 //!
 //! ```
 //! use hovmekhar::Refusal;
@@ -40,10 +46,12 @@ mod blocks;
 #[allow(unsafe_code)]
 #[doc(hidden)]
 pub mod ffi;
+mod judging;
 mod logs;
 mod refusal;
 
 pub use blocks::{open, open_vec, seal, seal_vec};
 pub use blocks::{BLOCK_SIZE, CONTENTS_SIZE, MAX_BLOCKS, MAX_BUNDLE_SIZE, MAX_FILE_SIZE};
+pub use judging::{judge, judge_vec, Counts};
 pub use logs::{Summary, MAX_EVENTS, MAX_LOG_EVENTS, MAX_ROWS, ROW_SIZE, TABLE_SIZE};
 pub use refusal::Refusal;

@@ -9,7 +9,7 @@ use std::ops::Range;
 const BLOCK: usize = 512;
 const CONTENTS: usize = 504;
 const MAX_FILE: usize = 128 * BLOCK;
-const MAX_BUNDLE: usize = 128 * CONTENTS;
+pub(crate) const MAX_BUNDLE: usize = 128 * CONTENTS;
 
 const NUMBER: Range<usize> = 0..2;
 const USED: Range<usize> = 2..4;

@@ -7,12 +7,12 @@ use crate::Refusal;
 use std::collections::HashMap;
 use std::iter;
 
-const MAX_N: usize = 12;
-const MASK: usize = MAX_N;
-const ROW: usize = MAX_N + 1;
-const MAX_ROWS: usize = 256;
+pub(crate) const MAX_N: usize = 12;
+pub(crate) const MASK: usize = MAX_N;
+pub(crate) const ROW: usize = MAX_N + 1;
+pub(crate) const MAX_ROWS: usize = 256;
 const TABLE: usize = MAX_ROWS * ROW;
-const MAX_EVENTS: usize = 1_024;
+pub(crate) const MAX_EVENTS: usize = 1_024;
 
 /// How long a word is when it is worth a map of all rows. For a shorter one it is
 /// faster to compare each prefix with the rows.
@@ -138,7 +138,7 @@ fn prefixes(word: &[u8]) -> impl Iterator<Item = Counts> + '_ {
 }
 
 /// The part of a table that the rows can fill.
-fn front(table: &mut [u16]) -> Result<&mut [u16], Refusal> {
+pub(crate) fn front(table: &mut [u16]) -> Result<&mut [u16], Refusal> {
     table.get_mut(..TABLE).ok_or(Refusal {
         number: 5,
         spot: TABLE,

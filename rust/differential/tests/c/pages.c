@@ -153,6 +153,38 @@ static void make_table_calls(const uint8_t *events, size_t word_len)
     make_take(HOV_MAX_ROWS - word_len, 0, word, word_len - 1, HOV_TABLE_SIZE, 0);
 }
 
+/* Judges a bundle, which has to return this number. */
+static void make_judge(const uint8_t *bundle, size_t bundle_len, size_t table_len, uint32_t number)
+{
+    uint8_t *lent = lend(input_pages, bundle_len, at_end);
+    uint64_t answer[4] = {0};
+
+    memcpy(lent, bundle, bundle_len);
+    protect(input_pages, PROT_READ);
+    if (hov_judge(lent, bundle_len, lend_table(table_len), table_len, answer) != number) {
+        fail("another number than expected");
+    }
+    protect(input_pages, PROT_READ | PROT_WRITE);
+    calls++;
+}
+
+/* Judges an accepted bundle, every beginning of it, and with a byte more. */
+static void make_judge_calls(const uint8_t *bundle, size_t bundle_len)
+{
+    static uint8_t longer[HOV_MAX_BUNDLE_SIZE + 1];
+    memcpy(longer, bundle, bundle_len);
+
+    make_judge(bundle, bundle_len, HOV_TABLE_SIZE, 0);
+    for (size_t length = 1; length < bundle_len; length++) {
+        make_judge(bundle, length, HOV_TABLE_SIZE, HOV_BUNDLE_END);
+    }
+    make_judge(longer, bundle_len + 1, HOV_TABLE_SIZE, HOV_BYTES_FOLLOW);
+    make_judge(longer, sizeof longer, HOV_TABLE_SIZE, HOV_BUNDLE_LENGTH);
+    make_judge(bundle, 0, HOV_TABLE_SIZE, HOV_BUNDLE_LENGTH);
+    make_judge(bundle, bundle_len, HOV_TABLE_SIZE - 1, HOV_TABLE_SHORT);
+    make_judge(bundle, bundle_len, 0, HOV_TABLE_SHORT);
+}
+
 int main(void)
 {
     static uint8_t bundle[HOV_MAX_BUNDLE_SIZE];
@@ -185,5 +217,27 @@ int main(void)
         make_table_calls(events, word_len);
     }
     printf("%u calls on tables\n", calls);
+
+    calls = 0;
+    /* Certificates of both kinds. */
+    const uint8_t both_kinds[] = {
+        2, 2, 1, 1, 3, 0, 0, 1, 2, 1, 0, 1, 0, 0, 0, 1, 0, 1, 0, 2, 0, 0, 0, 0, 0, 1, 0,
+        0, 0, 0, 0, 0, 0, 1, 2, 0, 2, 0, 0, 1, 1, 0, 3, 0, 1, 1, 0, 0, 1, 0, 0, 0, 0,
+    };
+    /* Four words of 255 events, and so all rows of the table; then a place with
+       255 tokens, of which the event takes one. */
+    static uint8_t all_rows[2 + 4 * 256 + 9] = {1, 4};
+    for (size_t word = 0; word < 4; word++) {
+        all_rows[2 + word * 256] = 255;
+    }
+    const uint8_t place[] = {1, 255, 0, 0, 0, 1, 0, 0, 0};
+    memcpy(all_rows + 2 + 4 * 256, place, sizeof place);
+    at_end = false;
+    make_judge_calls(both_kinds, sizeof both_kinds);
+    make_judge_calls(all_rows, sizeof all_rows);
+    at_end = true;
+    make_judge_calls(both_kinds, sizeof both_kinds);
+    make_judge_calls(all_rows, sizeof all_rows);
+    printf("%u judged\n", calls);
     return 0;
 }

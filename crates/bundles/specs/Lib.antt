@@ -1,0 +1,12 @@
+pub mod Reading
+pub mod Layout
+pub mod Readers
+pub mod ReadingLaws
+pub mod LayoutLaws
+pub mod Limits
+pub mod FieldSteps
+pub mod WordSteps
+pub mod NumberSteps
+pub mod PlaceSteps
+pub mod TermSteps
+pub mod HeadSteps

@@ -1,0 +1,142 @@
+-- Places: their bytes, the code's struct, and what the code keeps of a list of places.
+use mathlib.Core.Path.{_≡_, refl, sym, ap, _∙_}
+use mathlib.Core.Logic.{_⊎_, inl, inr}
+use mathlib.Core.List.{List, [], _∷_, _++_, append-assoc}
+use Prim.Native.Nat.{ℕ, zero, suc, _+_, _-_, _*_, _≤_, _<_}
+use native.Mathlib.Nat.{mul-one}
+use native.Mathlib.Numerals.{add-one}
+use native.Mathlib.Omega.{arith}
+use lib.Dec.{leb}
+use borrow.Author.Tests.{leb-true}
+use lib.ListN.{length, getD, replicate, set, length-append}
+use lib.Seq.{set-append-seam}
+use Rattle.nets.specs.declared.Place.{Place}
+use Rattle.refusals.specs.Table.{BUNDLE-END}
+use Rattle.bundles.specs.Reading.{Read, got, failed, Reader, andThen, _>>=_, give, byte, number, times}
+use Rattle.bundles.specs.Layout.{PlaceFields}
+use Rattle.bundles.specs.Readers.{anything, place, places}
+use Rattle.laws.specs.Numbers.{numberAt}
+use Rattle.bundles.specs.FieldSteps.{upTo, byte-got}
+use Rattle.bundles.specs.WordSteps.{andThen-got}
+use Rattle.bundles.specs.NumberSteps.{lt-or-ge, Spans, spans-number, spans-give, spans-same, spans-then, spans-times, numbersLeft, itemsAt, items-length, items-snoc}
+use Rattle.bundles.specs.declared.PlacesRead.{PlacesRead}
+use Rattle.bundles.specs.declared.PlacesRead.the-variants as places-read
+
+-- ---- one place
+
+-- the numbers of a place of n events: m, and two for each event
+abbrev pub placeSize : ℕ → ℕ
+placeSize n = 1 + 2 * n
+
+-- n numbers from an offset on
+abbrev pub numbersAt : ℕ → List ℕ → ℕ → List ℕ
+numbersAt n b at = itemsAt 1 numberAt n b at
+
+abbrev pub fieldsAt : ℕ → List ℕ → ℕ → PlaceFields
+fieldsAt n b at = record { initial = numberAt b at; produced = numbersAt n b (at + 2); consumed = numbersAt n b (at + 2 + 2 * n) }
+
+pub spans-place : (n : ℕ) → Spans (place n) (placeSize n) (fieldsAt n)
+unfolding place
+spans-place n = spans-same (omega (arith, mul-one n)) (λ b at. rw (mul-one n)) (spans-then spans-number (λ m. spans-then numbers (λ ins. spans-then numbers (λ outs. spans-give (record { initial = m; produced = ins; consumed = outs })))))
+  where
+    numbers : Spans (times n (number anything)) (n * 1) (numbersAt n)
+    numbers = spans-times 1 numberAt spans-number n
+
+-- twelve numbers, zero behind those given
+unfoldable pub padded : List ℕ → List ℕ
+padded xs = xs ++ replicate (12 - length xs) 0
+
+-- the code's place
+unfoldable pub machinePlace : PlaceFields → Place
+machinePlace p = record { initial = p .initial; produced = padded (p .produced); consumed = padded (p .consumed) }
+
+-- one number more
+padded-set : (xs : List ℕ) (x : ℕ) → length xs < 12 → set (padded xs) (length xs) x ≡ padded (xs ++ x ∷ [])
+unfolding padded
+padded-set xs x h = go (12 - length xs) (12 - length (xs ++ x ∷ [])) (omega (arith, length-append xs (x ∷ [])))
+  where
+    go : (k j : ℕ) → k ≡ suc j → set (xs ++ replicate k 0) (length xs) x ≡ (xs ++ x ∷ []) ++ replicate j 0
+    go k j e = rw e (set-append-seam xs 0 (replicate j 0) x ∙ sym (append-assoc xs (x ∷ []) (replicate j 0)))
+
+-- a row, filled number by number
+module _ (b : List ℕ) (at : ℕ) where
+  pub row-start : padded (numbersAt 0 b at) ≡ replicate 12 0
+  unfolding padded itemsAt
+  row-start = refl
+
+  pub row-next : (i : ℕ) → i < 12 → set (padded (numbersAt i b at)) i (numberAt b (at + 2 * i)) ≡ padded (numbersAt (i + 1) b at)
+  row-next i h =
+      let size = items-length 1 numberAt i b at in
+      ap (λ (k : ℕ). set (padded (numbersAt i b at)) k (numberAt b (at + 2 * i))) (sym size)
+      ∙ padded-set (numbersAt i b at) (numberAt b (at + 2 * i)) (omega arith)
+      ∙ ap padded (sym (rw add-one (items-snoc 1 numberAt i b at ∙ rw (mul-one i))))
+
+-- a place of zeros
+abbrev pub noPlace : Place
+noPlace = record { initial = 0; produced = replicate 12 0; consumed = replicate 12 0 }
+
+-- the place that was read, or one of zeros
+unfoldable pub placeIn : Read PlaceFields → Place
+placeIn (got f next) = machinePlace f
+placeIn (failed number spot) = noPlace
+
+module _ (n : ℕ) (b : List ℕ) (at : ℕ) where
+  pub place-missing : numbersLeft b at < placeSize n → place n b at ≡ failed BUNDLE-END (at + 2 * numbersLeft b at)
+  place-missing h = spans-place n .missing b at h
+
+  pub place-there : placeSize n ≤ numbersLeft b at → place n b at ≡ got (fieldsAt n b at) (at + 2 * placeSize n)
+  place-there h = spans-place n .there b at h
+
+-- ---- the places of a bundle
+
+-- their count, the offset of the first, and the offset behind the last
+unfoldable pub placesRead : ℕ → Read (List PlaceFields) → PlacesRead
+placesRead n (got ps next) = places-read.Read (record { count = length ps; first = next - 2 * (length ps * placeSize n); next = next })
+placesRead n (failed number spot) = places-read.Refused (record { number = number; spot = spot })
+
+module _ (n : ℕ) (b : List ℕ) (at : ℕ) where
+  pub places-failed : {number spot : ℕ} → byte (upTo 64) b at ≡ failed number spot → places n b at ≡ failed number spot
+  unfolding places andThen
+  places-failed e = rw (e)
+
+  module _ {count first : ℕ} (e : byte (upTo 64) b at ≡ got count first) where
+    pub places-missing : numbersLeft b first < count * placeSize n → places n b at ≡ failed BUNDLE-END (first + 2 * numbersLeft b first)
+    unfolding places andThen
+    places-missing h = rw (e) (spans-times (placeSize n) (fieldsAt n) (spans-place n) count .missing b first h)
+
+    pub places-there : count * placeSize n ≤ numbersLeft b first → places n b at ≡ got (itemsAt (placeSize n) (fieldsAt n) count b first) (first + 2 * (count * placeSize n))
+    unfolding places andThen
+    places-there h = rw (e) (spans-times (placeSize n) (fieldsAt n) (spans-place n) count .there b first h)
+
+    pub places-kept : count * placeSize n ≤ numbersLeft b first → placesRead n (places n b at) ≡ places-read.Read (record { count = count; first = first; next = first + 2 * (count * placeSize n) })
+    unfolding placesRead
+    places-kept h =
+        let size = items-length (placeSize n) (fieldsAt n) count b first in
+        let start : first + 2 * (count * placeSize n) - 2 * (count * placeSize n) ≡ first = omega arith in
+        ap (placesRead n) (places-there h) ∙ rw (size, start)
+
+-- places that were read: so many, one behind the other
+pub record PlacesAt (n : ℕ) (b : List ℕ) (ps : List PlaceFields) (next : ℕ) : Type 0 where
+  pub count : ℕ
+  pub few : count ≤ 64
+  pub first : ℕ
+  pub items : ps ≡ itemsAt (placeSize n) (fieldsAt n) count b first
+  pub end : next ≡ first + 2 * (count * placeSize n)
+  pub within : next ≤ length b
+
+pub places-got : (n : ℕ) (b : List ℕ) (at : ℕ) (ps : List PlaceFields) (next : ℕ) → places n b at ≡ got ps next → PlacesAt n b ps next
+unfolding places
+places-got n b at ps next e =
+    let m = andThen-got b (byte (λ k. leb k 64) b at) (λ count. times count (place n)) ps next e in
+    let counted = byte-got (λ k. leb k 64) b at (m .0) (m .1) (m .2) in
+    go (m .0) (m .1) (m .3) (leb-true (m .0) 64 (counted .0)) (counted .3) (lt-or-ge (numbersLeft b (m .1)) (m .0 * placeSize n))
+  where
+    go : (count first : ℕ) → times count (place n) b first ≡ got ps next → count ≤ 64 → first ≤ length b
+        → (numbersLeft b first < count * placeSize n) ⊎ (count * placeSize n ≤ numbersLeft b first) → PlacesAt n b ps next
+    go count first r few h (inl less) =
+        let failed = spans-times (placeSize n) (fieldsAt n) (spans-place n) count .missing b first less in
+        absurd (let z : _≡_ {A = ℕ} 0 1 = cc in omega arith)
+    go count first r few h (inr there) =
+        let read = spans-times (placeSize n) (fieldsAt n) (spans-place n) count .there b first there in
+        let end : next ≡ first + 2 * (count * placeSize n) = cc in
+        record { count = count; few = few; first = first; items = (cc); end = end; within = omega arith }

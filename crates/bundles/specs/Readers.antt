@@ -1,0 +1,85 @@
+-- The readers of a bundle's fields, in the order of the layout: what each field is, and which refusal it gets.
+use mathlib.Core.Bool.{Bool, true, _&&_}
+use mathlib.Core.List.{List, [], _∷_, _++_}
+use Prim.Native.Nat.{ℕ, zero, suc, _+_}
+use lib.Dec.{leb, ltb}
+use lib.ListN.{length}
+use Rattle.refusals.specs.Table.{EVENTS, ROWS}
+use Rattle.nets.specs.Nets.{Word, Log, eventCount, rows}
+use Rattle.bundles.specs.Reading.{Reader, _>>=_, _>>_, give, offset, require, byte, number, following, times}
+use Rattle.bundles.specs.Layout.{PlaceFields, TermFields, CertificateFields, kind0, kind1, Head}
+
+-- any value
+abbrev pub anything : ℕ → Bool
+anything x = true
+
+-- a word, behind so many events: its length byte; 8; its events one by one
+unfoldable pub wordAfter : ℕ → ℕ → Reader Word
+wordAfter n count = do
+  start ← offset
+  size ← byte anything
+  require (leb (count + size) 1024) EVENTS start
+  times size (byte (λ e. ltb e n))
+
+-- a word, behind those of `log`, and 9 where its rows do not fit
+unfoldable pub word : (Log → Bool) → ℕ → Log → Reader Word
+word rowsFit n log = do
+  start ← offset
+  w ← wordAfter n (eventCount log)
+  require (rowsFit (log ++ w ∷ [])) ROWS start
+  give w
+
+-- a place: m, then n numbers in(i), then n numbers out(i)
+unfoldable pub place : ℕ → Reader PlaceFields
+place n = do
+  m ← number anything
+  ins ← times n (number anything)
+  outs ← times n (number anything)
+  give (record { initial = m; produced = ins; consumed = outs })
+
+-- the place count, and the places
+unfoldable pub places : ℕ → Reader (List PlaceFields)
+places n = do
+  count ← byte (λ k. leb k 64)
+  times count (place n)
+
+-- a bundle up to its last place, with a test of the rows of each log so far
+unfoldable pub head : (ℕ → Log → Bool) → Reader Head
+head rowsFit = do
+  n ← byte (λ n. leb 1 n && leb n 12)
+  count ← byte anything
+  log ← following count (word (rowsFit n) n)
+  ps ← places n
+  give (record { events = n; log = log; places = ps })
+
+-- screening does not count rows
+abbrev pub anyRows : ℕ → Log → Bool
+anyRows n log = true
+
+-- a term: a row, an event, a weight
+unfoldable pub term : ℕ → ℕ → Reader TermFields
+term n rowCount = do
+  row ← number (λ r. ltb r rowCount)
+  event ← byte (λ e. ltb e n)
+  weight ← number anything
+  give (record { row = row; event = event; weight = weight })
+
+-- k, the term count and the terms
+unfoldable pub weights : ℕ → ℕ → Reader CertificateFields
+weights n rowCount = do
+  k ← number (leb 1)
+  count ← byte (λ c. leb c 64)
+  ts ← times count (term n rowCount)
+  give (kind1 k ts)
+
+-- what follows the kind: a place number, or weights
+unfoldable pub ofKind : Head → ℕ → Reader CertificateFields
+ofKind h zero = do
+  j ← byte (λ j. ltb j (length (h .places)))
+  give (kind0 j)
+ofKind h (suc _) = weights (h .events) (length (rows (h .events) (h .log)))
+
+unfoldable pub certificate : Head → Reader CertificateFields
+certificate h = do
+  kind ← byte (λ kind. leb kind 1)
+  ofKind h kind

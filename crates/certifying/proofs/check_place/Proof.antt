@@ -1,0 +1,83 @@
+-- `certifying::check_place` meets its contract: the place is read from its bytes and tested with the counts of the row.
+use mathlib.Core.Path.{_≡_, sym, ap, _∙_}
+use Prim.Native.Nat.{_+_, _*_, _≤_}
+use native.Mathlib.Nat.{add-sub-cancel-left}
+use native.Mathlib.Omega.{arith}
+use borrow.Author.Needs.{needs}
+use borrow.Author.Tests.{ltb-true}
+use lib.ListN.{length, drop}
+use Rattle.bundles.specs.Reading.{got, byte}
+use Rattle.bundles.specs.FieldSteps.{readOf, below, byte-got}
+use Rattle.bundles.specs.PlaceSteps.{placeSize}
+use Rattle.logs.specs.Rows.{ROW, rowAt}
+use Rattle.certifying.specs.Certifying.{permitsAt}
+use Rattle.certifying.specs.CheckLaws.{place-inside, place-permitted, place-refused, place-unread}
+use Rattle.certifying.proofs.check_place.Statement.{statement}
+use Rattle.certifying.proofs.check_place.Tie as tie
+
+-- the place's number
+number : (c : tie.After-j) → let a = c .before .before .before .before .before .args in byte (below (a .places .count)) (a .bundle .now) (a .at) ≡ got (c .j .given .0 .0) (c .j .given .0 .1 .0)
+unfolding readOf
+number c = sym (c .before .before .byte-below .ensures) ∙ ap readOf (c .j .given .1)
+
+-- the place lies in the bundle
+inside : (c : tie.After-j) → let a = c .before .before .before .before .before .args in a .places .first + 2 * (c .j .given .0 .0 * placeSize (a .n)) + 2 * placeSize (a .n) ≤ length (a .bundle .now)
+inside c =
+    let start = c .before .before .before .before .before in
+    place-inside (start .args .n) (start .args .places .first) (start .args .places .count) (c .j .given .0 .0) (length (start .args .bundle .now)) (ltb-true _ _ (byte-got _ _ _ _ _ (number c) .0)) (start .pre .2)
+
+mul-place-at-2 : tie.Need-mul-place-at-2
+mul-place-at-2 c = omega (arith, inside (c .before))
+
+mul-place-at-3 : tie.Need-mul-place-at-3
+mul-place-at-3 c = omega (arith, inside (c .before))
+
+add-place-at-2 : tie.Need-add-place-at-2
+add-place-at-2 c = omega (arith, inside (c .before .before))
+
+place-at-requires : tie.Need-place-at-requires
+place-at-requires c κs =
+    let known = c .before .before in
+    (known .before .before .before .before .before .pre .0, inside known)
+
+-- the place is tested with the counts of the row
+tested : (c : tie.After-permits) → let known = c .before .before .before .before .before in let a = known .before .before .before .before .before .args in
+    permitsAt (a .n) (a .bundle .now) (a .places .first) (rowAt (drop (ROW * a .row) (a .table .now)) .counts) (a .event) (known .j .given .0 .0) ≡ c .permits .result
+unfolding rowAt
+tested c = sym (c .permits .ensures ∙ rw (add-sub-cancel-left, c .before .before .place-at .ensures))
+
+returns : tie.Need-returns
+returns c = place-permitted _ _ (number (c .before .before .before .before .before .before)) (tested (c .before) ∙ c .if1 .taken)
+
+returns-2 : tie.Need-returns-2
+unfolding readOf
+returns-2 c =
+    let call = c .before .before .before in
+    place-unread _ _ (sym (call .byte-below .ensures) ∙ ap readOf (c .before .refusal .given .1))
+
+returns-3 : tie.Need-returns-3
+returns-3 c = place-refused _ _ (number (c .before .before .before .before .before .before)) (tested (c .before) ∙ c .if1 .left)
+
+pub check-place-spec : {M : Type 1} → statement M
+check-place-spec =
+    tie.close
+    (tie.spec
+    (λ c κs. search needs)
+    (λ c. search needs)
+    (λ c. search needs)
+    (λ c. search needs)
+    (λ c. search needs)
+    mul-place-at-2
+    mul-place-at-3
+    add-place-at-2
+    place-at-requires
+    (λ c. search needs)
+    (λ c. search needs)
+    (λ c. search needs)
+    (λ c. search needs)
+    (λ c. search needs)
+    (λ c. search needs)
+    (λ c κs. search needs)
+    returns
+    returns-2
+    returns-3)

@@ -1,0 +1,4 @@
+pub mod Certifying
+pub mod CheckLaws
+pub mod Continuations
+pub mod CertificateSteps

@@ -1,0 +1,29 @@
+-- `fitting::row_fits` meets its contract: the tokens after the row's counts decide for its events.
+use mathlib.Core.Path.{sym, ap, _∙_}
+use borrow.Author.Needs.{needs}
+use lib.IntN.{ℤ}
+use lib.ListN.{getD}
+use mir.Syntax.{w64}
+use mir.Facts.{toZ-ofZ}
+use Rattle.nets.specs.Machine.{COUNTS, placeOf}
+use Rattle.fitting.specs.Fitting.{eventsFit}
+use Rattle.fitting.specs.FittingLaws.{row-empty, row-fits}
+use Rattle.fitting.proofs.row_fits.Statement.{statement}
+use Rattle.fitting.proofs.row_fits.Tie as tie
+
+returns : tie.Need-returns
+returns c =
+    let args = c .before .before .before .args in
+    sym (row-empty (placeOf (args .place)) (args .row .now) (c .if1 .taken))
+
+returns-2 : tie.Need-returns-2
+returns-2 c =
+    let known = c .before .before in
+    let args = known .before .before .before .before .args in
+    c .events-fit .ensures
+    ∙ ap (λ (t : ℤ). eventsFit t (args .place .consumed) (getD (args .row .now) COUNTS 0)) (toZ-ofZ {w = w64} (record { sfits = known .tokens .ok }) ∙ known .tokens .ensures)
+    ∙ row-fits (args .place) (args .row .now)
+
+pub row-fits-spec : {M : Type 1} → statement M
+row-fits-spec =
+    tie.close (tie.spec (λ c. search needs) returns (λ c κs. search needs) (λ c κs. search needs) returns-2)

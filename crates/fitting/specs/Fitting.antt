@@ -1,0 +1,28 @@
+-- Whether a place fits, from the rows of a table: it permits the events of each row's mask after the row's counts.
+use mathlib.Core.Bool.{Bool, not, _||_}
+use mathlib.Core.List.{List}
+use Prim.Native.Nat.{ℕ}
+use lib.IntN.{ℤ, pos, _-ℤ_}
+use lib.ListN.{getD}
+use lib.Signed.{nonNeg}
+use Rattle.laws.specs.Lists.{all, tabulate}
+use Rattle.laws.specs.Bits.{bit}
+use Rattle.nets.specs.Nets.{Place, placePermits}
+use Rattle.nets.specs.Machine.{COUNTS}
+use Rattle.logs.specs.Rows.{Row}
+
+-- a place permits what a row allows
+unfoldable pub rowFits : Place → Row → Bool
+rowFits p r = all (λ e. not (bit (r .mask) e) || placePermits COUNTS p (record { row = r .counts; event = e })) (tabulate COUNTS (λ e. e))
+
+-- a place permits what every row allows
+unfoldable pub fitsRows : Place → List Row → Bool
+fitsRows p rs = all (rowFits p) rs
+
+-- the tokens cover what an event takes, if its bit is set in the mask
+unfoldable pub eventFits : ℤ → List ℕ → ℕ → ℕ → Bool
+eventFits tokens consumed mask e = not (bit mask e) || nonNeg (tokens -ℤ pos (getD consumed e 0))
+
+-- the same at each event
+unfoldable pub eventsFit : ℤ → List ℕ → ℕ → Bool
+eventsFit tokens consumed mask = all (eventFits tokens consumed mask) (tabulate COUNTS (λ e. e))

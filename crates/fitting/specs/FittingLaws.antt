@@ -1,0 +1,169 @@
+-- The code's steps, as laws of the definitions; and that a place fits the rows of a log's table exactly when it fits the log.
+use mathlib.Core.Path.{_≡_, refl, sym, ap, ap₂, _∙_, subst}
+use mathlib.Core.Bool.{Bool, true, false, not, _&&_, _||_, and-true, and-assoc}
+use mathlib.Core.List.{List, map, List·Memᴰ, Memᴰ·map, Memᴰ·of-map}
+use Prim.Native.Nat.{ℕ, _+_, _-_, _*_, _≤_, _<_}
+use native.Mathlib.Nat.{suc-mul, mul-le-mul-right}
+use native.Mathlib.Omega.{arith}
+use lib.Dec.{T}
+use lib.IntN.{ℤ, pos, _-ℤ_}
+use lib.ListN.{length, getD, take, drop, drop-of-length-le, List·getD-eq-default}
+use lib.Seq.{getD-take}
+use lib.Signed.{nonNeg}
+use Rattle.laws.specs.Booleans.{same-test, yes-true, implied, implies}
+use Rattle.laws.specs.Bits.{bit, bit-of-zero, maskOf, maskOf-bit}
+use Rattle.laws.specs.Lists.{all, all-member, all-intro, all-next, tabulate, length-tabulate, getD-tabulate, tabulate-member, tabulate-inverse}
+use Rattle.laws.specs.Parts.{getD-padded}
+use Rattle.nets.specs.declared.Place as Declared
+use Rattle.nets.specs.Nets.{Log, Counts, Step, Place, tokens, surplus, placePermits, rows, allowed, allowedSteps, fits}
+use Rattle.nets.specs.CountLaws.{length-counts}
+use Rattle.nets.specs.Fits.{LogBelow, allowed-listed}
+use Rattle.nets.specs.Machine.{COUNTS, placeOf}
+use Rattle.nets.specs.Rows.{row→, continuation→, allowedStep→}
+use Rattle.nets.specs.Surplus.{tokens-row, tokens-wide}
+use Rattle.nets.specs.Wide.{wide}
+use Rattle.bundles.specs.Layout.{PlaceFields, toPlace}
+use Rattle.bundles.specs.NumberSteps.{itemsAt, getD-items}
+use Rattle.bundles.specs.PlaceSteps.{placeSize, fieldsAt, padded, machinePlace}
+use Rattle.logs.specs.Rows.{ROW, Row, rowAt, rowsOf}
+use Rattle.logs.specs.Flat.{length-rows, rows-at}
+use Rattle.logs.specs.Log.{logRows}
+use Rattle.logs.specs.LogTable.{logRows-is}
+use Rattle.fitting.specs.Fitting.{rowFits, fitsRows, eventFits, eventsFit}
+
+-- ---- a row
+
+-- a loop over the events that has tested those below e
+abbrev pub EventsBelow : ℤ → List ℕ → ℕ → Bool → ℕ → Type 0
+EventsBelow t consumed mask fit e = eventsFit t consumed mask ≡ (fit && all (eventFits t consumed mask) (drop e (tabulate COUNTS (λ e. e))))
+
+module _ (t : ℤ) (consumed : List ℕ) (mask : ℕ) where
+  pub events-start : EventsBelow t consumed mask true 0
+  unfolding eventsFit
+  events-start = refl
+
+  pub events-next : (fit : Bool) (e : ℕ) → e < COUNTS → EventsBelow t consumed mask fit e
+      → EventsBelow t consumed mask (fit && (not (bit mask e) || nonNeg (t -ℤ pos (getD consumed e 0)))) (e + 1)
+  unfolding eventFits
+  events-next fit e h inv =
+      let test : ℕ → Bool = eventFits t consumed mask in
+      let events : List ℕ = tabulate COUNTS (λ e. e) in
+      inv
+      ∙ ap (λ (b : Bool). fit && b) (all-next test events e 0 (rw length-tabulate h) ∙ ap (λ (x : ℕ). test x && all test (drop (e + 1) events)) (getD-tabulate COUNTS (λ e. e) e 0 h))
+      ∙ sym (and-assoc fit (test e) (all test (drop (e + 1) events)))
+
+  pub events-end : (fit : Bool) (e : ℕ) → COUNTS ≤ e → EventsBelow t consumed mask fit e → eventsFit t consumed mask ≡ fit
+  unfolding all
+  events-end fit e h inv =
+      inv ∙ rw (drop-of-length-le (tabulate COUNTS (λ e. e)) {i = e} (rw length-tabulate h)) (and-true fit)
+
+-- the tokens after the row's counts decide for its events
+pub row-fits : (p : Declared.Place) (t : List ℕ) → eventsFit (tokens COUNTS (placeOf p) t) (p .consumed) (getD t COUNTS 0) ≡ rowFits (placeOf p) (rowAt t)
+unfolding rowFits eventsFit eventFits rowAt placePermits surplus
+row-fits p t =
+    ap (λ (z : ℤ). eventsFit z (p .consumed) (getD t COUNTS 0))
+    (tokens-row COUNTS (placeOf p) t (take COUNTS t) (λ i b. sym (getD-take COUNTS t i 0 b)))
+
+-- a row that nothing follows asks for nothing
+pub row-empty : (p : Place) (t : List ℕ) → getD t COUNTS 0 ≡ 0 → rowFits p (rowAt t) ≡ true
+unfolding rowFits rowAt
+row-empty p t none = rw none (yes-true _ (all-intro _ (tabulate COUNTS (λ e. e)) (λ e m. rw (bit-of-zero e) tt)))
+
+-- ---- the rows
+
+module _ (p : Place) (k : ℕ) (t : List ℕ) where
+  -- a loop over the rows that found no misfit below r
+  abbrev pub RowsBelow : ℕ → Type 0
+  RowsBelow r = fitsRows p (rowsOf k t) ≡ all (rowFits p) (drop r (rowsOf k t))
+
+  pub rows-start : RowsBelow 0
+  unfolding fitsRows
+  rows-start = refl
+
+  module _ (r : ℕ) (h : r < k) (inv : RowsBelow r) where
+    rows-step : fitsRows p (rowsOf k t) ≡ (rowFits p (rowAt (drop (ROW * r) t)) && all (rowFits p) (drop (r + 1) (rowsOf k t)))
+    rows-step =
+        inv
+        ∙ all-next (rowFits p) (rowsOf k t) r (rowAt t) (rw length-rows h)
+        ∙ ap (λ (x : Row). rowFits p x && all (rowFits p) (drop (r + 1) (rowsOf k t))) (rows-at k t r (rowAt t) h)
+
+    pub rows-stop : rowFits p (rowAt (drop (ROW * r) t)) ≡ false → fitsRows p (rowsOf k t) ≡ false
+    rows-stop e = rows-step ∙ rw e
+
+    pub rows-next : rowFits p (rowAt (drop (ROW * r) t)) ≡ true → RowsBelow (r + 1)
+    rows-next e = rows-step ∙ rw e
+
+  pub rows-end : (r : ℕ) → k ≤ r → RowsBelow r → fitsRows p (rowsOf k t) ≡ true
+  unfolding all
+  rows-end r h inv = inv ∙ rw (drop-of-length-le (rowsOf k t) {i = r} (rw length-rows h))
+
+-- ---- a place
+
+-- the code's place stands for what the fields do
+pub place-means : (f : PlaceFields) → placeOf (machinePlace f) ≡ toPlace f
+unfolding machinePlace padded toPlace
+place-means f = λ i. record {
+  initial = f .initial;
+  produced = λ x. getD-padded (f .produced) (12 - length (f .produced)) x 0 i;
+  consumed = λ x. getD-padded (f .consumed) (12 - length (f .consumed)) x 0 i;
+}
+
+-- place j of a bundle, at its offset
+module _ (n : ℕ) (b : List ℕ) (first count j : ℕ) (h : j < count) where
+  pub place-fits : (rs : List Row) (at : ℕ) (d : PlaceFields) → at ≡ first + 2 * (j * placeSize n)
+      → fitsRows (toPlace (getD (itemsAt (placeSize n) (fieldsAt n) count b first) j d)) rs ≡ fitsRows (placeOf (machinePlace (fieldsAt n b at))) rs
+  place-fits rs at d spot =
+      ap (λ (q : Place). fitsRows q rs)
+      (ap toPlace (getD-items (placeSize n) (fieldsAt n) count b first j d h ∙ ap (fieldsAt n b) (sym spot)) ∙ sym (place-means (fieldsAt n b at)))
+
+  pub place-inside : (at : ℕ) → at ≡ first + 2 * (j * placeSize n) → first + 2 * (count * placeSize n) ≤ length b → at + 2 * placeSize n ≤ length b
+  place-inside at spot inside = omega (arith, mul-le-mul-right (placeSize n) h, suc-mul j (placeSize n))
+
+-- ---- a log
+
+-- zeros behind the counts of n events change nothing
+permits-wide : (n k : ℕ) (p : Place) (v : Counts) (e : ℕ) → length v ≡ n
+    → placePermits (n + k) p (record { row = wide k v; event = e }) ≡ placePermits n p (record { row = v; event = e })
+unfolding placePermits surplus
+permits-wide n k p v e size =
+    ap (λ (z : ℤ). nonNeg (z -ℤ pos (p .consumed e)))
+    (tokens-row (n + k) p (wide k v) v (λ i _. getD-padded v k i 0) ∙ tokens-wide n k p v (λ i b. List·getD-eq-default v 0 (omega arith)))
+
+-- a place fits the rows of a log's table exactly when it fits the log
+pub fits-log : (n k : ℕ) (log : Log) → n + k ≡ COUNTS → LogBelow n log → (p : Place) → fitsRows p (logRows log) ≡ fits n log p
+unfolding fitsRows rowFits fits
+fits-log n k log width below p = ap (all (rowFits p)) (logRows-is n k log width below) ∙ same-test _ _ to from
+  where
+    row : Counts → Row
+    row v = record { counts = wide k v; mask = maskOf COUNTS (λ e. allowed n log (record { row = v; event = e })) }
+
+    -- the test of an event in a row
+    test : Counts → ℕ → Bool
+    test v e = not (bit (row v .mask) e) || placePermits COUNTS p (record { row = wide k v; event = e })
+
+    test-is : (s : Step) → List·Memᴰ (s .row) (rows n log) → s .event < COUNTS → test (s .row) (s .event) ≡ (not (allowed n log s) || placePermits n p s)
+    test-is s m h =
+        let u = row→ n log m in
+        ap₂ (λ (a b : Bool). not a || b)
+        (maskOf-bit COUNTS (λ e. allowed n log (record { row = s .row; event = e })) (s .event) h)
+        (ap (λ (c : ℕ). placePermits c p (record { row = wide k (s .row); event = s .event })) (sym width)
+        ∙ permits-wide n k p (s .row) (s .event) (ap length (sym (u .2)) ∙ length-counts n (u .0)))
+
+    to : T (all (rowFits p) (map row (rows n log))) → T (all (placePermits n p) (allowedSteps n log))
+    to t = all-intro (placePermits n p) (allowedSteps n log) (λ s m.
+        let a = allowedStep→ n log s m in
+        let c = continuation→ n log s (a .0) in
+        let h : s .event < COUNTS = omega (arith, c .1) in
+        let tests = all-member (rowFits p) (map row (rows n log)) t (Memᴰ·map row (c .0)) in
+        let here = all-member (test (s .row)) (tabulate COUNTS (λ e. e)) tests (tabulate-member COUNTS (λ e. e) (s .event) h) in
+        implied (allowed n log s) (placePermits n p s) (subst T (test-is s (c .0) h) here) (a .1))
+
+    from : T (all (placePermits n p) (allowedSteps n log)) → T (all (rowFits p) (map row (rows n log)))
+    from t = all-intro (rowFits p) (map row (rows n log)) (λ r m.
+        let v = Memᴰ·of-map row (rows n log) m in
+        subst (λ (x : Row). T (rowFits p x)) (v .2)
+        (all-intro (test (v .0)) (tabulate COUNTS (λ e. e)) (λ e k.
+        let i = tabulate-inverse COUNTS (λ e. e) k in
+        let s : Step = record { row = v .0; event = e } in
+        let h : e < COUNTS = omega (arith, i .1, i .2) in
+        subst T (sym (test-is s (v .1) h)) (implies (allowed n log s) (placePermits n p s) (λ a. all-member (placePermits n p) (allowedSteps n log) t (allowed-listed n log below s a))))))

@@ -1,0 +1,88 @@
+// Whether the places of a bundle fit its log, from the rows of the log table.
+use bundles::Places;
+use logs::rows::ROW;
+use nets::COUNTS;
+use nets::Place;
+use nets::has_bit;
+ghost use mathlib.Core.Path.{_≡_};
+ghost use Prim.Native.Nat.{_+_, _*_, _≤_};
+ghost use lib.IntN.{pos, _-ℤ_};
+ghost use lib.ListN.{length};
+ghost use lib.Signed.{nonNeg};
+ghost use Rattle.laws.specs.Scans.{firstFailing};
+ghost use Rattle.nets.specs.Machine.{placeOf};
+ghost use Rattle.bundles.specs.Layout.{PlaceFields, toPlace};
+ghost use Rattle.bundles.specs.NumberSteps.{itemsAt};
+ghost use Rattle.bundles.specs.PlaceSteps.{placeSize, fieldsAt};
+ghost use Rattle.logs.specs.Rows.{ROW, rowAt, rowsOf};
+ghost use Rattle.fitting.specs.Fitting.{eventsFit, rowFits, fitsRows};
+
+// Whether the tokens in a place cover what an event takes: whether the surplus is 0 or more.
+fn covers(tokens: i64, consumed: u16) -> bool
+    ensures { λ r. ⌜ r ≡ nonNeg (tokens -ℤ pos consumed) ⌝ }
+{
+    consumed as i64 <= tokens
+}
+
+// Whether the tokens cover what each event of the mask takes. All twelve are tested without a branch: which bits are set is hard to predict.
+fn events_fit(tokens: i64, consumed: [u16; 12], mask: u16) -> bool
+    ensures { λ r. ⌜ r ≡ eventsFit tokens consumed mask ⌝ }
+{
+    let mut fit = true;
+    let mut e = 0;
+    while e < COUNTS {
+        fit = fit & (!has_bit(mask, e) | covers(tokens, consumed[e]));
+        e += 1;
+    }
+    fit
+}
+
+// Whether a place permits what the row at the front of a slice allows. Nothing is computed for a row that nothing follows.
+fn row_fits(place: Place, row: &[u16]) -> bool
+    requires { ⌜ ROW ≤ length (now row) ⌝ }
+    ensures { λ r. ⌜ r ≡ rowFits (placeOf place) (rowAt (now (row .entry))) ⌝ }
+{
+    let mask = row[COUNTS];
+    if mask == 0 {
+        return true;
+    }
+    let tokens = nets::tokens(place, row);
+    let consumed = place.consumed;
+    events_fit(tokens, consumed, mask)
+}
+
+// Whether a place permits what the rows of a table allow.
+pub fn fits(place: Place, table: &[u16], rows: usize) -> bool
+    requires { ⌜ ROW * rows ≤ length (now table) ⌝ }
+    ensures { λ r. ⌜ r ≡ fitsRows (placeOf place) (rowsOf rows (now (table .entry))) ⌝ }
+{
+    let mut r = 0;
+    while r < rows {
+        let at = ROW * r;
+        if !row_fits(place, &table[at..]) {
+            return false;
+        }
+        r += 1;
+    }
+    true
+}
+
+// The first place of a bundle that does not fit, or the number of places.
+pub fn first_misfit(bundle: &[u8], n: usize, places: Places, table: &[u16], rows: usize) -> usize
+    requires { ⌜ (n ≤ 12) × (places .first + 2 * (places .count * placeSize n) ≤ length (now bundle)) × (ROW * rows ≤ length (now table)) ⌝ }
+    ensures { λ r. ⌜ r ≡ firstFailing (λ (f : PlaceFields). fitsRows (toPlace f) (rowsOf rows (now (table .entry)))) (itemsAt (placeSize n) (fieldsAt n) (places .count) (now (bundle .entry)) (places .first)) ⌝ }
+{
+    let size = 2 * (1 + 2 * n);
+    let count = places.count;
+    let mut at = places.first;
+    let mut j = 0;
+    while j < count {
+        let place = bundles::place_at(bundle, at, n);
+        if !fits(place, table, rows) {
+            return j;
+        }
+        at += size;
+        j += 1;
+    }
+    count
+}

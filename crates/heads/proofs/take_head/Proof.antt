@@ -1,0 +1,44 @@
+-- `heads::take_head` meets its contract.
+use mathlib.Core.Path.{_≡_, refl, sym, ap, _∙_}
+use native.Mathlib.Omega.{arith}
+use borrow.Author.Needs.{needs}
+use denote.Ref.{now}
+use Rattle.bundles.specs.Reading.{got, byte}
+use Rattle.bundles.specs.FieldSteps.{readOf, between, between-true, byte-got}
+use Rattle.bundles.specs.HeadSteps.{head-failed}
+use Rattle.verdicts.specs.Judging.{rowsBelowLimit}
+use Rattle.heads.specs.Heads.{head-whole}
+use Rattle.heads.proofs.take_head.Statement.{statement}
+use Rattle.heads.proofs.take_head.Tie as tie
+
+-- the event count
+counted : (c : tie.After-n) → byte (between 1 12) (now (c .before .before .before .before .before .args .bundle)) 0 ≡ got (c .n .given .0 .0) (c .n .given .0 .1 .0)
+unfolding readOf
+counted c = sym (c .before .before .byte-between .ensures) ∙ ap readOf (c .n .given .1)
+
+take-after-requires : tie.Need-take-after-requires
+take-after-requires c κs =
+    let n = c .before .before in
+    let start = n .before .before .before .before .before in
+    (omega (arith, between-true 1 12 (n .n .given .0 .0) (byte-got (between 1 12) _ _ _ _ (counted n) .0)), start .pre .0, start .pre .1)
+
+returns : tie.Need-returns
+unfolding readOf
+returns c = (head-failed rowsBelowLimit _ (sym (c .before .before .before .byte-between .ensures) ∙ ap readOf (c .before .refusal .given .1)), refl)
+
+returns-2 : tie.Need-returns-2
+returns-2 c =
+    let call = c .before .before in
+    head-whole _ (counted (call .before .before .before)) (now (c .before .before .before .before .before .before .before .before .before .before .args .table)) (call .take-after .last .1 .1 .1 .0) (call .take-after .result) (call .take-after .ensures)
+
+pub take-head-spec : {M : Type 1} → statement M
+take-head-spec =
+    tie.close
+    (tie.spec
+    (λ c κs. search needs)
+    (λ c. search needs)
+    (λ c. search needs)
+    take-after-requires
+    returns
+    (λ c. search needs)
+    returns-2)

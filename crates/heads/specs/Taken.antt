@@ -1,0 +1,225 @@
+-- A log whose rows are taken into a table while its words are read.
+use mathlib.Core.Path.{_≡_, refl, sym, ap, ap₂, _∙_, subst}
+use mathlib.Core.Bool.{Bool, true, false, cond}
+use mathlib.Core.Logic.{⊎-elim}
+use mathlib.Core.List.{List, [], _∷_, _++_, List·Memᴰ, List·Memᴰ·not-nil, List·Memᴰ·append-cases, List·Memᴰ·head, List·Memᴰ·tail}
+use Prim.Native.Nat.{ℕ, zero, suc, _+_, _-_, _*_, _≤_, _<_}
+use native.Mathlib.Nat.{not-suc-le-zero, le-of-suc-le-suc, lt-of-lt-of-le}
+use native.Mathlib.Omega.{arith}
+use lib.Dec.{leb}
+use lib.ListN.{length, getD, take, drop, replicate, length-append, length-replicate}
+use borrow.Author.Tests.{le-leb, lt-leb, leb-true, leb-false, ltb-true}
+use Rattle.refusals.specs.Table.{ROWS}
+use Rattle.refusals.specs.Answers.{refusal}
+use Rattle.refusals.specs.declared.Refusal.{Refusal}
+use Rattle.nets.specs.Nets.{Word, Log, eventCount, rows}
+use Rattle.nets.specs.LogLaws.{eventCount-snoc}
+use Rattle.nets.specs.Fits.{Below, LogBelow}
+use Rattle.nets.specs.Machine.{COUNTS}
+use Rattle.logs.specs.Rows.{ROW, Row, rowsOf, newRow, none, takeWord, newRows, EventsBelow, Holds}
+use Rattle.logs.specs.Answers.{TABLE, MAX-ROWS}
+use Rattle.logs.specs.Log.{logRows}
+use Rattle.logs.specs.LogRows.{take-word, first-row}
+use Rattle.logs.specs.LogTable.{length-logRows, each-below}
+use Rattle.logs.specs.Growth.{length-take}
+use Rattle.logs.specs.Taking.{drop-more}
+use Rattle.logs.specs.Flat.{held, length-rows}
+use Rattle.bundles.specs.Reading.{Read, got, failed, Reader, andThen, _>>_, require, byte, each, times, following}
+use Rattle.bundles.specs.Layout.{Every}
+use Rattle.bundles.specs.Readers.{anything, wordAfter, word}
+use Rattle.bundles.specs.FieldSteps.{below, byte-got}
+use Rattle.bundles.specs.WordSteps.{mapRead, mapRead-got, mapRead-failed, andThen-got, require-got, rest, rest-all, rest-none, rest-more, rest-failed, eventsAt, word-limit, word-part, word-tested}
+use Rattle.refusals.specs.Table.{EVENTS}
+use Rattle.verdicts.specs.Judging.{rowsBelowLimit}
+use Rattle.heads.specs.declared.LogTaken.{LogTaken}
+use Rattle.heads.specs.declared.LogTaken.the-variants as log-taken
+
+-- ---- what the code gives
+
+-- t is the table t₀ with the rows of the log over n events, which are so many, as are its events
+pub record Held (n : ℕ) (log : Log) (t₀ t : List ℕ) (rowCount events : ℕ) : Type 0 where
+  pub below : LogBelow n log
+  pub total : events ≡ eventCount log
+  pub limit : events ≤ 1024
+  pub size : rowCount ≡ length (rows n log)
+  pub few : rowCount ≤ MAX-ROWS
+  pub same : length t ≡ length t₀
+  pub holds : Holds rowCount (logRows log) t₀ t
+
+-- after a word at an offset behind a log: the log with it, or its refusal with the table as it was
+abbrev pub OneMore : ℕ → List ℕ → ℕ → Log → List ℕ → List ℕ → ℕ → ℕ → LogTaken → Type 0
+OneMore n b at log t₀ t′ rowCount events (log-taken.Taken rowCount′ events′ next) =
+    (w : Word) × (word (rowsBelowLimit n) n log b at ≡ got w next) × Held n (log ++ w ∷ []) t₀ t′ rowCount′ events′
+OneMore n b at log t₀ t′ rowCount events (log-taken.Refused r) =
+    (word (rowsBelowLimit n) n log b at ≡ failed (r .number) (r .spot)) × Held n log t₀ t′ rowCount events
+
+-- after the words at an offset: the log and its rows, or a refusal with the table changed in its first numbers only
+abbrev pub AllTaken : ℕ → List ℕ → ℕ → ℕ → List ℕ → List ℕ → LogTaken → Type 0
+AllTaken n b at count t₀ t (log-taken.Taken rowCount events next) =
+    (log : Log) × (following count (word (rowsBelowLimit n) n) b at ≡ got log next) × Held n log t₀ t rowCount events
+AllTaken n b at count t₀ t (log-taken.Refused r) =
+    (following count (word (rowsBelowLimit n) n) b at ≡ failed (r .number) (r .spot)) × (drop TABLE t ≡ drop TABLE t₀)
+
+-- ---- a word that was read
+
+every-last : {A : Type 0} (P : A → Type 0) (xs : List A) (x : A) → Every P xs → P x → Every P (xs ++ x ∷ [])
+every-last P [] x v p = (p, tt)
+every-last P (y ∷ xs) x v p = (v .0, every-last P xs x (v .1) p)
+
+-- bytes of a range are in it
+each-in : (p : ℕ → Bool) (b : List ℕ) (size : ℕ) (before : List ℕ) (at : ℕ) (ys : List ℕ) (next : ℕ) → Every (λ x. p x ≡ true) before
+    → each (λ (s : Unit {0}) items. byte p) (replicate size (tt {0})) before b at ≡ got ys next → Every (λ x. p x ≡ true) ys
+unfolding each
+each-in p b zero before at ys next v e =
+    let same : before ≡ ys = cc in
+    subst (Every (λ (x : ℕ). p x ≡ true)) same v
+each-in p b (suc size) before at ys next v e =
+    let m = andThen-got b (byte p b at) (λ x. each (λ (s : Unit {0}) items. byte p) (replicate size (tt {0})) (before ++ x ∷ [])) ys next e in
+    each-in p b size (before ++ m .0 ∷ []) (m .1) ys next (every-last (λ (x : ℕ). p x ≡ true) before (m .0) v (byte-got p b at (m .0) (m .1) (m .2) .0)) (m .3)
+
+every-below : (n c : ℕ) → n ≤ c → (w : Word) → Every (λ x. below n x ≡ true) w → EventsBelow c w
+every-below n c h [] v k l = absurd (not-suc-le-zero l)
+every-below n c h (x ∷ w) v zero l = lt-of-lt-of-le (ltb-true x n (v .0)) h
+every-below n c h (x ∷ w) v (suc k) l = every-below n c h w (v .1) k (le-of-suc-le-suc l)
+
+-- the events of a word that was read are below n
+word-in : (n count : ℕ) (b : List ℕ) (at : ℕ) (w : Word) (next : ℕ) → wordAfter n count b at ≡ got w next → Every (λ x. below n x ≡ true) w
+unfolding wordAfter andThen
+word-in n count b at w next e =
+    let m = andThen-got b (byte anything b at) (λ size. require (leb (count + size) 1024) EVENTS at >> times size (byte (below n))) w next e in
+    let t = require-got (leb (count + m .0) 1024) EVENTS at (times (m .0) (byte (below n))) b (m .1) w next (m .3) in
+    each-in (below n) b (m .0) [] (m .1) w next tt (t .1)
+
+-- the word at an offset behind so many events, where the code has read its size
+pub record WordRead (n count : ℕ) (b : List ℕ) (at k next : ℕ) : Type 0 where
+  pub w : Word
+  pub read : wordAfter n count b at ≡ got w next
+  pub size : length w ≡ k
+  pub limit : count + length w ≤ 1024
+  pub part : eventsAt b at ≡ w
+  pub within : at + 1 + getD b at 0 ≤ length b
+  pub events : EventsBelow n w
+  pub below : EventsBelow COUNTS w
+
+pub word-read : (n events : ℕ) (b : List ℕ) (at size next : ℕ) → n ≤ COUNTS → mapRead length (wordAfter n events b at) ≡ got size next → WordRead n events b at size next
+unfolding eventsAt
+word-read n events b at size next h e =
+    let m = mapRead-got length (wordAfter n events b at) size next e in
+    let part = word-part n events b at (m .0) next (m .1) in
+    let all = word-in n events b at (m .0) next (m .1) in
+    record {
+      w = m .0;
+      read = m .1;
+      size = m .2;
+      limit = word-limit n events b at (m .0) next (m .1);
+      part = sym (part .part);
+      within = omega (arith, part .end, part .within);
+      events = every-below n n (omega arith) (m .0) all;
+      below = every-below n COUNTS h (m .0) all;
+    }
+
+-- ---- one word more
+
+-- where there is room, the rows do not pass 256
+pub room-size : (k : ℕ) (t : List ℕ) (w : Word) → k ≤ MAX-ROWS → EventsBelow COUNTS w → newRows (rowsOf k t) none w ≤ MAX-ROWS - k → length (takeWord (rowsOf k t) none w) ≤ MAX-ROWS
+room-size k t w few below room = omega (arith, length-take (rowsOf k t) none w (length-replicate {A = ℕ} COUNTS 0) below, length-rows k t)
+
+module _ {n : ℕ} {log : Log} {t₀ t : List ℕ} {rowCount events : ℕ} (h : Held n log t₀ t rowCount events) (most : n ≤ COUNTS) (b : List ℕ) (at : ℕ) where
+  -- the word's refusal
+  pub word-refused : {number spot : ℕ} → mapRead length (wordAfter n events b at) ≡ failed number spot → word (rowsBelowLimit n) n log b at ≡ failed number spot
+  unfolding word andThen
+  word-refused {number} {spot} e =
+      let read : wordAfter n (eventCount log) b at ≡ failed number spot = rw (h .total) at (mapRead-failed length (wordAfter n events b at) number spot e) in
+      rw read
+
+  module _ {size next : ℕ} (r : WordRead n events b at size next) where
+    log-below : LogBelow n (log ++ r .w ∷ [])
+    log-below v m = ⊎-elim (λ old. h .below v old) (λ new. one v new) (List·Memᴰ·append-cases log m)
+      where
+        one : (v : Word) → List·Memᴰ v (r .w ∷ []) → Below n v
+        one v (List·Memᴰ·head q) = subst (Below n) (sym q) (each-below n (r .w) (r .events))
+        one v (List·Memᴰ·tail m) = absurd (List·Memᴰ·not-nil m)
+
+    rows-next : takeWord (rowsOf rowCount t) none (r .w) ≡ logRows (log ++ r .w ∷ [])
+    rows-next = ap (λ (rs : List Row). takeWord rs none (r .w)) (h .holds .front) ∙ take-word log (r .w) (each-below COUNTS (r .w) (r .below))
+
+    -- there are as many rows as before, and those of the word that are new
+    rows-size : length (rows n (log ++ r .w ∷ [])) ≡ rowCount + newRows (rowsOf rowCount t) none (r .w)
+    rows-size =
+        sym (length-logRows n (log ++ r .w ∷ []) most log-below)
+        ∙ ap length (sym rows-next)
+        ∙ length-take (rowsOf rowCount t) none (r .w) (length-replicate {A = ℕ} COUNTS 0) (r .below)
+        ∙ ap (λ (k : ℕ). k + newRows (rowsOf rowCount t) none (r .w)) (length-rows rowCount t)
+
+    tested : word (rowsBelowLimit n) n log b at ≡ cond (rowsBelowLimit n (log ++ r .w ∷ [])) (got (r .w) next) (failed ROWS at)
+    tested = word-tested (rowsBelowLimit n) n log b at (r .w) next (rw (h .total) at (r .read))
+
+    pub no-room : MAX-ROWS - rowCount < newRows (rowsOf rowCount t) none (r .w) → word (rowsBelowLimit n) n log b at ≡ failed ROWS at
+    no-room less = tested ∙ rw (lt-leb (length (rows n (log ++ r .w ∷ []))) MAX-ROWS (omega (arith, rows-size, h .few)))
+
+    pub word-taken : newRows (rowsOf rowCount t) none (r .w) ≤ MAX-ROWS - rowCount → (k : ℕ) (t′ : List ℕ) → length t′ ≡ length t → Holds k (takeWord (rowsOf rowCount t) none (r .w)) t t′
+        → (w : Word) × (word (rowsBelowLimit n) n log b at ≡ got w next) × Held n (log ++ w ∷ []) t₀ t′ k (events + size)
+    word-taken room k t′ kept new =
+        let is : k ≡ length (rows n (log ++ r .w ∷ [])) = held k _ t t′ new ∙ length-take (rowsOf rowCount t) none (r .w) (length-replicate {A = ℕ} COUNTS 0) (r .below) ∙ ap (λ (j : ℕ). j + newRows (rowsOf rowCount t) none (r .w)) (length-rows rowCount t) ∙ sym rows-size in (
+          r .w,
+          tested ∙ rw (le-leb (length (rows n (log ++ r .w ∷ []))) MAX-ROWS (omega (arith, rows-size, h .few))),
+          record {
+            below = log-below;
+            total = omega (arith, eventCount-snoc log (r .w), h .total, r .size);
+            limit = omega (arith, r .limit, r .size);
+            size = is;
+            few = omega (arith, is, rows-size, h .few);
+            same = kept ∙ h .same;
+            holds = record {
+              front = new .front ∙ rows-next;
+              rest = new .rest ∙ drop-more (ROW * rowCount) (ROW * k) t t₀ (omega (arith, is, rows-size)) (h .holds .rest);
+            };
+          },
+        )
+
+-- ---- the words in a loop
+
+-- so far a log was read whose rows the table has, and so many words are left behind it
+pub record TakenSoFar (n : ℕ) (b : List ℕ) (at count : ℕ) (t₀ t : List ℕ) (rowCount events next left : ℕ) : Type 0 where
+  pub log : Log
+  pub held : Held n log t₀ t rowCount events
+  pub same : following count (word (rowsBelowLimit n) n) b at ≡ rest (word (rowsBelowLimit n) n) b left log next
+
+-- the rows of a log end before number 3,328
+pub held-rest : {n : ℕ} {log : Log} {t₀ t : List ℕ} {rowCount events : ℕ} → Held n log t₀ t rowCount events → drop TABLE t ≡ drop TABLE t₀
+held-rest {n} {log} {t₀} {t} {rowCount} {events} h = drop-more (ROW * rowCount) TABLE t t₀ (omega (arith, h .few)) (h .holds .rest)
+
+module _ (n : ℕ) (b : List ℕ) (at count : ℕ) (t₀ : List ℕ) where
+  pub taken-start : n ≤ COUNTS → rowsOf 1 t₀ ≡ newRow none ∷ [] → TakenSoFar n b at count t₀ t₀ 1 0 at count
+  unfolding eventCount
+  taken-start most e = record {
+    log = [];
+    held = record {
+      below = none-below;
+      total = refl;
+      limit = omega arith;
+      size = ap length (sym first-row) ∙ length-logRows n [] most none-below;
+      few = omega arith;
+      same = refl;
+      holds = record { front = e ∙ sym first-row; rest = refl };
+    };
+    same = rest-all (word (rowsBelowLimit n) n) b count at;
+  }
+    where
+      none-below : LogBelow n []
+      none-below v m = absurd (List·Memᴰ·not-nil m)
+
+  module _ {t : List ℕ} {rowCount events next left : ℕ} (s : TakenSoFar n b at count t₀ t rowCount events next left) where
+    pub taken-done : left ≤ 0 → AllTaken n b at count t₀ t (log-taken.Taken rowCount events next)
+    taken-done h = let none : left ≡ 0 = omega arith in (s .log, s .same ∙ rw (none, rest-none), s .held)
+
+    module _ (more : 0 < left) (t′ : List ℕ) (r : LogTaken) (one : OneMore n b next (s .log) t₀ t′ rowCount events r) where
+      pub taken-next : {rowCount′ events′ after : ℕ} → r ≡ log-taken.Taken rowCount′ events′ after → TakenSoFar n b at count t₀ t′ rowCount′ events′ after (left - 1)
+      taken-next {rowCount′} {events′} {after} told =
+          let m : OneMore n b next (s .log) t₀ t′ rowCount events (log-taken.Taken rowCount′ events′ after) = subst (OneMore n b next (s .log) t₀ t′ rowCount events) told one in
+          record { log = s .log ++ m .0 ∷ []; held = m .2; same = s .same ∙ rest-more (word (rowsBelowLimit n) n) b left (s .log) next (m .0) after more (m .1) }
+
+      pub taken-failed : {x : Refusal} → r ≡ log-taken.Refused x → AllTaken n b at count t₀ t′ r
+      taken-failed {x} told =
+          let m : OneMore n b next (s .log) t₀ t′ rowCount events (log-taken.Refused x) = subst (OneMore n b next (s .log) t₀ t′ rowCount events) told one in
+          subst (AllTaken n b at count t₀ t′) (sym told) (s .same ∙ rest-failed (word (rowsBelowLimit n) n) b left (s .log) next (x .number) (x .spot) more (m .0), held-rest (m .1))

@@ -1,0 +1,116 @@
+// Reading a bundle up to its last place, with the rows of its log taken into a table.
+use bundles::Field;
+use bundles::Head;
+use bundles::PlacesRead;
+use bundles::any_byte;
+use bundles::byte_between;
+use bundles::read_places;
+use bundles::read_word;
+use bundles::word_at;
+use logs::words::has_room;
+use logs::words::write_word;
+use refusals::ROWS;
+use refusals::Refusal;
+ghost use mathlib.Core.Path.{_≡_};
+ghost use mathlib.Core.List.{List, [], _∷_};
+ghost use Prim.Native.Nat.{ℕ, _≤_};
+ghost use lib.ListN.{length};
+ghost use Rattle.nets.specs.Nets.{Log};
+ghost use Rattle.nets.specs.Machine.{COUNTS};
+ghost use Rattle.logs.specs.Rows.{rowsOf, newRow, none};
+ghost use Rattle.logs.specs.Answers.{TABLE, MAX-ROWS};
+ghost use Rattle.bundles.specs.Readers.{head};
+ghost use Rattle.bundles.specs.HeadSteps.{headAfter};
+ghost use Rattle.verdicts.specs.Judging.{rowsBelowLimit};
+ghost use Rattle.heads.specs.Taken.{Held, OneMore, AllTaken};
+ghost use Rattle.heads.specs.Heads.{HeadIs};
+
+// A log so far: its rows, its events, and the offset behind it.
+pub enum LogTaken {
+    Taken(usize, usize, usize),
+    Refused(Refusal),
+}
+
+// Takes the word at an offset behind a log with so many rows and events.
+fn take_word(
+    bundle: &[u8],
+    at: usize,
+    n: usize,
+    rows: usize,
+    events: usize,
+    table: &mut [u16],
+) -> LogTaken
+    requires { ⌜ (n ≤ COUNTS) × (rows ≤ MAX-ROWS) × (events ≤ 1024) × (TABLE ≤ length (now table)) ⌝ }
+    ensures { λ r. ⌜ ((log : Log) (t₀ : List ℕ) → Held n log t₀ (now (table .entry)) rows events → OneMore n (now (bundle .entry)) at log t₀ (now (table .exit)) rows events r) ⌝ }
+{
+    match read_word(bundle, at, n, events) {
+        Field::Refused(refusal) => LogTaken::Refused(refusal),
+        Field::Value(size, next) => {
+            let word = word_at(bundle, at);
+            if !has_room(table, rows, word) {
+                return LogTaken::Refused(Refusal {
+                    number: ROWS,
+                    spot: at,
+                });
+            }
+            let more = write_word(table, rows, word);
+            LogTaken::Taken(more, events + size, next)
+        }
+    }
+}
+
+// Takes the words of a log at an offset into a table that has the row of the empty log.
+fn take_words(bundle: &[u8], at: usize, n: usize, count: usize, table: &mut [u16]) -> LogTaken
+    requires { ⌜ (n ≤ COUNTS) × (TABLE ≤ length (now table)) × (rowsOf 1 (now table) ≡ newRow none ∷ []) ⌝ }
+    ensures { λ r. ⌜ AllTaken n (now (bundle .entry)) at count (now (table .entry)) (now (table .exit)) r ⌝ }
+{
+    let mut rows = 1;
+    let mut events = 0;
+    let mut next = at;
+    let mut left = count;
+    while 0 < left {
+        let taken = take_word(bundle, next, n, rows, events, table);
+        let LogTaken::Taken(more, sum, after) = taken else {
+            return taken;
+        };
+        rows = more;
+        events = sum;
+        next = after;
+        left -= 1;
+    }
+    LogTaken::Taken(rows, events, next)
+}
+
+// A bundle up to its last place: its event count and its places, and the rows of its log.
+pub enum HeadTaken {
+    Taken(Head, usize),
+    Refused(Refusal),
+}
+
+// A head from its word count on.
+fn take_after(bundle: &[u8], at: usize, n: usize, table: &mut [u16]) -> HeadTaken
+    requires { ⌜ (n ≤ COUNTS) × (TABLE ≤ length (now table)) × (rowsOf 1 (now table) ≡ newRow none ∷ []) ⌝ }
+    ensures { λ r. ⌜ HeadIs (headAfter rowsBelowLimit n (now (bundle .entry)) at) (now (table .entry)) (now (table .exit)) r ⌝ }
+{
+    match any_byte(bundle, at) {
+        Field::Refused(refusal) => HeadTaken::Refused(refusal),
+        Field::Value(count, start) => match take_words(bundle, start, n, count, table) {
+            LogTaken::Refused(refusal) => HeadTaken::Refused(refusal),
+            LogTaken::Taken(rows, _, end) => match read_places(bundle, end, n) {
+                PlacesRead::Refused(refusal) => HeadTaken::Refused(refusal),
+                PlacesRead::Read(places) => HeadTaken::Taken(Head { n, places }, rows),
+            },
+        },
+    }
+}
+
+// Reads a bundle up to its last place, and takes its log into a table that has the row of the empty log. (Inner function.)
+pub fn take_head(bundle: &[u8], table: &mut [u16]) -> HeadTaken
+    requires { ⌜ (TABLE ≤ length (now table)) × (rowsOf 1 (now table) ≡ newRow none ∷ []) ⌝ }
+    ensures { λ r. ⌜ HeadIs (head rowsBelowLimit (now (bundle .entry)) 0) (now (table .entry)) (now (table .exit)) r ⌝ }
+{
+    match byte_between(bundle, 0, 1, 12) {
+        Field::Refused(refusal) => HeadTaken::Refused(refusal),
+        Field::Value(n, at) => take_after(bundle, at, n, table),
+    }
+}

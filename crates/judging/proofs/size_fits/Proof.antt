@@ -1,0 +1,16 @@
+-- `judging::size_fits` meets its contract.
+use borrow.Author.Tests.{le-leb, lt-leb}
+use Rattle.verdicts.specs.Judging.{sizeFits}
+use Rattle.judging.proofs.size_fits.Statement.{statement}
+use Rattle.judging.proofs.size_fits.Tie as tie
+
+returns : tie.Need-returns
+unfolding sizeFits
+returns c = rw (le-leb _ _ (c .if1 .taken))
+
+returns-2 : tie.Need-returns-2
+unfolding sizeFits
+returns-2 c = rw (lt-leb _ _ (c .if1 .left))
+
+pub size-fits-spec : {M : Type 1} → statement M
+size-fits-spec = tie.close (tie.spec returns returns-2)

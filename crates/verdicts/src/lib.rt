@@ -1,0 +1,16 @@
+// Judging a bundle.
+use refusals::Refusal;
+
+// The four counts of an accepted bundle: rows, allowed steps, kind 0 and kind 1 certificates.
+pub struct Counts {
+    pub rows: usize,
+    pub allowed: usize,
+    pub by_place: usize,
+    pub by_weights: usize,
+}
+
+// The verdict on a bundle.
+pub enum Verdict {
+    Accepted(Counts),
+    Refused(Refusal),
+}

@@ -1,0 +1,160 @@
+//! The program `judge`: what it prints for what it reads.
+//!
+//! It is taken from the directory that the environment variable
+//! `HOVMEKHAR_BIN_DIR` names, else from `target/bin` beside the Rust workspace.
+
+use differential::bundles::{SAMPLE_A, SAMPLE_E, SAMPLE_F, SAMPLE_G, SAMPLE_H};
+use differential::faults::BlockFault;
+use differential::files::build;
+use differential::limits::{LARGEST, MOST_WORDS};
+use differential::nets::small_certified;
+use differential::rng::Rng;
+use differential::run::{refusal, Run};
+use differential::{samples, vectors};
+use std::env;
+use std::io::{ErrorKind, Write};
+use std::path::{Path, PathBuf};
+use std::process::{Command, Stdio};
+
+const VARIABLE: &str = "HOVMEKHAR_BIN_DIR";
+
+/// The largest length of a sealed file.
+const MAX_FILE: usize = 65_536;
+
+fn program() -> PathBuf {
+    let directory = match env::var_os(VARIABLE) {
+        Some(directory) => PathBuf::from(directory),
+        None => Path::new(env!("CARGO_MANIFEST_DIR")).join("../../target/bin"),
+    };
+    let program = directory.join("judge");
+    assert!(
+        program.is_file(),
+        "The program {} is missing: build it with `rt check`, \
+         or set {VARIABLE} to the absolute path of the directory that holds judge.",
+        program.display()
+    );
+    program
+}
+
+/// Runs the program with this standard input, in pieces of this many bytes, and
+/// returns all that it printed.
+fn printed(input: &[u8], piece: usize) -> String {
+    let mut running = Command::new(program())
+        .stdin(Stdio::piped())
+        .stdout(Stdio::piped())
+        .spawn()
+        .expect("the program starts");
+    let mut pipe = running.stdin.take().expect("a pipe");
+    for piece in input.chunks(piece) {
+        match pipe.write_all(piece) {
+            // It need not read more than the longest file and a byte.
+            Err(error) if error.kind() == ErrorKind::BrokenPipe => break,
+            result => result.expect("the program reads"),
+        }
+    }
+    drop(pipe);
+    let done = running.wait_with_output().expect("the program ends");
+    assert!(done.status.code().is_some(), "ended by {}", done.status);
+    String::from_utf8(done.stdout).expect("the program prints text")
+}
+
+/// Checks that the program prints exactly this line.
+fn expect(input: &[u8], line: &str) {
+    assert_eq!(printed(input, input.len().max(1)), format!("{line}\n"));
+}
+
+#[test]
+fn the_program_is_there() {
+    program();
+}
+
+#[test]
+fn sample_bundles() {
+    for (bundle, line) in [
+        (SAMPLE_A.as_slice(), "accepted 5 4 5 1"),
+        (&SAMPLE_E, "accepted 1 0 1 0"),
+        (&SAMPLE_F, "refused 6 3"),
+        (&SAMPLE_G, "refused 12 0"),
+        (&SAMPLE_H, "refused 7 4"),
+    ] {
+        expect(&build(bundle), line);
+    }
+}
+
+#[test]
+fn sample_files() {
+    for sample in samples::all() {
+        expect(&sample.file, sample.line);
+    }
+}
+
+/// Nothing, and lengths around that of the longest file.
+#[test]
+fn lengths() {
+    let mut rng = Rng::new(1);
+    for (length, line) in [
+        (0, "refused 1 0"),
+        (1, "refused 1 0"),
+        (511, "refused 1 0"),
+        (512, "refused 2 0"),
+        (513, "refused 1 0"),
+        (MAX_FILE - 512, "refused 2 0"),
+        (MAX_FILE - 1, "refused 1 0"),
+        (MAX_FILE, "refused 2 0"),
+        (MAX_FILE + 1, "refused 1 0"),
+        (MAX_FILE + 512, "refused 1 0"),
+        (1_000_000, "refused 1 0"),
+    ] {
+        expect(&rng.bytes(length), line);
+    }
+}
+
+/// A sound file of the largest size and a byte more, or a block.
+#[test]
+fn longer_than_the_longest_file() {
+    let file = build(&LARGEST.certified(&mut Rng::new(1)).bundle.bytes());
+    assert_eq!(file.len(), MAX_FILE);
+    expect(&file, "accepted 256 255 2565 252");
+    expect(&[file.as_slice(), &[0]].concat(), "refused 1 0");
+    expect(&[file.as_slice(), &[0; 512]].concat(), "refused 1 0");
+    expect(&file[..MAX_FILE - 1], "refused 1 0");
+}
+
+/// The same file in pieces of every kind of size.
+#[test]
+fn pieces() {
+    let sample = build(&SAMPLE_A);
+    for piece in [1, 2, 100, 511, 512] {
+        assert_eq!(printed(&sample, piece), "accepted 5 4 5 1\n");
+    }
+    let largest = build(&MOST_WORDS.certified(&mut Rng::new(2)).bundle.bytes());
+    for piece in [1, 7, 512, 4_096, 65_535] {
+        assert_eq!(printed(&largest, piece), "accepted 256 255 2565 252\n");
+    }
+    assert_eq!(printed(&vec![0; MAX_FILE + 1], 1), "refused 1 0\n");
+}
+
+#[test]
+fn generated_files() {
+    let mut run = Run::start("generated_files");
+    for _ in 0..run.cases(100) {
+        let certified = small_certified(&mut run.rng);
+        let file = build(&certified.bundle.bytes());
+        expect(&file, &vectors::line(Ok(certified.counts)));
+        run.count(0);
+        let fault = run.rng.choose(&BlockFault::ALL);
+        let (file, lowest) = fault.file(&mut run.rng);
+        expect(&file, &vectors::line(refusal(2, lowest)));
+        run.count(2);
+    }
+    run.finish(&[(0, 100), (2, 100)]);
+}
+
+#[test]
+fn base() {
+    let cases = vectors::read(include_str!("data/base.txt"));
+    assert_eq!(cases.judge.len(), 120);
+    for case in cases.judge {
+        expect(&case.file, &case.line);
+    }
+}
