@@ -10,6 +10,7 @@ use lib.IntN.{ℤ, pos, _-ℤ_}
 use lib.ListN.{length, getD, drop, replicate, List·getD-eq-default}
 use lib.Seq.{getD-drop}
 use lib.Signed.{nonNeg}
+use Rattle.laws.specs.Parts.{getD-padded}
 use Rattle.laws.specs.Lists.{getD-member}
 use Rattle.laws.specs.Bits.{bit}
 use Rattle.laws.specs.Numbers.{Bytes}
@@ -45,21 +46,13 @@ use Rattle.certifying.specs.declared.Checked.the-variants as checked
 
 -- ---- places
 
--- what stands past the end of a list is the default
-getD-padded : (l : List ℕ) (k i : ℕ) → getD (l ++ replicate k 0) i 0 ≡ getD l i 0
-getD-padded [] zero i = refl
-getD-padded [] (suc k) zero = refl
-getD-padded [] (suc k) (suc i) = getD-padded [] k i
-getD-padded (x ∷ l) k zero = refl
-getD-padded (x ∷ l) k (suc i) = getD-padded l k i
-
 -- the code's place stands for what the fields do
 place-means : (f : PlaceFields) → placeOf (machinePlace f) ≡ toPlace f
 unfolding machinePlace padded toPlace
 place-means f = λ i. record {
   initial = f .initial;
-  produced = λ x. getD-padded (f .produced) (12 - length (f .produced)) x i;
-  consumed = λ x. getD-padded (f .consumed) (12 - length (f .consumed)) x i;
+  produced = λ x. getD-padded (f .produced) (12 - length (f .produced)) x 0 i;
+  consumed = λ x. getD-padded (f .consumed) (12 - length (f .consumed)) x 0 i;
 }
 
 -- zeros behind the counts of n events change nothing
@@ -68,7 +61,7 @@ permits-wide : (n k : ℕ) (p : Place) (v : Counts) (e : ℕ) → length v ≡ n
 unfolding placePermits surplus
 permits-wide n k p v e size =
     ap (λ (z : ℤ). nonNeg (z -ℤ pos (p .consumed e)))
-    (tokens-row (n + k) p (wide k v) v (λ i _. getD-padded v k i) ∙ tokens-wide n k p v (λ i b. List·getD-eq-default v 0 (omega arith)))
+    (tokens-row (n + k) p (wide k v) v (λ i _. getD-padded v k i 0) ∙ tokens-wide n k p v (λ i b. List·getD-eq-default v 0 (omega arith)))
 
 -- place j of places in fields
 refused-fields : (n : ℕ) (fs : List PlaceFields) (j : ℕ) (s : Step) → j < length fs → (f : PlaceFields) → ((d : PlaceFields) → getD fs j d ≡ f) → refusedBy n (map toPlace fs) j s ≡ not (placePermits n (toPlace f) s)

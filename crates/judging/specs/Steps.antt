@@ -156,22 +156,20 @@ pub cleared-again : (t₀ t : List ℕ) → drop TABLE t ≡ drop TABLE (cleared
 unfolding cleared
 cleared-again t₀ t e = ap (λ (l : List ℕ). replicate TABLE 0 ++ l) (e ∙ drop-at (replicate TABLE 0) (drop TABLE t₀) TABLE (length-replicate {A = ℕ} TABLE 0))
 
-module _ (m : Read Contents) (t₀ t : List ℕ) (left : TableLeft m (cleared TABLE t₀) t) where
-  pub table-accepted : {c : Counts} → verdictOn m ≡ verdicts.Accepted c → t ≡ tableOn m t₀
-  unfolding verdictOn tableOn
-  table-accepted e = go m left e
-    where
-      go : (m : Read Contents) → TableLeft m (cleared TABLE t₀) t → {c : Counts} → verdictOn m ≡ verdicts.Accepted c → t ≡ tableOn m t₀
-      go (got d next) l e = l
-      go (failed number spot) l e = absurd (let z : _≡_ {A = ℕ} 0 1 = cc in omega arith)
+unfoldable pub isRefused : Verdict → Bool
+isRefused (verdicts.Accepted c) = false
+isRefused (verdicts.Refused r) = true
 
-  pub table-cleared : {r : Refusal} → verdictOn m ≡ verdicts.Refused r → cleared TABLE t ≡ tableOn m t₀
-  unfolding verdictOn tableOn
-  table-cleared e = go m left e
-    where
-      go : (m : Read Contents) → TableLeft m (cleared TABLE t₀) t → {r : Refusal} → verdictOn m ≡ verdicts.Refused r → cleared TABLE t ≡ tableOn m t₀
-      go (got d next) l e = absurd (let z : _≡_ {A = ℕ} 0 1 = cc in omega arith)
-      go (failed number spot) l e = cleared-again t₀ t l
+-- what is left of an accepted bundle stays; of a refused one it is cleared
+pub table-kept : (m : Read Contents) (t₀ t : List ℕ) → TableLeft m (cleared TABLE t₀) t → isRefused (verdictOn m) ≡ false → t ≡ tableOn m t₀
+unfolding verdictOn tableOn isRefused
+table-kept (got d next) t₀ t left e = left
+table-kept (failed number spot) t₀ t left e = absurd (let z : _≡_ {A = ℕ} 0 1 = cc in omega arith)
+
+pub table-cleared : (m : Read Contents) (t₀ t : List ℕ) → TableLeft m (cleared TABLE t₀) t → isRefused (verdictOn m) ≡ true → cleared TABLE t ≡ tableOn m t₀
+unfolding verdictOn tableOn isRefused
+table-cleared (got d next) t₀ t left e = absurd (let z : _≡_ {A = ℕ} 0 1 = cc in omega arith)
+table-cleared (failed number spot) t₀ t left e = cleared-again t₀ t left
 
 -- ---- the verdict, test by test
 

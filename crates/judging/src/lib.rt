@@ -22,7 +22,7 @@ ghost use Rattle.bundles.specs.PlaceSteps.{placeSize};
 ghost use Rattle.logs.specs.Rows.{ROW, rowsOf, newRow, none};
 ghost use Rattle.logs.specs.Answers.{TABLE};
 ghost use Rattle.verdicts.specs.Judging.{sizeFits, judging, verdictOn, verdict, tableAfter};
-ghost use Rattle.judging.specs.Steps.{endedAs, NetJudged, TableLeft};
+ghost use Rattle.judging.specs.Steps.{endedAs, NetJudged, TableLeft, isRefused};
 
 fn refused(number: u8, spot: usize) -> Verdict
     ensures { λ r. ⌜ r ≡ Verdict.Refused (refusal number spot) ⌝ }
@@ -70,6 +70,15 @@ fn judge_fields(bundle: &[u8], table: &mut [u16]) -> Verdict
     }
 }
 
+fn is_refused(verdict: Verdict) -> bool
+    ensures { λ r. ⌜ r ≡ isRefused verdict ⌝ }
+{
+    match verdict {
+        Verdict::Accepted(_) => false,
+        Verdict::Refused(_) => true,
+    }
+}
+
 // Whether a bundle has 1 to 64,512 bytes.
 fn size_fits(bundle: &[u8]) -> bool
     ensures { λ r. ⌜ r ≡ sizeFits (now (bundle .entry)) ⌝ }
@@ -90,11 +99,9 @@ pub fn judge(bundle: &[u8], table: &mut [u16]) -> Verdict
         return refused(TABLE_SHORT, TABLE);
     }
     clear(table);
-    match judge_fields(bundle, table) {
-        Verdict::Accepted(counts) => Verdict::Accepted(counts),
-        Verdict::Refused(refusal) => {
-            clear(table);
-            Verdict::Refused(refusal)
-        }
+    let verdict = judge_fields(bundle, table);
+    if is_refused(verdict) {
+        clear(table);
     }
+    verdict
 }

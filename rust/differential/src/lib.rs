@@ -16,11 +16,13 @@
 //! - [`guarded`]: lent buffers with guards on both sides.
 //! - [`run`]: makes each call on both sides, compares, and counts.
 //!
-//! Two environment variables steer the tests:
+//! Three environment variables steer the tests:
 //!
 //! - `HOVMEKHAR_SEED`: the seed. Without it each test takes a fresh one from the
 //!   clock. A test prints its seed, and every failed comparison names it.
 //! - `HOVMEKHAR_CASES`: a multiplier for the number of cases, for long runs.
+//! - `HOVMEKHAR_BIN_DIR`: the directory of the program `judge`, an absolute path.
+//!   Without it that is `target/bin` beside the Rust workspace.
 
 #![forbid(unsafe_code)]
 #![deny(missing_docs)]

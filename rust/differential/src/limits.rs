@@ -1,7 +1,7 @@
 //! Bundles up to the limits, with certificates that are known beforehand.
 
 use crate::bundles::{Bundle, Certificate, Place, Term, MAX_TERMS};
-use crate::nets::{fitting_place, term, Certified, Step};
+use crate::nets::{fitting_place, refusing_place, term, Certified, Step};
 use crate::rng::Rng;
 use reference::{log_rows, Counts};
 
@@ -136,12 +136,7 @@ impl Size {
                 self.weights(rng, last, zeros, terms)
             } else {
                 certified.counts.by_place += 1;
-                let refusing: Vec<u8> = (0u8..)
-                    .zip(&certified.bundle.places)
-                    .filter(|(_, place)| place.refuses(&certified.rows, step))
-                    .map(|(number, _)| number)
-                    .collect();
-                Certificate::Place(rng.choose(&refusing))
+                refusing_place(rng, &certified.bundle.places, &certified.rows, step)
             };
             certified.bundle.certificates.push(certificate);
         }

@@ -233,6 +233,17 @@ fn rewrite(rng: &mut Rng, allowed: &[Step], k: u16, terms: &[Term]) -> Certifica
     }
 }
 
+/// A certificate that lists any one of the places that refuse a step; there is
+/// one.
+pub fn refusing_place(rng: &mut Rng, places: &[Place], rows: &[Row], step: Step) -> Certificate {
+    let refusing: Vec<u8> = (0u8..)
+        .zip(places)
+        .filter(|(_, place)| place.refuses(rows, step))
+        .map(|(number, _)| number)
+        .collect();
+    Certificate::Place(rng.choose(&refusing))
+}
+
 /// A net and certificates for a log. Nothing when it has too many rows, or more
 /// places or larger numbers are needed than a bundle has room for.
 pub fn certified(rng: &mut Rng, n: usize, words: Vec<Vec<u8>>) -> Option<Certified> {
@@ -272,12 +283,7 @@ pub fn certified(rng: &mut Rng, n: usize, words: Vec<Vec<u8>>) -> Option<Certifi
             Some(Certificate::Weights { k, terms }) => rewrite(rng, &allowed, k, &terms),
             _ => {
                 by_place += 1;
-                let refusing: Vec<u8> = (0u8..)
-                    .zip(&places)
-                    .filter(|(_, place)| place.refuses(&rows, step))
-                    .map(|(number, _)| number)
-                    .collect();
-                Certificate::Place(rng.choose(&refusing))
+                refusing_place(rng, &places, &rows, step)
             }
         });
     }

@@ -8,6 +8,7 @@ use differential::logs::{table_of, Shape, COUNTS, MAX_EVENTS, MAX_ROWS, TABLE};
 use differential::nets::{certified, small_certified, small_log, Certified};
 use differential::run::{refusal, Outcome, Run};
 use reference::{log_rows, Counts};
+use std::collections::HashSet;
 
 fn counts(rows: usize, allowed: usize, by_place: usize, by_weights: usize) -> Counts {
     Counts {
@@ -20,7 +21,7 @@ fn counts(rows: usize, allowed: usize, by_place: usize, by_weights: usize) -> Co
 
 #[test]
 fn samples() {
-    let mut run = Run::start("samples");
+    let mut run = Run::start("judge::samples");
     for (bundle, expected) in [
         (SAMPLE_A.as_slice(), Ok(counts(5, 4, 5, 1))),
         (&SAMPLE_E, Ok(counts(1, 0, 1, 0))),
@@ -72,13 +73,8 @@ fn accept(run: &mut Run, certified: &Certified) {
                 }
             }
             Certificate::Weights { k, terms } => {
-                let repeated = |i: usize| {
-                    let same = |j: &usize| {
-                        (terms[*j].row, terms[*j].event) == (terms[i].row, terms[i].event)
-                    };
-                    (0..i).any(|j| same(&j))
-                };
-                if (0..terms.len()).any(repeated) {
+                let steps: HashSet<_> = terms.iter().map(|term| (term.row, term.event)).collect();
+                if steps.len() < terms.len() {
                     run.note("a repeated term");
                 }
                 if terms.iter().any(|term| term.weight == 0) {
@@ -236,7 +232,7 @@ fn judge_with(run: &mut Run, bundle: &[u8], table: &[u16], expected: Outcome<Cou
 /// when their high bits are lost.
 #[test]
 fn table_lengths() {
-    let mut run = Run::start("table_lengths");
+    let mut run = Run::start("judge::table_lengths");
     for _ in 0..run.cases(10) {
         for length in [
             0,

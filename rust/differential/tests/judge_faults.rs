@@ -231,7 +231,7 @@ fn altered(run: &mut Run, certified: &Certified) -> Vec<u8> {
 /// byte before called for.
 #[test]
 fn noise() {
-    let mut run = Run::start("noise");
+    let mut run = Run::start("judge_faults::noise");
     for _ in 0..run.cases(4_000) {
         let largest = run.rng.choose(&[1, 2, 3, 12, 255]);
         let length = run.rng.within(1..=100);

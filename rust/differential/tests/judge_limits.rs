@@ -89,7 +89,7 @@ fn log_only(n: u8, words: &[Vec<u8>]) -> (Vec<u8>, Vec<usize>) {
 /// Sample J: four words of 255 equal events, and a fifth one.
 #[test]
 fn sample_j() {
-    let mut run = Run::start("sample_j");
+    let mut run = Run::start("judge_limits::sample_j");
     let words = vec![vec![0; 255]; 4];
     let sample = certified(&mut run.rng, 1, words).expect("one wrong continuation");
     let counts = Counts {
@@ -119,7 +119,7 @@ fn sample_j() {
 /// From every number of rows to 256 of them, and to one more.
 #[test]
 fn rows_up_to_the_limit() {
-    let mut run = Run::start("rows_up_to_the_limit");
+    let mut run = Run::start("judge_limits::rows_up_to_the_limit");
     for rows in 1..=MAX_ROWS {
         let first = vec![0; rows - 1];
         let left = MAX_ROWS - rows;

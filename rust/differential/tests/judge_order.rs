@@ -65,6 +65,14 @@ fn faults(run: &mut Run, certified: &Certified, layout: &Layout) -> Vec<Fault> {
         .position(|certificate| matches!(certificate, Certificate::Weights { .. }))
         .expect("one of kind 1");
     let weight = field(Field::Weight, 2);
+    let does_not_hold = |range, value| Fault {
+        fields: vec![(range, value)],
+        refusal: Refusal {
+            number: 12,
+            spot: first_of_kind_1,
+        },
+        noticed: layout.certificate_ends[first_of_kind_1],
+    };
 
     vec![
         value(field(Field::EventCount, 0), 13),
@@ -108,14 +116,9 @@ fn faults(run: &mut Run, certified: &Certified, layout: &Layout) -> Vec<Fault> {
         value(field(Field::K, 0), 0),
         value(field(Field::TermRow, 1), 243),
         value(field(Field::TermEvent, 2), 2),
-        Fault {
-            fields: vec![(weight.clone(), read(layout, weight) + 1)],
-            refusal: Refusal {
-                number: 12,
-                spot: first_of_kind_1,
-            },
-            noticed: layout.certificate_ends[first_of_kind_1],
-        },
+        // Row 1 is that of the word 1, and nothing follows there.
+        does_not_hold(field(Field::TermRow, 0), 1),
+        does_not_hold(weight.clone(), read(layout, weight) + 1),
         value(field(Field::TermCount, 7), 65),
         value(
             layout.all(Field::Listed).last().expect("kind 0").clone(),

@@ -65,7 +65,7 @@ fn judge_agrees() {
 /// table that is long enough.
 #[test]
 fn vectors_agree() {
-    let mut run = Run::start("vectors_agree");
+    let mut run = Run::start("judge_wrapper::vectors_agree");
     for _ in 0..run.cases(1_000) {
         let bundle = any_bundle(&mut run);
         let noise: Vec<u16> = run.rng.items(TABLE);

@@ -12,6 +12,7 @@ use differential::rng::Rng;
 use differential::run::{refusal, Run};
 use differential::{samples, vectors};
 use std::env;
+use std::fs::File;
 use std::io::{ErrorKind, Write};
 use std::path::{Path, PathBuf};
 use std::process::{Command, Stdio};
@@ -118,6 +119,18 @@ fn longer_than_the_longest_file() {
     expect(&[file.as_slice(), &[0]].concat(), "refused 1 0");
     expect(&[file.as_slice(), &[0; 512]].concat(), "refused 1 0");
     expect(&file[..MAX_FILE - 1], "refused 1 0");
+}
+
+/// A read that fails is not the end of the file: a directory opens, but cannot be read.
+#[test]
+fn failed_read() {
+    let directory = File::open(env!("CARGO_MANIFEST_DIR")).expect("the directory opens");
+    let done = Command::new(program())
+        .stdin(directory)
+        .output()
+        .expect("the program ends");
+    assert_eq!(String::from_utf8_lossy(&done.stdout), "refused 1 0\n");
+    assert!(!done.stderr.is_empty(), "a word on standard error");
 }
 
 /// The same file in pieces of every kind of size.

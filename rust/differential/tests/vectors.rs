@@ -7,7 +7,7 @@ use differential::vectors::{line, read};
 
 #[test]
 fn base() {
-    let mut run = Run::start("base");
+    let mut run = Run::start("vectors::base");
     let cases = read(include_str!("data/base.txt"));
     for case in &cases.judge {
         let opened = run.open(&case.file, MAX_BUNDLE);

@@ -8,11 +8,11 @@ use borrow.Author.Needs.{needs}
 use borrow.Author.Tests.{not-true, not-false}
 use denote.Ref.{now}
 use lib.ListN.{length}
-use Rattle.logs.specs.Rows.{rowsOf}
+use Rattle.logs.specs.Rows.{rowsOf, cleared}
 use Rattle.logs.specs.Answers.{TABLE}
 use Rattle.logs.specs.LogTable.{cleared-first, cleared-length}
-use Rattle.verdicts.specs.Judging.{sizeFits, judging}
-use Rattle.judging.specs.Steps.{TableLeft, table-accepted, table-cleared, answer-4, answer-5, answer-rest}
+use Rattle.verdicts.specs.Judging.{sizeFits, judging, verdictOn, verdict, tableOn, tableAfter}
+use Rattle.judging.specs.Steps.{TableLeft, isRefused, table-kept, table-cleared, answer-4, answer-5, answer-rest}
 use Rattle.judging.proofs.judge.Statement.{statement}
 use Rattle.judging.proofs.judge.Tie as tie
 
@@ -38,32 +38,35 @@ judge-fields-requires c κs =
     let t = now (c .before .before .before .before .before .before .before .before .before .before .args .table) in
     (omega (arith, ap length (clear .ensures), cleared-length TABLE t), ap (rowsOf 1) (clear .ensures) ∙ cleared-first 3315 t)
 
+-- past both tests the verdict is that on the fields
+judged : (c : tie.After-is-refused) → let call = c .before .before .before in let start = call .before .before .before .before .before .before .before .before .before .before .before in
+    (verdict (length (now (start .args .table))) (now (start .args .bundle)) ≡ verdictOn (judging (now (start .args .bundle)) 0)) × (tableAfter (now (start .args .bundle)) (now (start .args .table)) ≡ tableOn (judging (now (start .args .bundle)) 0) (now (start .args .table)))
+judged c =
+    let long = c .before .before .before .before .before .before .before .before .before in
+    answer-rest _ _ (fits (long .before)) (long .if2 .left)
+
+-- and the table is the one that they left in a cleared one
+left : (c : tie.After-is-refused) → let call = c .before .before .before in let start = call .before .before .before .before .before .before .before .before .before .before .before in
+    TableLeft (judging (now (start .args .bundle)) 0) (cleared TABLE (now (start .args .table))) (call .judge-fields .last .1 .0)
+left c =
+    let call = c .before .before .before in
+    let first = call .before .before .before .before in
+    let start = first .before .before .before .before .before .before .before in
+    subst (λ (x : List ℕ). TableLeft (judging (now (start .args .bundle)) 0) x (call .judge-fields .last .1 .0)) (first .clear .ensures) (call .judge-fields .ensures .1)
+
 returns-3 : tie.Need-returns-3
 returns-3 c =
-    let call = c .before .before .before .before .before in
-    let first = call .before .before .before .before in
-    let long = first .before .before in
-    let start = long .before .before .before .before .before in
-    let b = now (start .args .bundle) in
-    let t = now (start .args .table) in
-    let a = answer-rest b t (fits (long .before)) (long .if2 .left) in
-    let told = sym (call .judge-fields .ensures .0) ∙ c .before .counts .given .1 in
-    let left = subst (λ (x : List ℕ). TableLeft (judging b 0) x (call .judge-fields .last .1 .0)) (first .clear .ensures) (call .judge-fields .ensures .1) in
-    (sym told ∙ sym (a .0), table-accepted (judging b 0) t (call .judge-fields .last .1 .0) left told ∙ sym (a .1))
+    let test = c .before .before .before .before .before in
+    let call = test .before .before .before in
+    let told = sym (ap isRefused (call .judge-fields .ensures .0)) ∙ sym (test .is-refused .ensures) ∙ c .before .before .before .before .if3 .taken in
+    (call .judge-fields .ensures .0 ∙ sym (judged test .0), c .before .before .clear2 .ensures ∙ table-cleared _ _ _ (left test) told ∙ sym (judged test .1))
 
 returns-4 : tie.Need-returns-4
 returns-4 c =
-    let last = c .before .before in
-    let call = last .before .before .before .before .before .before .before in
-    let first = call .before .before .before .before in
-    let long = first .before .before in
-    let start = long .before .before .before .before .before in
-    let b = now (start .args .bundle) in
-    let t = now (start .args .table) in
-    let a = answer-rest b t (fits (long .before)) (long .if2 .left) in
-    let told = sym (call .judge-fields .ensures .0) ∙ last .before .before .before .refusal .given .1 in
-    let left = subst (λ (x : List ℕ). TableLeft (judging b 0) x (call .judge-fields .last .1 .0)) (first .clear .ensures) (call .judge-fields .ensures .1) in
-    (sym told ∙ sym (a .0), last .clear2 .ensures ∙ table-cleared (judging b 0) t (call .judge-fields .last .1 .0) left told ∙ sym (a .1))
+    let test = c .before in
+    let call = test .before .before .before in
+    let told = sym (ap isRefused (call .judge-fields .ensures .0)) ∙ sym (test .is-refused .ensures) ∙ c .if3 .left in
+    (call .judge-fields .ensures .0 ∙ sym (judged test .0), table-kept _ _ _ (left test) told ∙ sym (judged test .1))
 
 pub judge-spec : {M : Type 1} → statement M
 judge-spec =
@@ -76,8 +79,7 @@ judge-spec =
     returns-2
     (λ c κs. search needs)
     judge-fields-requires
-    (λ c. search needs)
-    (λ c. search needs)
+    (λ c κs. search needs)
     (λ c κs. search needs)
     (λ c. search needs)
     returns-3
