@@ -1,6 +1,6 @@
 /*
- * Hovmekhar: opening and sealing of files, the log table, and judging. C11 and
- * C++.
+ * Hovmekhar: opening and sealing of files, the log table, judging, and the
+ * screening of words. C11 and C++.
  *
  * A sealed file is 1 to 128 blocks of 512 bytes. Numbers of two bytes have the
  * low byte first. A block holds:
@@ -45,16 +45,23 @@
  * most k * v(i) and the sum of g * (u(i) + [f = i]) is at least
  * k * (v(i) + [e = i]), where [ ] is 1 if true, else 0.
  *
+ * The steps of a word are its events, each after the counts of the events before
+ * it. A net permits a word when every place permits each of its steps. Screening
+ * tells whether the places of a bundle permit a lent word. It reads the bundle up
+ * to its last place, whether or not the judge accepts it.
+ *
  * Every call returns 0 for a result, else the number of a refusal (see
- * enum hov_refusal). A refusal's spot is in answer[0]; where a result is, each
- * call says. Numbers of answer that a call does not use stay as they were.
+ * enum hov_refusal); screening has a second result, HOV_STOPPED. A refusal's spot
+ * is in answer[0]; where a result is, each call says. Numbers of answer that a
+ * call does not use stay as they were.
  *
  * The caller's duties, for every call:
  *   - No pointer is NULL, not even one with length 0.
  *   - Each pointer is valid for its length: inputs for reads; outputs, the
  *     table and the four numbers of answer for reads and writes. The numbers
  *     of table and answer are aligned.
- *   - The buffers of one call do not overlap.
+ *   - The buffers of one call do not overlap, except that the two inputs of
+ *     hov_screen may.
  *   - Nothing else writes to these buffers during the call, and nothing else
  *     reads those that the call may write to.
  *
@@ -101,6 +108,12 @@ extern "C" {
 /** The largest number of events in a log, over all its words. */
 #define HOV_MAX_LOG_EVENTS 1024
 
+/** The largest number of events in a word that is screened. */
+#define HOV_MAX_WORD_EVENTS 65535
+
+/** What hov_screen returns for a word that is stopped; it is no refusal. */
+#define HOV_STOPPED 256
+
 /**
  * The numbers of the refusals.
  *
@@ -108,7 +121,7 @@ extern "C" {
  * stays as it was. No refusal writes to an output or to an input.
  *
  * This is the whole table, so that a number keeps its meaning when calls are
- * added. The calls declared below refuse with numbers 1 to 13 and 16.
+ * added.
  */
 enum hov_refusal {
     /**
@@ -313,6 +326,30 @@ uint32_t hov_take(size_t n, size_t rows, size_t events,
 uint32_t hov_judge(const uint8_t *bundle, size_t bundle_len,
                    uint16_t *table, size_t table_len,
                    uint64_t answer[4]);
+
+/**
+ * Screens a word: replays its events on the places of a bundle, which need not be
+ * one that hov_judge accepts. Its rows are not counted, and what follows the last
+ * place is not looked at.
+ *
+ * Returns 0 when every place permits every step of the word; answer[0] to
+ * answer[3] stay as they were. Returns HOV_STOPPED when some step is refused, with
+ * the position of the first refused step in answer[0], counted from 0, and in
+ * answer[1] the number of the lowest place that refuses it. answer[2] and
+ * answer[3] stay as they were.
+ *
+ * Or returns the first refusal that applies, with its spot in answer[0];
+ * answer[1] to answer[3] stay as they were. HOV_WORD_LENGTH comes first, then
+ * HOV_BUNDLE_LENGTH. Then HOV_BUNDLE_END, HOV_VALUE and HOV_EVENTS come in the
+ * order of the bundle, up to its last place: a word's length byte is followed by
+ * HOV_EVENTS, then by its events one by one. HOV_WORD_EVENT comes last, for the
+ * first event of the screened word that is not below n.
+ *
+ * Both inputs stay as they were.
+ */
+uint32_t hov_screen(const uint8_t *bundle, size_t bundle_len,
+                    const uint8_t *word, size_t word_len,
+                    uint64_t answer[4]);
 
 #ifdef __cplusplus
 }

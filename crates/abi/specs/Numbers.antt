@@ -8,6 +8,8 @@ use Rattle.logs.specs.declared.Taken.{Taken}
 use Rattle.logs.specs.declared.Taken.the-variants.{Next, Refused}
 use Rattle.verdicts.specs.declared.Verdict.{Verdict}
 use Rattle.verdicts.specs.declared.Verdict.the-variants as verdicts
+use Rattle.screening.specs.declared.Screened.{Screened}
+use Rattle.screening.specs.declared.Screened.the-variants as screening
 
 -- a length, or a refusal's spot, in the first; the others stay
 unfoldable pub withValue : List ℕ → Written → List ℕ
@@ -22,3 +24,9 @@ withTaken numbers (Refused r) = set numbers 0 (r .spot)
 unfoldable pub withVerdict : List ℕ → Verdict → List ℕ
 withVerdict numbers (verdicts.Accepted c) = set (set (set (set numbers 0 (c .rows)) 1 (c .allowed)) 2 (c .«by_place»)) 3 (c .«by_weights»)
 withVerdict numbers (verdicts.Refused r) = set numbers 0 (r .spot)
+
+-- the stop's position and place, or a refusal's spot in the first; the others stay
+unfoldable pub withScreened : List ℕ → Screened → List ℕ
+withScreened numbers screening.Permitted = numbers
+withScreened numbers (screening.Stopped stop) = set (set numbers 0 (stop .position)) 1 (stop .place)
+withScreened numbers (screening.Refused r) = set numbers 0 (r .spot)

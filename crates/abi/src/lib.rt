@@ -4,3 +4,4 @@
 pub mod files; // opening and sealing
 pub mod tables; // the log table
 pub mod judgement; // judging
+pub mod replay; // screening

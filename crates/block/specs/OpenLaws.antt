@@ -15,7 +15,7 @@ use Rattle.laws.specs.Parts.{take-drop-take}
 use Rattle.laws.specs.Pieces.{joined, joined-next, length-joined}
 use Rattle.laws.specs.Scans.{firstFalse-all, firstFalse-at, firstFalse-none, firstFalse-fails, firstFalse-most}
 use Rattle.refusals.specs.Table.{FILE-LENGTH}
-use Rattle.refusals.specs.Answers.{refusal, Result}
+use Rattle.refusals.specs.Answers.{refusal}
 use Rattle.refusals.specs.Answers.Result.{bytes, refused}
 use Rattle.block.specs.Block.{isZero, usedCount, usedContents, rightCount}
 use Rattle.block.specs.File.{blockCount, blockAt, faultAt, firstFaulty, firstFault, contentsAt, bundleOf, rightLength, opened, Sound}

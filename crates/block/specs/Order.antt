@@ -1,5 +1,5 @@
 -- The refusal numbers of each call are those of its line in the order of refusals: open 1, 2, 3; seal 4, 3.
-use mathlib.Core.Path.{_≡_, refl, ap, _∙_}
+use mathlib.Core.Path.{_≡_, refl}
 use mathlib.Core.Bool.{Bool, true, false, cond}
 use mathlib.Core.List.{List, [], _∷_}
 use Prim.Native.Nat.{ℕ}
@@ -7,7 +7,7 @@ use lib.ListN.{length}
 use lib.Dec.{eqb, leb}
 use Rattle.laws.specs.Lists.{any, among}
 use Rattle.refusals.specs.Table.{FILE-LENGTH, BLOCK, OUTPUT-SHORT, BUNDLE-LENGTH}
-use Rattle.refusals.specs.Answers.{refusal, Result, answer, numberOf}
+use Rattle.refusals.specs.Answers.{refusal, answer, numberOf}
 use Rattle.refusals.specs.Answers.Result.{bytes, refused}
 use Rattle.refusals.specs.declared.Written.the-variants.{Length, Refused}
 use Rattle.block.specs.Block.{isZero, rightNumber, rightCount, usedCount, rightPadding, rightSums, unless, fault}

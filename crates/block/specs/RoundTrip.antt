@@ -1,24 +1,24 @@
 -- Sealing and opening undo each other.
-use mathlib.Core.Path.{_≡_, refl, sym, ap, _∙_}
+use mathlib.Core.Path.{_≡_, refl, sym, ap, _∙_, subst}
 use mathlib.Core.Bool.{Bool, true, false, cond}
 use mathlib.Core.Logic.{⊎-elim}
-use mathlib.Core.List.{List}
+use mathlib.Core.List.{List, _++_}
 use Prim.Native.Nat.{ℕ, _+_, _-_, _*_, _%_, _≤_, _<_, min}
 use native.Mathlib.Nat.{eq-or-lt-of-le}
 use native.Mathlib.Omega.{arith}
-use lib.ListN.{length, take, drop, length-drop}
+use lib.ListN.{length, take, drop, replicate, length-drop}
 use lib.Seq.{take-all}
 use lib.Dec.{eqb}
 use borrow.Author.Tests.{eqb-true, eqb-false, eq-eqb, le-leb}
-use Rattle.laws.specs.Parts.{front, take-front, take-min}
+use Rattle.laws.specs.Parts.{front, take-min}
 use Rattle.laws.specs.Pieces.{joined-same, joined-parts, part-joined}
-use Rattle.laws.specs.Numbers.{Bytes, bytes-take, bytes-drop}
+use Rattle.laws.specs.Numbers.{Bytes, bytes-take, bytes-drop, bytes-append, bytes-joined, bytes-zeros, le16, bytes-le16}
 use Rattle.refusals.specs.Table.{FILE-LENGTH, BUNDLE-LENGTH}
 use Rattle.refusals.specs.Answers.{refusal, Result, answer, written}
 use Rattle.refusals.specs.Answers.Result.{bytes, refused}
-use Rattle.refusals.specs.Laws.{Ends, ends-written, answer-length}
+use Rattle.refusals.specs.Laws.{Ends, ends-written, answer-taken}
 use Rattle.refusals.specs.declared.Written.the-variants.{Length}
-use Rattle.block.specs.Block.{isZero, rightCount, usedCount}
+use Rattle.block.specs.Block.{plainSum, positionSum, padded, summedBytes, withSums, block, isZero, rightCount, usedCount, usedContents}
 use Rattle.block.specs.File.{blockCount, blockAt, faultAt, firstFault, contentsAt, bundleOf, rightLength, opened, Sound, partAt, sealedBlockAt, blocksFor, sealedFile, rightSize, sealed}
 use Rattle.block.specs.BlockLaws.{rightCount-some, rightCount-intro, block-contents, block-sound, block-unique}
 use Rattle.block.specs.OpenLaws.{length-blockAt, keeps, used-most, used-full, length-contentsAt, length-before, length-bundle, firstFault-none, opened-bundle, opened-sound}
@@ -158,13 +158,39 @@ module _ (file : List ℕ) (sound : Sound file) (small : Bytes file) where
       ∙ joined-parts file 512 (blockCount file)
       ∙ take-all (512 * blockCount file) file (omega arith))
 
+-- opening gives 1 to 64,512 bytes
+pub opened-size : (file bundle : List ℕ) → opened file ≡ bytes bundle → (1 ≤ length bundle) × (length bundle ≤ 64512)
+opened-size file bundle e =
+    let o = opened-bytes file bundle e in
+    (omega (arith, used-last file (o .0), length-bundle file (o .0), ap length (o .1)), omega (arith, used-last file (o .0), length-bundle file (o .0), ap length (o .1)))
+
 -- sealing what opening gave gives the file back
 pub sealed-opened : (file bundle : List ℕ) → Bytes file → opened file ≡ bytes bundle → sealed bundle ≡ bytes file
 sealed-opened file bundle small e =
     let o = opened-bytes file bundle e in
-    let some : 1 ≤ length bundle = omega (arith, used-last file (o .0), length-bundle file (o .0), ap length (o .1)) in
-    let most : length bundle ≤ 64512 = omega (arith, used-last file (o .0), length-bundle file (o .0), ap length (o .1)) in
-    sealed-file bundle (rightSize-intro (length bundle) some most) ∙ ap bytes (ap sealedFile (sym (o .1)) ∙ sealedFile-bundle file (o .0) small)
+    let size = opened-size file bundle e in
+    sealed-file bundle (rightSize-intro (length bundle) (size .0) (size .1)) ∙ ap bytes (ap sealedFile (sym (o .1)) ∙ sealedFile-bundle file (o .0) small)
+
+-- the bundle of a file of bytes has bytes
+pub opened-small : (file bundle : List ℕ) → Bytes file → opened file ≡ bytes bundle → Bytes bundle
+unfolding bundleOf contentsAt usedContents blockAt
+opened-small file bundle small e =
+    subst Bytes (opened-bytes file bundle e .1)
+    (bytes-joined (contentsAt file) (blockCount file) (λ k. bytes-take (usedCount (blockAt file k)) (drop 4 (blockAt file k)) (bytes-drop 4 (blockAt file k) (bytes-take 512 (drop (512 * k) file) (bytes-drop (512 * k) file small)))))
+
+-- and so has the file of a bundle of bytes
+block-small : (number : ℕ) (contents : List ℕ) → Bytes contents → Bytes (block number contents)
+unfolding block withSums summedBytes padded
+block-small number contents small =
+    let rest : List ℕ = le16 (length contents) ++ padded contents in
+    let summed : List ℕ = le16 number ++ rest in
+    bytes-append summed (le16 (plainSum summed) ++ le16 (positionSum summed))
+    (bytes-append (le16 number) rest (bytes-le16 number) (bytes-append (le16 (length contents)) (padded contents) (bytes-le16 (length contents)) (bytes-append contents (replicate (504 - length contents) 0) small (bytes-zeros (504 - length contents)))))
+    (bytes-append (le16 (plainSum summed)) (le16 (positionSum summed)) (bytes-le16 (plainSum summed)) (bytes-le16 (positionSum summed)))
+
+pub sealed-small : (bundle : List ℕ) → Bytes bundle → Bytes (sealedFile bundle)
+unfolding sealedFile sealedBlockAt partAt
+sealed-small bundle small = bytes-joined (sealedBlockAt bundle) (blocksFor (length bundle)) (λ k. block-small k (partAt bundle k) (bytes-take 504 (drop (504 * k) bundle) (bytes-drop (504 * k) bundle small)))
 
 -- ---- As a caller sees it
 
@@ -172,13 +198,7 @@ sealed-opened file bundle small e =
 undone : (f g : List ℕ → Result) (x : List ℕ) → ((y : List ℕ) → f x ≡ bytes y → g y ≡ bytes x)
     → (first second : List ℕ) (n : ℕ) → answer (f x) (length first) ≡ Length n → length x ≤ length second
     → Ends (g (take n (written (f x) first))) second (Length (length x)) (front x second)
-undone f g x back first second n e room = let a = answer-length (f x) first n e in go (a .0) (a .1) (a .2 .0) (a .2 .1)
-  where
-    go : (new : List ℕ) → f x ≡ bytes new → n ≡ length new → written (f x) first ≡ front new first
-        → Ends (g (take n (written (f x) first))) second (Length (length x)) (front x second)
-    go new result size after =
-        let whole : take n (written (f x) first) ≡ new = rw (size, after) (take-front new first) in
-        ends-written _ second x (ap g whole ∙ back new result) room
+undone f g x back first second n e room = ends-written _ second x (back _ (answer-taken (f x) first n e)) room
 
 -- a bundle sealed into one output, and the file opened into another
 pub seal-then-open : (bundle first second : List ℕ) (n : ℕ) → answer (sealed bundle) (length first) ≡ Length n → length bundle ≤ length second

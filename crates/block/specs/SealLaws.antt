@@ -2,7 +2,7 @@
 use mathlib.Core.Path.{_≡_}
 use mathlib.Core.Bool.{true, false}
 use mathlib.Core.List.{List}
-use Prim.Native.Nat.{ℕ, _+_, _-_, _*_, _≤_, _<_, min}
+use Prim.Native.Nat.{ℕ, _-_, _*_, _≤_, min}
 use native.Mathlib.Omega.{arith}
 use lib.ListN.{length, length-append, length-take, length-drop}
 use lib.Dec.{leb}
@@ -10,7 +10,7 @@ use borrow.Author.Tests.{leb-true, le-leb}
 use Rattle.laws.specs.Booleans.{and-left, and-right}
 use Rattle.laws.specs.Pieces.{joined, length-joined}
 use Rattle.refusals.specs.Table.{BUNDLE-LENGTH}
-use Rattle.refusals.specs.Answers.{refusal, Result}
+use Rattle.refusals.specs.Answers.{refusal}
 use Rattle.refusals.specs.Answers.Result.{bytes, refused}
 use Rattle.block.specs.Block.{block, withSums}
 use Rattle.block.specs.File.{partAt, sealedBlockAt, blocksFor, sealedFile, rightSize, sealed}

@@ -1,17 +1,16 @@
 -- A bundle up to its last place, as the code reads it.
 use mathlib.Core.Path.{_≡_, refl, sym, ap, ap₂, _∙_, subst}
-use mathlib.Core.Bool.{Bool, _&&_}
+use mathlib.Core.Bool.{Bool}
 use mathlib.Core.List.{List}
-use Prim.Native.Nat.{ℕ, suc, _+_, _-_, _*_, _≤_, _<_}
+use Prim.Native.Nat.{ℕ, _+_, _-_, _*_, _≤_}
 use native.Mathlib.Omega.{arith}
-use lib.Dec.{leb}
 use lib.ListN.{length}
 use Rattle.nets.specs.Nets.{Log}
-use Rattle.bundles.specs.Reading.{Read, got, failed, Reader, andThen, _>>=_, give, byte, times, following}
+use Rattle.bundles.specs.Reading.{Read, got, failed, Reader, _>>=_, andThen, give, byte, following}
 use Rattle.bundles.specs.Layout.{PlaceFields, Head}
 use Rattle.bundles.specs.Readers.{anything, word, places, head}
 use Rattle.bundles.specs.FieldSteps.{between, between-true, byte-got}
-use Rattle.bundles.specs.WordSteps.{andThen-got}
+use Rattle.bundles.specs.ReadingLaws.{andThen-got}
 use Rattle.bundles.specs.NumberSteps.{itemsAt, items-length}
 use Rattle.bundles.specs.PlaceSteps.{placeSize, fieldsAt, placesRead, PlacesAt, places-got}
 use Rattle.bundles.specs.declared.PlacesRead.{PlacesRead}

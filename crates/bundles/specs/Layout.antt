@@ -1,8 +1,11 @@
 -- What a bundle holds, field by field; what it stands for in the definitions of nets; and its bytes.
 use mathlib.Core.List.{List, [], _∷_, _++_, map, flatMap}
 use mathlib.Core.Path.{_≡_}
-use Prim.Native.Nat.{ℕ, _+_, _/_, _%_, _≤_, _<_}
+use mathlib.Core.Bool.{Bool, _&&_}
+use Prim.Native.Nat.{ℕ, _+_, _≤_, _<_}
+use lib.Dec.{leb}
 use lib.ListN.{length, getD}
+use Rattle.laws.specs.Every.{Every}
 use Rattle.laws.specs.Numbers.{le16}
 use Rattle.nets.specs.Nets.{Word, Log, eventCount, Place, Net, Term, Certificate, byPlace, byWeights, Bundle, at, rows}
 
@@ -83,10 +86,9 @@ bytesOf c = headBytes (c .head) ++ flatMap certificateBytes (c .certificates)
 
 -- ---- the limits
 
--- each member is so
-abbrev pub Every : {A : Type 0} → (A → Type 0) → List A → Type 0
-Every P [] = Unit {0}
-Every P (x ∷ xs) = P x × Every P xs
+-- 1 to 64,512 bytes
+unfoldable pub sizeFits : List ℕ → Bool
+sizeFits b = leb 1 (length b) && leb (length b) 64512
 
 -- a number of two bytes
 abbrev pub TwoBytes : ℕ → Type 0

@@ -1,15 +1,16 @@
 -- Reading undoes writing, for the parts of a bundle: each reader of Judging.antt gets exactly the values in their limits whose bytes stand there.
-use mathlib.Core.Path.{_≡_, refl, sym, ap, ap₂, _∙_, subst}
-use mathlib.Core.Bool.{Bool, true, _&&_}
-use mathlib.Core.List.{List, [], _∷_, _++_, append-assoc, append-nil, flatMap}
+use mathlib.Core.Path.{_≡_, refl, ap}
+use mathlib.Core.Bool.{Bool, _&&_}
+use mathlib.Core.List.{List, [], _∷_, _++_, flatMap}
 use Prim.Native.Nat.{ℕ, zero, suc, _+_, _≤_, _<_}
 use native.Mathlib.Omega.{arith}
 use lib.Dec.{T, leb, ltb, leb→le, le→leb, ltb→lt, lt→ltb}
 use lib.Ieee.Fits.{and-i, and-l, and-r}
-use lib.ListN.{length, length-append}
+use lib.ListN.{length}
+use Rattle.laws.specs.Every.{Every}
 use Rattle.nets.specs.Nets.{Word, Log, rows}
-use Rattle.bundles.specs.Reading.{Reader, byte, number, following, times}
-use Rattle.bundles.specs.Layout.{PlaceFields, TermFields, CertificateFields, kind0, kind1, Head, Every, TwoBytes, WordInLimits, PlaceInLimits, HeadInLimits, TermInLimits, CertificateInLimits, wordBytes, placeBytes, placesBytes, termBytes, certificateBytes, headBytes}
+use Rattle.bundles.specs.Reading.{byte, number}
+use Rattle.bundles.specs.Layout.{PlaceFields, TermFields, CertificateFields, kind0, kind1, Head, TwoBytes, WordInLimits, PlaceInLimits, TermInLimits, CertificateInLimits, wordBytes, placeBytes, placesBytes, termBytes, certificateBytes, headBytes}
 use Rattle.nets.specs.Nets.{eventCount}
 use Rattle.laws.specs.Numbers.{le16}
 use Rattle.bundles.specs.Readers.{anything, wordAfter, word, place, places, head, term, weights, ofKind, certificate}

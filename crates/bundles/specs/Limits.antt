@@ -1,24 +1,32 @@
 -- The limits of a bundle up to its last place: what holds after each word holds of the whole log, and the other way.
-use mathlib.Core.Path.{_≡_, sym, subst}
+use mathlib.Core.Path.{_≡_, ap}
 use mathlib.Core.Bool.{Bool}
-use mathlib.Core.List.{List, [], _∷_, _++_, append-assoc, append-nil, List·Memᴰ, List·Memᴰ·head, List·Memᴰ·tail}
+use mathlib.Core.List.{List, [], _∷_, _++_, append-assoc, append-nil}
 use Prim.Native.Nat.{ℕ, _≤_, _<_}
 use native.Mathlib.Omega.{arith}
-use lib.Dec.{T}
-use Rattle.nets.specs.Nets.{Word, Log, eventCount}
+use lib.Dec.{T, leb, leb→le, le→leb}
+use lib.Ieee.Fits.{and-i, and-r}
+use lib.ListN.{length}
+use Rattle.laws.specs.Every.{Every, every-member}
+use Rattle.nets.specs.Nets.{Log, eventCount}
 use Rattle.nets.specs.LogLaws.{eventCount-append, eventCount-snoc}
 use Rattle.nets.specs.Fits.{LogBelow}
-use Rattle.bundles.specs.Layout.{Head, Every, WordInLimits, HeadInLimits}
+use Rattle.bundles.specs.Layout.{Head, WordInLimits, HeadInLimits, headBytes, sizeFits}
 use Rattle.bundles.specs.ReadingLaws.{Following}
 use Rattle.bundles.specs.LayoutLaws.{WordValid, HeadValid}
-
-pub every-member : {A : Type 0} (P : A → Type 0) {x : A} (xs : List A) → Every P xs → List·Memᴰ x xs → P x
-every-member P (y ∷ xs) v (List·Memᴰ·head e) = subst P (sym e) (v .0)
-every-member P (y ∷ xs) v (List·Memᴰ·tail m) = every-member P xs (v .1) m
 
 -- the events of words in their limits are below n
 pub words-below : (n : ℕ) (log : Log) → Every (WordInLimits n) log → LogBelow n log
 words-below n log words w m e k = every-member (λ x. x < n) w (every-member (WordInLimits n) log words m .events) k
+
+-- a bundle of at least one and at most 64,512 bytes
+pub size→ : (b : List ℕ) → T (sizeFits b) → length b ≤ 64512
+unfolding sizeFits
+size→ b t = leb→le (length b) 64512 (and-r (leb 1 (length b)) (leb (length b) 64512) t)
+
+pub →size : (b : List ℕ) (h : Head) (rest : List ℕ) → b ≡ headBytes h ++ rest → length b ≤ 64512 → T (sizeFits b)
+unfolding sizeFits headBytes
+→size b h rest e most = and-i (leb 1 (length b)) (leb (length b) 64512) (le→leb 1 (length b) (omega (arith, ap length e))) (le→leb (length b) 64512 most)
 
 module _ (n : ℕ) (rowsFit : Log → Bool) (fewer : (log more : Log) → T (rowsFit (log ++ more)) → T (rowsFit log)) where
   words→limits : (before log : Log) → eventCount before ≤ 1024 → T (rowsFit before) → Following (WordValid rowsFit n) before log

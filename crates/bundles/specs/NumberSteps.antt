@@ -1,7 +1,7 @@
 -- Runs of two-byte numbers of any value. Whether they are there is one comparison, and where the first missing one stands is one division.
 use mathlib.Core.Path.{_≡_, refl, sym, ap, ap₂, _∙_}
 use mathlib.Core.Bool.{Bool, true, false}
-use mathlib.Core.Logic.{_⊎_, inl, inr, ⊎-elim}
+use mathlib.Core.Logic.{_⊎_, inl, inr}
 use mathlib.Core.List.{List, [], _∷_, _++_, append-assoc, append-nil}
 use Prim.Native.Nat.{ℕ, zero, suc, _+_, _-_, _*_, _/_, _≤_, _<_}
 use native.Mathlib.Nat.{not-suc-le-zero, suc-mul, zero-mul}
@@ -10,7 +10,7 @@ use lib.Dec.{ltb}
 use lib.ListN.{length, getD, replicate}
 use borrow.Author.Tests.{ltb-true, ltb-false}
 use Rattle.refusals.specs.Table.{BUNDLE-END}
-use Rattle.bundles.specs.Reading.{Read, got, failed, Reader, andThen, _>>=_, give, number, each, times}
+use Rattle.bundles.specs.Reading.{got, failed, Reader, andThen, _>>=_, give, number, each, times}
 use Rattle.bundles.specs.Readers.{anything}
 use Rattle.laws.specs.Numbers.{numberAt}
 use Rattle.bundles.specs.FieldSteps.{ranged, number-missing, number-there}

@@ -2,22 +2,24 @@
 use mathlib.Core.Path.{_≡_, refl, sym, ap, _∙_}
 use mathlib.Core.Logic.{_⊎_, inl, inr}
 use mathlib.Core.List.{List, [], _∷_, _++_, append-assoc}
-use Prim.Native.Nat.{ℕ, zero, suc, _+_, _-_, _*_, _≤_, _<_}
-use native.Mathlib.Nat.{mul-one}
+use Prim.Native.Nat.{ℕ, suc, _+_, _-_, _*_, _≤_, _<_}
+use native.Mathlib.Nat.{mul-one, suc-mul, mul-le-mul-right}
 use native.Mathlib.Numerals.{add-one}
 use native.Mathlib.Omega.{arith}
 use lib.Dec.{leb}
 use borrow.Author.Tests.{leb-true}
-use lib.ListN.{length, getD, replicate, set, length-append}
+use lib.ListN.{length, replicate, set, length-append}
 use lib.Seq.{set-append-seam}
+use Rattle.laws.specs.Parts.{getD-padded}
 use Rattle.nets.specs.declared.Place.{Place}
+use Rattle.nets.specs.Machine.{placeOf}
 use Rattle.refusals.specs.Table.{BUNDLE-END}
-use Rattle.bundles.specs.Reading.{Read, got, failed, Reader, andThen, _>>=_, give, byte, number, times}
-use Rattle.bundles.specs.Layout.{PlaceFields}
+use Rattle.bundles.specs.Reading.{Read, got, failed, andThen, byte, number, times}
+use Rattle.bundles.specs.Layout.{PlaceFields, toPlace}
 use Rattle.bundles.specs.Readers.{anything, place, places}
 use Rattle.laws.specs.Numbers.{numberAt}
 use Rattle.bundles.specs.FieldSteps.{upTo, byte-got}
-use Rattle.bundles.specs.WordSteps.{andThen-got}
+use Rattle.bundles.specs.ReadingLaws.{andThen-got}
 use Rattle.bundles.specs.NumberSteps.{lt-or-ge, Spans, spans-number, spans-give, spans-same, spans-then, spans-times, numbersLeft, itemsAt, items-length, items-snoc}
 use Rattle.bundles.specs.declared.PlacesRead.{PlacesRead}
 use Rattle.bundles.specs.declared.PlacesRead.the-variants as places-read
@@ -49,6 +51,15 @@ padded xs = xs ++ replicate (12 - length xs) 0
 -- the code's place
 unfoldable pub machinePlace : PlaceFields → Place
 machinePlace p = record { initial = p .initial; produced = padded (p .produced); consumed = padded (p .consumed) }
+
+-- the code's place stands for what the fields do
+pub place-means : (f : PlaceFields) → placeOf (machinePlace f) ≡ toPlace f
+unfolding machinePlace padded toPlace
+place-means f = λ i. record {
+  initial = f .initial;
+  produced = λ x. getD-padded (f .produced) (12 - length (f .produced)) x 0 i;
+  consumed = λ x. getD-padded (f .consumed) (12 - length (f .consumed)) x 0 i;
+}
 
 -- one number more
 padded-set : (xs : List ℕ) (x : ℕ) → length xs < 12 → set (padded xs) (length xs) x ≡ padded (xs ++ x ∷ [])
@@ -140,3 +151,7 @@ places-got n b at ps next e =
         let read = spans-times (placeSize n) (fieldsAt n) (spans-place n) count .there b first there in
         let end : next ≡ first + 2 * (count * placeSize n) = cc in
         record { count = count; few = few; first = first; items = (cc); end = end; within = omega arith }
+
+-- place j of them lies in the bundle
+pub place-inside : (n first count j size : ℕ) → j < count → first + 2 * (count * placeSize n) ≤ size → first + 2 * (j * placeSize n) + 2 * placeSize n ≤ size
+place-inside n first count j size h inside = omega (arith, mul-le-mul-right (placeSize n) h, suc-mul j (placeSize n))

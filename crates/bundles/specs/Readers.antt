@@ -5,9 +5,9 @@ use Prim.Native.Nat.{ℕ, zero, suc, _+_}
 use lib.Dec.{leb, ltb}
 use lib.ListN.{length}
 use Rattle.refusals.specs.Table.{EVENTS, ROWS}
-use Rattle.nets.specs.Nets.{Word, Log, eventCount, rows}
-use Rattle.bundles.specs.Reading.{Reader, _>>=_, _>>_, give, offset, require, byte, number, following, times}
-use Rattle.bundles.specs.Layout.{PlaceFields, TermFields, CertificateFields, kind0, kind1, Head}
+use Rattle.nets.specs.Nets.{Word, Log, Net, eventCount, rows}
+use Rattle.bundles.specs.Reading.{Read, got, failed, Reader, _>>=_, _>>_, give, offset, require, byte, number, following, times}
+use Rattle.bundles.specs.Layout.{PlaceFields, TermFields, CertificateFields, kind0, kind1, Head, toNet}
 
 -- any value
 abbrev pub anything : ℕ → Bool
@@ -55,6 +55,25 @@ head rowsFit = do
 -- screening does not count rows
 abbrev pub anyRows : ℕ → Log → Bool
 anyRows n log = true
+
+-- the head that was read, or one without an event, a word and a place
+unfoldable pub headIn : Read Head → Head
+headIn (got h next) = h
+headIn (failed number spot) = record { events = 0; log = []; places = [] }
+
+-- the head of a bundle, as screening reads it
+unfoldable pub headOf : List ℕ → Head
+headOf b = headIn (head anyRows b 0)
+
+-- a bundle's event count, log and net
+abbrev pub eventsIn : List ℕ → ℕ
+eventsIn b = headOf b .events
+
+abbrev pub logIn : List ℕ → Log
+logIn b = headOf b .log
+
+abbrev pub netIn : List ℕ → Net
+netIn b = toNet (headOf b)
 
 -- a term: a row, an event, a weight
 unfoldable pub term : ℕ → ℕ → Reader TermFields

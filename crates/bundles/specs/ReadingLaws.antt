@@ -3,18 +3,18 @@ use mathlib.Core.Path.{_≡_, refl, sym, ap, ap₂, _∙_, subst}
 use mathlib.Core.Bool.{Bool, true, false, cond}
 use mathlib.Core.List.{List, [], _∷_, _++_, append-assoc, append-nil, flatMap}
 use Prim.Native.Nat.{ℕ, zero, suc, _+_, _*_, _-_, _/_, _%_, _≤_, _<_}
-use native.Mathlib.Nat.{add-zero, add-assoc, mod-eq-of-lt}
-use native.Mathlib.Numerals.{add-one, add-two}
+use native.Mathlib.Nat.{add-zero, mod-eq-of-lt}
+use native.Mathlib.Numerals.{add-one}
 use native.Mathlib.Omega.{arith}
 use borrow.Author.Tests.{le-leb}
 use lib.Dec.{T, leb, leb→le}
 use lib.ListN.{length, getD, drop, replicate, length-append, length-drop}
 use lib.Seq.{drop-cons, drop-drop, drop-append-seam, getD-drop}
 use Rattle.laws.specs.Booleans.{yes-true}
+use Rattle.laws.specs.Every.{Every}
 use Rattle.refusals.specs.Table.{BUNDLE-END, VALUE}
 use Rattle.bundles.specs.Reading.{Read, got, failed, Reader, andThen, _>>=_, _>>_, give, offset, require, field, byte, number, each, following, times}
 use Rattle.laws.specs.Numbers.{Bytes, le16, numberAt}
-use Rattle.bundles.specs.Layout.{Every}
 
 -- ---- a part of a bundle
 

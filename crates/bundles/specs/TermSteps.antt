@@ -1,6 +1,4 @@
 -- Terms, as the code reads them.
-use mathlib.Core.Path.{_≡_, refl}
-use Prim.Native.Nat.{ℕ}
 use Rattle.bundles.specs.Reading as Reading
 use Rattle.bundles.specs.Reading.{got, failed}
 use Rattle.bundles.specs.Layout.{TermFields}

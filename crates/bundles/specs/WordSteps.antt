@@ -12,8 +12,9 @@ use borrow.Author.Tests.{leb-true}
 use Rattle.nets.specs.Nets.{Word, Log, eventCount}
 use Rattle.nets.specs.LogLaws.{eventCount-snoc}
 use Rattle.refusals.specs.Table.{EVENTS, ROWS}
-use Rattle.bundles.specs.Reading.{Read, got, failed, Reader, andThen, _>>=_, _>>_, give, offset, require, byte, each, times, following}
+use Rattle.bundles.specs.Reading.{Read, got, failed, Reader, andThen, _>>_, give, require, byte, each, times, following}
 use Rattle.bundles.specs.Readers.{anything, anyRows, wordAfter, word}
+use Rattle.bundles.specs.ReadingLaws.{andThen-got}
 use Rattle.bundles.specs.FieldSteps.{below, byte-got}
 
 -- ---- a value made of what was read
@@ -57,15 +58,6 @@ module _ {A : Type 0} (r : List A → Reader A) (b : List ℕ) where
   unfolding rest each andThen
   rest-failed zero before at number spot h e = absurd (not-suc-le-zero h)
   rest-failed (suc k) before at number spot h e = rw e
-
--- ---- one reader after another
-
-module _ {A B : Type 0} (b : List ℕ) where
-  pub andThen-got : (m : Read A) (f : A → Reader B) (y : B) (next : ℕ) → andThen m f b ≡ got y next
-      → (x : A) × (mid : ℕ) × (m ≡ got x mid) × (f x b mid ≡ got y next)
-  unfolding andThen
-  andThen-got (got x mid) f y next e = (x, mid, refl, e)
-  andThen-got (failed refusal spot) f y next e = absurd (let z : _≡_ {A = ℕ} 0 1 = cc in omega arith)
 
 -- ---- words
 

@@ -7,12 +7,12 @@ use refusals::VALUE;
 use slices::byte_at;
 use slices::number_at;
 ghost use mathlib.Core.Path.{_≡_};
-ghost use mathlib.Core.List.{List};
 ghost use Prim.Native.Nat.{_+_, _*_, _≤_, _<_};
 ghost use lib.Dec.{leb};
-ghost use lib.ListN.{length, getD, take, drop};
+ghost use lib.ListN.{length, getD};
 ghost use Rattle.bundles.specs.Reading.{byte, number, times, following};
 ghost use Rattle.bundles.specs.Readers.{anything, anyRows, word, wordAfter, head, places, term};
+ghost use Rattle.bundles.specs.Layout.{sizeFits};
 ghost use Rattle.bundles.specs.FieldSteps.{readOf, between, upTo, ranged, below};
 ghost use Rattle.bundles.specs.WordSteps.{mapRead, eventsAt};
 ghost use Rattle.bundles.specs.NumberSteps.{numbersLeft};
@@ -20,6 +20,13 @@ ghost use Rattle.bundles.specs.PlaceSteps.{placeSize, numbersAt, fieldsA
 ghost use Rattle.bundles.specs.TermSteps.{termReadOf};
 ghost use Rattle.bundles.specs.HeadSteps.{headAfter, headRead, withPlaces};
 ghost use Rattle.nets.specs.Nets.{eventCount};
+
+// Whether a bundle has 1 to 64,512 bytes. (Inner function.)
+pub fn size_fits(bundle: &[u8]) -> bool
+    ensures { λ r. ⌜ r ≡ sizeFits (now (bundle .entry)) ⌝ }
+{
+    1 <= bundle.len() && bundle.len() <= 64512
+}
 
 // A field's value and the offset behind it.
 pub enum Field {

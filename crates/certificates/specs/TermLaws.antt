@@ -8,6 +8,7 @@ use native.Mathlib.Omega.{arith}
 use borrow.Author.Tests.{le-leb}
 use lib.Dec.{leb}
 use lib.ListN.{length, getD, List·getD-eq-default}
+use Rattle.laws.specs.Every.{Every}
 use Rattle.laws.specs.Lists.{all, all-map, allBelow, allBelow-same, allBelow-wide, getD-copies, getD-member, getD-map}
 use Rattle.laws.specs.Bits.{bit, maskOf, maskOf-bit}
 use Rattle.nets.specs.Nets.{Counts, Log, Step, Term, at, same, rows, allowed, weighed, weighsBefore, weighsAfter, weightsHold}
@@ -17,7 +18,7 @@ use Rattle.nets.specs.Weights.{same-ne}
 use Rattle.nets.specs.Fits.{LogBelow}
 use Rattle.nets.specs.Wide.{wide}
 use Rattle.nets.specs.Machine.{COUNTS}
-use Rattle.bundles.specs.Layout.{TermFields, Head, Every, TermInLimits, toTerm}
+use Rattle.bundles.specs.Layout.{TermFields, Head, TermInLimits, toTerm}
 use Rattle.logs.specs.Rows.{Row, newRow, none}
 use Rattle.logs.specs.Log.{logRows}
 use Rattle.logs.specs.LogTable.{logRows-is}

@@ -10,6 +10,7 @@ use borrow.Author.Tests.{ltb-true}
 use lib.Dec.{eqb, leb, ltb→lt}
 use lib.ListN.{length, getD, take, drop, length-append, List·getD-eq-default}
 use lib.Seq.{getD-drop}
+use Rattle.laws.specs.Every.{Every, every-last}
 use Rattle.laws.specs.Booleans.{lt-or-le}
 use Rattle.laws.specs.Lists.{getD-copies, tabulate, length-tabulate, getD-tabulate}
 use Rattle.laws.specs.Numbers.{Bytes}
@@ -18,10 +19,10 @@ use Rattle.nets.specs.Nets.{Counts, at, same}
 use Rattle.nets.specs.Machine.{COUNTS}
 use Rattle.bundles.specs.Reading.{Read, got, failed, andThen, give, byte, number, times}
 use Rattle.bundles.specs.Readers.{anything, term, weights}
-use Rattle.bundles.specs.ReadingLaws.{law-number}
+use Rattle.bundles.specs.ReadingLaws.{andThen-got, law-number}
 use Rattle.bundles.specs.FieldSteps.{below, upTo, byte-got}
-use Rattle.bundles.specs.WordSteps.{andThen-got, rest, rest-all, rest-none, rest-more, rest-failed}
-use Rattle.bundles.specs.Layout.{TermFields, kind1, Every}
+use Rattle.bundles.specs.WordSteps.{rest, rest-all, rest-none, rest-more, rest-failed}
+use Rattle.bundles.specs.Layout.{TermFields, kind1}
 use Rattle.bundles.specs.declared.Field.{Field}
 use Rattle.bundles.specs.declared.Field.the-variants.{Value, Refused}
 use Rattle.logs.specs.Rows.{ROW, Row, newRow, none, rowAt, rowsOf}
@@ -119,10 +120,6 @@ pub record TermsLeft (n rowCount : ℕ) (t b : List ℕ) (from count next left :
   pub same : times count (term n rowCount) b from ≡ rest (λ before. term n rowCount) b left terms next
   pub summed : sums ≡ sumsOf (rowsOf rowCount t) terms
   pub weights : Every (λ t. t .weight ≤ NUMBER) terms
-
-every-last : {A : Type 0} (P : A → Type 0) (xs : List A) (x : A) → Every P xs → P x → Every P (xs ++ x ∷ [])
-every-last P [] x v p = (p, tt)
-every-last P (y ∷ xs) x v p = (v .0, every-last P xs x (v .1) p)
 
 module _ (n rowCount : ℕ) (t b : List ℕ) (from count : ℕ) where
   pub terms-start : TermsLeft n rowCount t b from count from count noSums

@@ -14,7 +14,8 @@ use Rattle.bundles.specs.Reading.{Read, got, failed, Reader, andThen, each}
 use Rattle.bundles.specs.Layout.{TermFields, CertificateFields, kind0, kind1, Head, toCertificate, toBundle}
 use Rattle.bundles.specs.declared.Places.{Places}
 use Rattle.verdicts.specs.Judging.{solved}
-use Rattle.certifying.specs.Continuations.{keep-passed, keep-failed, keep-last, steps-length, steps-at}
+use Rattle.laws.specs.Keeping.{keep-passed, keep-failed, keep-last}
+use Rattle.certifying.specs.Continuations.{steps-length, steps-at}
 use Rattle.certifying.specs.Certifying.{HeadHeld, certifiedOf, stepOf, checkedOf}
 use Rattle.certifying.specs.declared.Certified.the-variants as certified
 use Rattle.certifying.specs.declared.Checked.{Checked}

@@ -1,36 +1,32 @@
 -- One certificate: what the code tests on the rows of the table and the bytes of the bundle is what `solved` requires.
 use mathlib.Core.Path.{_≡_, refl, sym, ap, ap₂, _∙_, subst}
 use mathlib.Core.Bool.{Bool, true, false, not, cond}
-use mathlib.Core.List.{List, [], _∷_, _++_, map}
+use mathlib.Core.List.{List, [], _∷_, map}
 use Prim.Native.Nat.{ℕ, zero, suc, _+_, _-_, _*_, _≤_, _<_}
-use native.Mathlib.Nat.{suc-mul, mul-le-mul-right, not-suc-le-zero, le-of-suc-le-suc}
+use native.Mathlib.Nat.{not-suc-le-zero, le-of-suc-le-suc}
 use native.Mathlib.Omega.{arith}
 use borrow.Author.Tests.{ltb-true}
-use lib.IntN.{ℤ, pos, _-ℤ_}
-use lib.ListN.{length, getD, drop, replicate, List·getD-eq-default}
+use lib.ListN.{length, getD, drop}
 use lib.Seq.{getD-drop}
-use lib.Signed.{nonNeg}
-use Rattle.laws.specs.Parts.{getD-padded}
 use Rattle.laws.specs.Lists.{getD-member}
 use Rattle.laws.specs.Bits.{bit}
 use Rattle.laws.specs.Numbers.{Bytes}
 use Rattle.refusals.specs.Table.{PLACE-PERMITS, WEIGHTS}
 use Rattle.refusals.specs.Answers.{refusal}
-use Rattle.nets.specs.Nets.{Place, Step, Counts, rows, allowed, surplus, placePermits, refusedBy, weightsHold, solves}
+use Rattle.nets.specs.Nets.{Place, Step, Counts, rows, allowed, placePermits, refusedBy, weightsHold, solves}
 use Rattle.nets.specs.CountLaws.{length-counts}
 use Rattle.nets.specs.Fits.{LogBelow}
 use Rattle.nets.specs.Machine.{COUNTS, placeOf}
 use Rattle.nets.specs.Rows.{row→}
-use Rattle.nets.specs.Surplus.{tokens-row, tokens-wide}
-use Rattle.nets.specs.Wide.{wide}
+use Rattle.nets.specs.Wide.{wide, permits-wide}
 use Rattle.bundles.specs.Reading.{Read, got, failed, andThen, give, require, byte, number}
 use Rattle.bundles.specs.Layout.{PlaceFields, TermFields, CertificateFields, kind0, kind1, Head, CertificateInLimits, toPlace, toNet, toTerm, toCertificate}
 use Rattle.bundles.specs.LayoutLaws.{law-certificate}
 use Rattle.bundles.specs.Readers.{weights, ofKind, certificate}
 use Rattle.bundles.specs.FieldSteps.{upTo, below, byte-got}
-use Rattle.bundles.specs.WordSteps.{andThen-got}
+use Rattle.bundles.specs.ReadingLaws.{andThen-got}
 use Rattle.bundles.specs.NumberSteps.{items-length, getD-items}
-use Rattle.bundles.specs.PlaceSteps.{placeSize, fieldsAt, padded, machinePlace}
+use Rattle.bundles.specs.PlaceSteps.{placeSize, fieldsAt, machinePlace, place-means}
 use Rattle.bundles.specs.declared.Places.{Places}
 use Rattle.logs.specs.Rows.{ROW, Row, rowAt, rowsOf, newRow, none}
 use Rattle.logs.specs.Flat.{rows-at}
@@ -46,33 +42,12 @@ use Rattle.certifying.specs.declared.Checked.the-variants as checked
 
 -- ---- places
 
--- the code's place stands for what the fields do
-place-means : (f : PlaceFields) → placeOf (machinePlace f) ≡ toPlace f
-unfolding machinePlace padded toPlace
-place-means f = λ i. record {
-  initial = f .initial;
-  produced = λ x. getD-padded (f .produced) (12 - length (f .produced)) x 0 i;
-  consumed = λ x. getD-padded (f .consumed) (12 - length (f .consumed)) x 0 i;
-}
-
--- zeros behind the counts of n events change nothing
-permits-wide : (n k : ℕ) (p : Place) (v : Counts) (e : ℕ) → length v ≡ n
-    → placePermits (n + k) p (record { row = wide k v; event = e }) ≡ placePermits n p (record { row = v; event = e })
-unfolding placePermits surplus
-permits-wide n k p v e size =
-    ap (λ (z : ℤ). nonNeg (z -ℤ pos (p .consumed e)))
-    (tokens-row (n + k) p (wide k v) v (λ i _. getD-padded v k i 0) ∙ tokens-wide n k p v (λ i b. List·getD-eq-default v 0 (omega arith)))
-
 -- place j of places in fields
 refused-fields : (n : ℕ) (fs : List PlaceFields) (j : ℕ) (s : Step) → j < length fs → (f : PlaceFields) → ((d : PlaceFields) → getD fs j d ≡ f) → refusedBy n (map toPlace fs) j s ≡ not (placePermits n (toPlace f) s)
 unfolding refusedBy
 refused-fields n [] j s h f e = absurd (not-suc-le-zero h)
 refused-fields n (p ∷ fs) zero s h f e = ap (λ (q : PlaceFields). not (placePermits n (toPlace q) s)) (e p)
 refused-fields n (p ∷ fs) (suc j) s h f e = refused-fields n fs j s (le-of-suc-le-suc h) f e
-
--- place j lies in the bundle
-pub place-inside : (n first count j size : ℕ) → j < count → first + 2 * (count * placeSize n) ≤ size → first + 2 * (j * placeSize n) + 2 * placeSize n ≤ size
-place-inside n first count j size h inside = omega (arith, mul-le-mul-right (placeSize n) h, suc-mul j (placeSize n))
 
 -- a place's number that was read: the place permits the step, or refuses it; and one that was not
 module _ (permitted : ℕ → Bool) (number : ℕ) {m : Read ℕ} where

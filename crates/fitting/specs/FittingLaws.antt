@@ -3,28 +3,26 @@ use mathlib.Core.Path.{_≡_, refl, sym, ap, ap₂, _∙_, subst}
 use mathlib.Core.Bool.{Bool, true, false, not, _&&_, _||_, and-true, and-assoc}
 use mathlib.Core.List.{List, map, List·Memᴰ, Memᴰ·map, Memᴰ·of-map}
 use Prim.Native.Nat.{ℕ, _+_, _-_, _*_, _≤_, _<_}
-use native.Mathlib.Nat.{suc-mul, mul-le-mul-right}
 use native.Mathlib.Omega.{arith}
 use lib.Dec.{T}
 use lib.IntN.{ℤ, pos, _-ℤ_}
-use lib.ListN.{length, getD, take, drop, drop-of-length-le, List·getD-eq-default}
+use lib.ListN.{length, getD, take, drop, drop-of-length-le}
 use lib.Seq.{getD-take}
 use lib.Signed.{nonNeg}
 use Rattle.laws.specs.Booleans.{same-test, yes-true, implied, implies}
 use Rattle.laws.specs.Bits.{bit, bit-of-zero, maskOf, maskOf-bit}
 use Rattle.laws.specs.Lists.{all, all-member, all-intro, all-next, tabulate, length-tabulate, getD-tabulate, tabulate-member, tabulate-inverse}
-use Rattle.laws.specs.Parts.{getD-padded}
 use Rattle.nets.specs.declared.Place as Declared
 use Rattle.nets.specs.Nets.{Log, Counts, Step, Place, tokens, surplus, placePermits, rows, allowed, allowedSteps, fits}
 use Rattle.nets.specs.CountLaws.{length-counts}
 use Rattle.nets.specs.Fits.{LogBelow, allowed-listed}
 use Rattle.nets.specs.Machine.{COUNTS, placeOf}
 use Rattle.nets.specs.Rows.{row→, continuation→, allowedStep→}
-use Rattle.nets.specs.Surplus.{tokens-row, tokens-wide}
-use Rattle.nets.specs.Wide.{wide}
+use Rattle.nets.specs.Surplus.{tokens-row}
+use Rattle.nets.specs.Wide.{wide, permits-wide}
 use Rattle.bundles.specs.Layout.{PlaceFields, toPlace}
 use Rattle.bundles.specs.NumberSteps.{itemsAt, getD-items}
-use Rattle.bundles.specs.PlaceSteps.{placeSize, fieldsAt, padded, machinePlace}
+use Rattle.bundles.specs.PlaceSteps.{placeSize, fieldsAt, machinePlace, place-means}
 use Rattle.logs.specs.Rows.{ROW, Row, rowAt, rowsOf}
 use Rattle.logs.specs.Flat.{length-rows, rows-at}
 use Rattle.logs.specs.Log.{logRows}
@@ -99,15 +97,6 @@ module _ (p : Place) (k : ℕ) (t : List ℕ) where
 
 -- ---- a place
 
--- the code's place stands for what the fields do
-pub place-means : (f : PlaceFields) → placeOf (machinePlace f) ≡ toPlace f
-unfolding machinePlace padded toPlace
-place-means f = λ i. record {
-  initial = f .initial;
-  produced = λ x. getD-padded (f .produced) (12 - length (f .produced)) x 0 i;
-  consumed = λ x. getD-padded (f .consumed) (12 - length (f .consumed)) x 0 i;
-}
-
 -- place j of a bundle, at its offset
 module _ (n : ℕ) (b : List ℕ) (first count j : ℕ) (h : j < count) where
   pub place-fits : (rs : List Row) (at : ℕ) (d : PlaceFields) → at ≡ first + 2 * (j * placeSize n)
@@ -116,18 +105,7 @@ module _ (n : ℕ) (b : List ℕ) (first count j : ℕ) (h : j < count) where
       ap (λ (q : Place). fitsRows q rs)
       (ap toPlace (getD-items (placeSize n) (fieldsAt n) count b first j d h ∙ ap (fieldsAt n b) (sym spot)) ∙ sym (place-means (fieldsAt n b at)))
 
-  pub place-inside : (at : ℕ) → at ≡ first + 2 * (j * placeSize n) → first + 2 * (count * placeSize n) ≤ length b → at + 2 * placeSize n ≤ length b
-  place-inside at spot inside = omega (arith, mul-le-mul-right (placeSize n) h, suc-mul j (placeSize n))
-
 -- ---- a log
-
--- zeros behind the counts of n events change nothing
-permits-wide : (n k : ℕ) (p : Place) (v : Counts) (e : ℕ) → length v ≡ n
-    → placePermits (n + k) p (record { row = wide k v; event = e }) ≡ placePermits n p (record { row = v; event = e })
-unfolding placePermits surplus
-permits-wide n k p v e size =
-    ap (λ (z : ℤ). nonNeg (z -ℤ pos (p .consumed e)))
-    (tokens-row (n + k) p (wide k v) v (λ i _. getD-padded v k i 0) ∙ tokens-wide n k p v (λ i b. List·getD-eq-default v 0 (omega arith)))
 
 -- a place fits the rows of a log's table exactly when it fits the log
 pub fits-log : (n k : ℕ) (log : Log) → n + k ≡ COUNTS → LogBelow n log → (p : Place) → fitsRows p (logRows log) ≡ fits n log p

@@ -3,12 +3,11 @@ use bundles::Places;
 use logs::rows::ROW;
 use nets::COUNTS;
 use nets::Place;
+use nets::covers;
 use nets::has_bit;
 ghost use mathlib.Core.Path.{_≡_};
 ghost use Prim.Native.Nat.{_+_, _*_, _≤_};
-ghost use lib.IntN.{pos, _-ℤ_};
 ghost use lib.ListN.{length};
-ghost use lib.Signed.{nonNeg};
 ghost use Rattle.laws.specs.Scans.{firstFailing};
 ghost use Rattle.nets.specs.Machine.{placeOf};
 ghost use Rattle.bundles.specs.Layout.{PlaceFields, toPlace};
@@ -16,13 +15,6 @@ ghost use Rattle.bundles.specs.NumberSteps.{itemsAt};
 ghost use Rattle.bundles.specs.PlaceSteps.{placeSize, fieldsAt};
 ghost use Rattle.logs.specs.Rows.{ROW, rowAt, rowsOf};
 ghost use Rattle.fitting.specs.Fitting.{eventsFit, rowFits, fitsRows};
-
-// Whether the tokens in a place cover what an event takes: whether the surplus is 0 or more.
-fn covers(tokens: i64, consumed: u16) -> bool
-    ensures { λ r. ⌜ r ≡ nonNeg (tokens -ℤ pos consumed) ⌝ }
-{
-    consumed as i64 <= tokens
-}
 
 // Whether the tokens cover what each event of the mask takes. All twelve are tested without a branch: which bits are set is hard to predict.
 fn events_fit(tokens: i64, consumed: [u16; 12], mask: u16) -> bool

@@ -1,20 +1,17 @@
 -- A bundle's head that is read while the rows of its log are taken into a table.
-use mathlib.Core.Path.{_≡_, refl, sym, ap, ap₂, _∙_, subst}
+use mathlib.Core.Path.{_≡_, refl, sym, ap, ap₂, subst}
 use mathlib.Core.List.{List}
-use Prim.Native.Nat.{ℕ, _+_, _-_, _*_, _≤_}
+use Prim.Native.Nat.{ℕ, _-_, _*_}
 use native.Mathlib.Omega.{arith}
 use lib.ListN.{length, drop}
 use Rattle.refusals.specs.declared.Refusal.{Refusal}
-use Rattle.nets.specs.Nets.{Log}
-use Rattle.nets.specs.Machine.{COUNTS}
 use Rattle.logs.specs.Answers.{TABLE}
-use Rattle.bundles.specs.Reading.{Read, got, failed, andThen, byte, following}
+use Rattle.bundles.specs.Reading.{Read, got, failed, andThen, byte}
 use Rattle.bundles.specs.Layout.{PlaceFields, Head}
-use Rattle.bundles.specs.Readers.{anything, word, places, head}
+use Rattle.bundles.specs.Readers.{anything, places, head}
 use Rattle.bundles.specs.FieldSteps.{between}
 use Rattle.bundles.specs.PlaceSteps.{placeSize, placesRead}
-use Rattle.bundles.specs.HeadSteps.{headAfter, head-got, head-failed}
-use Rattle.bundles.specs.declared.Head as declared
+use Rattle.bundles.specs.HeadSteps.{headAfter, head-got}
 use Rattle.bundles.specs.declared.Places.{Places}
 use Rattle.bundles.specs.declared.PlacesRead.the-variants as places-read
 use Rattle.verdicts.specs.Judging.{rowsBelowLimit}

@@ -1,22 +1,23 @@
 -- A log whose rows are taken into a table while its words are read.
-use mathlib.Core.Path.{_≡_, refl, sym, ap, ap₂, _∙_, subst}
-use mathlib.Core.Bool.{Bool, true, false, cond}
+use mathlib.Core.Path.{_≡_, refl, sym, ap, _∙_, subst}
+use mathlib.Core.Bool.{Bool, true, cond}
 use mathlib.Core.Logic.{⊎-elim}
 use mathlib.Core.List.{List, [], _∷_, _++_, List·Memᴰ, List·Memᴰ·not-nil, List·Memᴰ·append-cases, List·Memᴰ·head, List·Memᴰ·tail}
 use Prim.Native.Nat.{ℕ, zero, suc, _+_, _-_, _*_, _≤_, _<_}
 use native.Mathlib.Nat.{not-suc-le-zero, le-of-suc-le-suc, lt-of-lt-of-le}
 use native.Mathlib.Omega.{arith}
 use lib.Dec.{leb}
-use lib.ListN.{length, getD, take, drop, replicate, length-append, length-replicate}
-use borrow.Author.Tests.{le-leb, lt-leb, leb-true, leb-false, ltb-true}
+use lib.ListN.{length, getD, drop, replicate, length-replicate}
+use borrow.Author.Tests.{le-leb, lt-leb, ltb-true}
+use Rattle.laws.specs.Every.{Every, every-last}
 use Rattle.refusals.specs.Table.{ROWS}
-use Rattle.refusals.specs.Answers.{refusal}
 use Rattle.refusals.specs.declared.Refusal.{Refusal}
+use Rattle.nets.specs.Events.{EventsBelow}
 use Rattle.nets.specs.Nets.{Word, Log, eventCount, rows}
 use Rattle.nets.specs.LogLaws.{eventCount-snoc}
 use Rattle.nets.specs.Fits.{Below, LogBelow}
 use Rattle.nets.specs.Machine.{COUNTS}
-use Rattle.logs.specs.Rows.{ROW, Row, rowsOf, newRow, none, takeWord, newRows, EventsBelow, Holds}
+use Rattle.logs.specs.Rows.{ROW, Row, rowsOf, newRow, none, takeWord, newRows, Holds}
 use Rattle.logs.specs.Answers.{TABLE, MAX-ROWS}
 use Rattle.logs.specs.Log.{logRows}
 use Rattle.logs.specs.LogRows.{take-word, first-row}
@@ -24,11 +25,11 @@ use Rattle.logs.specs.LogTable.{length-logRows, each-below}
 use Rattle.logs.specs.Growth.{length-take}
 use Rattle.logs.specs.Taking.{drop-more}
 use Rattle.logs.specs.Flat.{held, length-rows}
-use Rattle.bundles.specs.Reading.{Read, got, failed, Reader, andThen, _>>_, require, byte, each, times, following}
-use Rattle.bundles.specs.Layout.{Every}
+use Rattle.bundles.specs.Reading.{got, failed, andThen, _>>_, require, byte, each, times, following}
 use Rattle.bundles.specs.Readers.{anything, wordAfter, word}
 use Rattle.bundles.specs.FieldSteps.{below, byte-got}
-use Rattle.bundles.specs.WordSteps.{mapRead, mapRead-got, mapRead-failed, andThen-got, require-got, rest, rest-all, rest-none, rest-more, rest-failed, eventsAt, word-limit, word-part, word-tested}
+use Rattle.bundles.specs.ReadingLaws.{andThen-got}
+use Rattle.bundles.specs.WordSteps.{mapRead, mapRead-got, mapRead-failed, require-got, rest, rest-all, rest-none, rest-more, rest-failed, eventsAt, word-limit, word-part, word-tested}
 use Rattle.refusals.specs.Table.{EVENTS}
 use Rattle.verdicts.specs.Judging.{rowsBelowLimit}
 use Rattle.heads.specs.declared.LogTaken.{LogTaken}
@@ -61,10 +62,6 @@ AllTaken n b at count t₀ t (log-taken.Refused r) =
     (following count (word (rowsBelowLimit n) n) b at ≡ failed (r .number) (r .spot)) × (drop TABLE t ≡ drop TABLE t₀)
 
 -- ---- a word that was read
-
-every-last : {A : Type 0} (P : A → Type 0) (xs : List A) (x : A) → Every P xs → P x → Every P (xs ++ x ∷ [])
-every-last P [] x v p = (p, tt)
-every-last P (y ∷ xs) x v p = (v .0, every-last P xs x (v .1) p)
 
 -- bytes of a range are in it
 each-in : (p : ℕ → Bool) (b : List ℕ) (size : ℕ) (before : List ℕ) (at : ℕ) (ys : List ℕ) (next : ℕ) → Every (λ x. p x ≡ true) before

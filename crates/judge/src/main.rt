@@ -7,9 +7,11 @@ use refusals::Refusal;
 use refusals::Written;
 use verdicts::Counts;
 use verdicts::Verdict;
+ghost use mathlib.Core.Path.{_≡_};
 ghost use Prim.Native.Nat.{_-_, _≤_};
 ghost use lib.ListN.{length};
-ghost use Rattle.judge.specs.Inputs.{Within};
+ghost use Rattle.block.specs.File.{opened};
+ghost use Rattle.judge.specs.Inputs.{Within, fileVerdict};
 
 // What standard input has: so many bytes, or a read that failed.
 enum Input {
@@ -77,7 +79,9 @@ fn print_verdict(verdict: Verdict) {
 }
 
 // The verdict on a sealed file: that of opening it, or that on its bundle.
-fn judge_file(file: &[u8]) -> Verdict {
+fn judge_file(file: &[u8]) -> Verdict
+    ensures { λ r. ⌜ r ≡ fileVerdict (opened (now (file .entry))) ⌝ }
+{
     let mut bundle = io::large_buffer();
     let mut table = [0u16; 3328];
     match block::open(file, &mut bundle) {

@@ -1,8 +1,8 @@
 -- Judging in the code's steps: the head, the places, the certificates, the end; and the table that it leaves.
-use mathlib.Core.Path.{_≡_, refl, sym, ap, ap₂, _∙_, subst}
+use mathlib.Core.Path.{_≡_, refl, sym, ap, _∙_}
 use mathlib.Core.Bool.{Bool, true, false, cond}
-use mathlib.Core.List.{List, [], _∷_, _++_, map}
-use Prim.Native.Nat.{ℕ, _+_, _-_, _*_, _≤_, _<_}
+use mathlib.Core.List.{List, [], _++_}
+use Prim.Native.Nat.{ℕ, _+_, _-_, _≤_, _<_}
 use native.Mathlib.Omega.{arith}
 use lib.Dec.{leb}
 use lib.ListN.{length, drop, replicate, length-map, length-replicate}
@@ -11,25 +11,24 @@ use borrow.Author.Tests.{le-leb, lt-leb}
 use Rattle.laws.specs.Lists.{all}
 use Rattle.laws.specs.Scans.{firstFailing, failing-all, failing-some, failing-map}
 use Rattle.refusals.specs.Table.{PLACE-FIT, BYTES-FOLLOW, BUNDLE-LENGTH, TABLE-SHORT}
-use Rattle.refusals.specs.Answers.{refusal}
-use Rattle.refusals.specs.declared.Refusal.{Refusal}
+use Rattle.refusals.specs.Answers.{refusal, provided}
 use Rattle.nets.specs.Nets.{fits, tally, wrongContinuations}
 use Rattle.nets.specs.Machine.{COUNTS}
-use Rattle.logs.specs.Rows.{ROW, rowsOf, withRows, cleared}
+use Rattle.logs.specs.Rows.{rowsOf, withRows, cleared}
 use Rattle.logs.specs.Answers.{TABLE}
 use Rattle.logs.specs.Log.{logRows}
 use Rattle.logs.specs.Flat.{holds-with}
 use Rattle.bundles.specs.Reading.{Read, got, failed, Reader, andThen, _>>=_, _>>_, give, require, each}
-use Rattle.bundles.specs.Layout.{PlaceFields, CertificateFields, Head, Contents, toPlace, toNet, toBundle}
+use Rattle.bundles.specs.Layout.{PlaceFields, CertificateFields, Head, Contents, toPlace, toNet, toBundle, sizeFits}
 use Rattle.bundles.specs.Readers.{head}
-use Rattle.bundles.specs.WordSteps.{andThen-got, require-got}
+use Rattle.bundles.specs.ReadingLaws.{andThen-got}
+use Rattle.bundles.specs.WordSteps.{require-got}
 use Rattle.bundles.specs.NumberSteps.{itemsAt, items-length}
 use Rattle.bundles.specs.PlaceSteps.{placeSize, fieldsAt}
-use Rattle.bundles.specs.HeadSteps.{HeadAt, kept-of}
+use Rattle.bundles.specs.HeadSteps.{HeadAt}
 use Rattle.bundles.specs.declared.Head as declared
 use Rattle.bundles.specs.declared.Places.{Places}
-use Rattle.verdicts.specs.Judging.{rowsBelowLimit, solved, atEnd, afterHead, contents, judging, countsOf, sizeFits, provided, verdictOn, verdict, tableOn, tableAfter}
-use Rattle.verdicts.specs.declared.Counts.{Counts}
+use Rattle.verdicts.specs.Judging.{rowsBelowLimit, solved, atEnd, afterHead, contents, judging, countsOf, verdictOn, verdict, tableOn, tableAfter}
 use Rattle.verdicts.specs.declared.Verdict.{Verdict}
 use Rattle.verdicts.specs.declared.Verdict.the-variants as verdicts
 use Rattle.heads.specs.Taken.{Held, held-rest}

@@ -1,5 +1,6 @@
 // Judging a bundle. The contracts cite crate verdicts' definitions.
 use bundles::Head;
+use bundles::size_fits;
 use certifying::Certified;
 use certifying::certify;
 use fitting::first_misfit;
@@ -21,7 +22,7 @@ ghost use Rattle.refusals.specs.Answers.{refusal};
 ghost use Rattle.bundles.specs.PlaceSteps.{placeSize};
 ghost use Rattle.logs.specs.Rows.{ROW, rowsOf, newRow, none};
 ghost use Rattle.logs.specs.Answers.{TABLE};
-ghost use Rattle.verdicts.specs.Judging.{sizeFits, judging, verdictOn, verdict, tableAfter};
+ghost use Rattle.verdicts.specs.Judging.{judging, verdictOn, verdict, tableAfter};
 ghost use Rattle.judging.specs.Steps.{endedAs, NetJudged, TableLeft, isRefused};
 
 fn refused(number: u8, spot: usize) -> Verdict
@@ -77,13 +78,6 @@ fn is_refused(verdict: Verdict) -> bool
         Verdict::Accepted(_) => false,
         Verdict::Refused(_) => true,
     }
-}
-
-// Whether a bundle has 1 to 64,512 bytes.
-fn size_fits(bundle: &[u8]) -> bool
-    ensures { λ r. ⌜ r ≡ sizeFits (now (bundle .entry)) ⌝ }
-{
-    1 <= bundle.len() && bundle.len() <= 64512
 }
 
 // The verdict on a bundle: accepted with four counts, and then its log's rows are in the table; or refused.

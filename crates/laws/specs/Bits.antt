@@ -1,8 +1,8 @@
 -- Bits of numbers: a number as the set of those e whose bit is set.
 use mathlib.Core.Path.{_≡_, refl, sym, ap, ap₂, _∙_}
 use mathlib.Core.Bool.{Bool, true, false, not, _||_}
-use Prim.Native.Nat.{ℕ, zero, suc, _+_, _*_, _/_, _%_, _^_, _≤_, _<_, max}
-use native.Mathlib.Nat.{pow-succ', pow-suc, div-div-eq-div-mul, div-one, mul-div-cancel, mul-mod-left, mul-add-mod-self-right, mod-lt, mod-eq-of-lt, max-zero, max-eq-right, max-le, zero-div}
+use Prim.Native.Nat.{ℕ, zero, suc, _+_, _*_, _/_, _%_, _^_, _<_, max}
+use native.Mathlib.Nat.{pow-succ', pow-suc, div-div-eq-div-mul, div-one, mul-div-cancel, mul-mod-left, mul-add-mod-self-right, mod-eq-of-lt, max-zero, zero-div}
 use native.Mathlib.Decide.{ℕ-discrete}
 use native.Mathlib.Omega.{arith}
 use borrow.Author.Tests.{eq-eqb, ne-eqb}

@@ -67,6 +67,9 @@ nonNeg-difference a b = (to (ltb a b) refl, from (ltb a b) refl)
     from true e h = omega (arith, ltb-true a b e)
     from false e h = tt
 
+pub pos-of-difference : (a b : ℕ) → b ≤ a → subℕ a b ≡ pos (a - b)
+pos-of-difference a b h = rw (le-ltb a b h)
+
 -- as code tests it
 pub zero-leZ : (z : ℤ) → leZ (pos 0) z ≡ nonNeg z
 zero-leZ (pos n) = le-leb 0 n zero-le

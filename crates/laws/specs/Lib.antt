@@ -1,5 +1,7 @@
 pub mod Booleans
 pub mod Lists
+pub mod Every
+pub mod Keeping
 pub mod Distinct
 pub mod Parts
 pub mod Pieces

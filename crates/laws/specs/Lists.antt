@@ -1,7 +1,7 @@
 -- Tests over lists, with the law of each: `all`, `any`, `keep` (the members that pass a test, in order), `tabulate`, equality and
 -- membership of lists of numbers, and a list for each member, joined.
 use mathlib.Core.Path.{_≡_, refl, sym, ap, ap₂, _∙_, subst}
-use mathlib.Core.Bool.{Bool, true, false, not, cond, _&&_, _||_, and-true, and-assoc}
+use mathlib.Core.Bool.{Bool, true, false, cond, _&&_, _||_, and-true, and-assoc}
 use mathlib.Core.Logic.{_⊎_, inl, inr, ⊎-elim}
 use mathlib.Core.List.{List, [], _∷_, _++_, map, flatMap, append-assoc, List·Memᴰ, List·Memᴰ·head, List·Memᴰ·tail, List·Memᴰ·not-nil, List·Memᴰ·cases-cons, Memᴰ·cast, List·Memᴰ·append-cases, Memᴰ·append-left, Memᴰ·append-right}
 use Prim.Native.Nat.{ℕ, zero, suc, _+_, _≤_, _<_, zero-le, suc-le-suc}
@@ -200,6 +200,10 @@ allBelow-wide n (suc k) f h =
 -- the number is among the elements
 abbrev pub among : ℕ → List ℕ → Bool
 among x = any (eqb x)
+
+-- what holds of each element
+pub among-all : (f : ℕ → Bool) (l : List ℕ) → T (all f l) → (n : ℕ) → T (among n l) → T (f n)
+among-all f l t n m = let w = any-witness (eqb n) l m in subst (λ (k : ℕ). T (f k)) (sym (eqb→eq n (w .0) (w .2))) (all-member f l t (w .1))
 
 unfoldable pub equal : List ℕ → List ℕ → Bool
 equal [] [] = true

@@ -5,8 +5,9 @@ use Prim.Native.Nat.{ℕ, zero, suc, _+_, _*_, _/_, _%_, _<_}
 use native.Mathlib.Nat.{add-assoc, add-mul-mod-self-left, mod-eq-of-lt}
 use native.Mathlib.Numerals.{add-one}
 use native.Mathlib.Omega.{arith}
-use lib.ListN.{length, take, drop, getD}
+use lib.ListN.{length, take, drop, getD, replicate}
 use lib.Seq.{drop-cons, getD-append-add, getD-drop}
+use Rattle.laws.specs.Pieces.{joined}
 
 -- every element is below 256
 abbrev pub Bytes : List ℕ → Type 0
@@ -21,9 +22,29 @@ bytes-take (suc n) (x ∷ l) h (suc i) = bytes-take n l (λ j. h (suc j)) i
 pub bytes-drop : (n : ℕ) (l : List ℕ) → Bytes l → Bytes (drop n l)
 bytes-drop n l h i = rw getD-drop (h (n + i))
 
+pub bytes-append : (x y : List ℕ) → Bytes x → Bytes y → Bytes (x ++ y)
+bytes-append [] y hx hy i = hy i
+bytes-append (a ∷ x) y hx hy zero = hx 0
+bytes-append (a ∷ x) y hx hy (suc i) = bytes-append x y (λ j. hx (suc j)) hy i
+
+pub bytes-joined : (f : ℕ → List ℕ) (n : ℕ) → ((k : ℕ) → Bytes (f k)) → Bytes (joined f n)
+unfolding joined
+bytes-joined f zero h i = omega arith
+bytes-joined f (suc n) h i = bytes-append (joined f n) (f n) (bytes-joined f n h) (h n) i
+
+pub bytes-zeros : (n : ℕ) → Bytes (replicate n 0)
+bytes-zeros zero i = omega arith
+bytes-zeros (suc n) zero = omega arith
+bytes-zeros (suc n) (suc i) = bytes-zeros n i
+
 -- the two bytes of a number
 abbrev pub le16 : ℕ → List ℕ
 le16 n = n % 256 ∷ n / 256 % 256 ∷ []
+
+pub bytes-le16 : (n : ℕ) → Bytes (le16 n)
+bytes-le16 n zero = omega arith
+bytes-le16 n (suc zero) = omega arith
+bytes-le16 n (suc (suc i)) = omega arith
 
 -- the number in the two bytes at `at`
 unfoldable pub numberAt : List ℕ → ℕ → ℕ

@@ -31,6 +31,11 @@ unfoldable pub sum : ℕ → (ℕ → ℕ) → ℕ
 sum zero f = zero
 sum (suc n) f = sum n f + f n
 
+pub sum-zero : (n : ℕ) → sum n (λ i. 0) ≡ 0
+unfolding sum
+sum-zero zero = refl
+sum-zero (suc n) = omega (arith, sum-zero n)
+
 pub sum-add : (n : ℕ) (f g : ℕ → ℕ) → sum n (λ i. f i + g i) ≡ sum n f + sum n g
 unfolding sum
 sum-add zero f g = refl

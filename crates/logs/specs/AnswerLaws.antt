@@ -12,11 +12,11 @@ use Rattle.laws.specs.Booleans.{neither}
 use Rattle.refusals.specs.Table.{TABLE-SHORT, VALUE, EVENTS, ROWS, SUMMARY}
 use Rattle.refusals.specs.Answers.{refusal}
 use Rattle.refusals.specs.declared.Refusal.{Refusal}
+use Rattle.nets.specs.Events.{firstBad, EventsBelow, none-bad}
 use Rattle.nets.specs.Machine.{COUNTS}
-use Rattle.logs.specs.Rows.{ROW, rowsOf, newRows, none, EventsBelow, Holds}
-use Rattle.logs.specs.Answers.{TABLE, MAX-ROWS, MAX-EVENTS, badEventCount, badSummary, rowsAfter, firstBad, takenAnswer, takenTable}
+use Rattle.logs.specs.Rows.{ROW, rowsOf, newRows, none, Holds}
+use Rattle.logs.specs.Answers.{TABLE, MAX-ROWS, MAX-EVENTS, badEventCount, badSummary, rowsAfter, takenAnswer, takenTable}
 use Rattle.logs.specs.Flat.{length-rows, held, holds-with}
-use Rattle.logs.specs.Prefixes.{none-bad}
 use Rattle.logs.specs.Growth.{length-take}
 use Rattle.logs.specs.declared.Summary.{Summary}
 use Rattle.logs.specs.declared.Taken.the-variants.{Next, Refused}

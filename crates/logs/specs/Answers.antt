@@ -4,9 +4,9 @@ use mathlib.Core.List.{List}
 use Prim.Native.Nat.{ℕ, _+_}
 use lib.ListN.{length}
 use lib.Dec.{ltb}
-use Rattle.laws.specs.Scans.{firstFailing}
 use Rattle.refusals.specs.Table.{TABLE-SHORT, VALUE, EVENTS, ROWS, SUMMARY}
 use Rattle.refusals.specs.Answers.{refusal}
+use Rattle.nets.specs.Events.{firstBad}
 use Rattle.nets.specs.Nets.{Word}
 use Rattle.nets.specs.Machine.{COUNTS}
 use Rattle.logs.specs.Rows.{Row, rowsOf, withRows, takeWord, none, cleared}
@@ -50,10 +50,6 @@ freshTable (Refused r) t = t
 -- the rows after the word w
 abbrev pub rowsAfter : Summary → List ℕ → Word → List Row
 rowsAfter s t w = takeWord (rowsOf (s .rows) t) none w
-
--- the position of the first event that is not below n, or the word's length
-unfoldable pub firstBad : ℕ → Word → ℕ
-firstBad n w = firstFailing (λ e. ltb e n) w
 
 unfoldable pub takenAnswer : Summary → List ℕ → Word → Taken
 takenAnswer s t w =

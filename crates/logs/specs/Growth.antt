@@ -12,8 +12,9 @@ use borrow.Author.Tests.{lt-ltb, le-ltb}
 use Rattle.laws.specs.Booleans.{lt-or-le, true-or-false}
 use Rattle.laws.specs.Lists.{equal, equal-true}
 use Rattle.laws.specs.Scans.{firstFailing}
+use Rattle.nets.specs.Events.{EventsBelow}
 use Rattle.nets.specs.Machine.{COUNTS}
-use Rattle.logs.specs.Rows.{Row, findRow, newRow, present, marked, updateAt, bump, takeWord, absent, newRows, EventsBelow}
+use Rattle.logs.specs.Rows.{Row, findRow, newRow, present, marked, updateAt, bump, takeWord, absent, newRows}
 
 -- the number of events that v counts
 total : List ℕ → ℕ

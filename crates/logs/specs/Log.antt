@@ -3,7 +3,7 @@ use mathlib.Core.Path.{_≡_}
 use mathlib.Core.List.{List, [], _∷_, map}
 use Prim.Native.Nat.{ℕ}
 use Rattle.laws.specs.Bits.{maskOf}
-use Rattle.nets.specs.Nets.{Word, Log, Counts, rows, allowed}
+use Rattle.nets.specs.Nets.{Log, Counts, rows, allowed}
 use Rattle.nets.specs.Machine.{COUNTS}
 use Rattle.logs.specs.Rows.{Row, takeWord, none}
 use Rattle.logs.specs.Answers.{takenAnswer, takenTable}

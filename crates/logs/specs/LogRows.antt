@@ -2,20 +2,20 @@
 use mathlib.Core.Path.{_≡_, refl, sym, ap, ap₂, _∙_, subst}
 use mathlib.Core.Bool.{Bool, true, false, false≢true, not, cond, _||_}
 use mathlib.Core.Logic.{_⊎_, inl, inr, ⊎-elim}
-use mathlib.Core.List.{List, [], _∷_, _++_, map, flatMap, foldl, append-nil, append-assoc, map-map, cons≢nil, List·Memᴰ, List·Memᴰ·head, List·Memᴰ·tail, List·Memᴰ·not-nil, List·Memᴰ·cases-cons, Memᴰ·cast, Memᴰ·map, Memᴰ·of-map}
-use Prim.Native.Nat.{ℕ, zero, suc, _+_, _<_, _≤_}
+use mathlib.Core.List.{List, [], _∷_, _++_, map, flatMap, foldl, append-nil, append-assoc, map-map, cons≢nil, List·Memᴰ, List·Memᴰ·head, List·Memᴰ·tail, List·Memᴰ·not-nil, List·Memᴰ·cases-cons, Memᴰ·cast}
+use Prim.Native.Nat.{ℕ, suc, _+_, _<_}
 use native.Mathlib.Omega.{arith}
 use lib.Dec.{T, eqb, ltb, eqb→eq, leb·suc-suc}
 use lib.ListN.{length}
 use lib.Seq.{append-snoc}
-use borrow.Author.Tests.{eq-eqb, ne-eqb, lt-ltb, le-ltb}
-use Rattle.laws.specs.Booleans.{same-test, or-yes, yes-or-left, yes-or-right, yes-true, no-false, true-or-false}
-use Rattle.laws.specs.Lists.{any, tabulate, equal, equal-true, equal-sym, eq→equal, member, member→, →member, append-last, map-append, map-same}
+use borrow.Author.Tests.{eq-eqb, lt-ltb}
+use Rattle.laws.specs.Booleans.{same-test, or-yes, yes-or-left, yes-or-right, yes-true, true-or-false}
+use Rattle.laws.specs.Lists.{any, tabulate, equal, equal-true, equal-sym, eq→equal, member, →member, append-last, map-append, map-same}
 use Rattle.laws.specs.Scans.{firstFailing, failing-append}
 use Rattle.laws.specs.Distinct.{Distinct}
-use Rattle.laws.specs.Bits.{bit, withBit, withBit-bit, maskOf, maskOf-bit, maskOf-lt, maskOf-unique, maskOf-same, maskOf-with, maskOf-none}
+use Rattle.laws.specs.Bits.{withBit, maskOf, maskOf-same, maskOf-with, maskOf-none}
 use Rattle.nets.specs.Nets.{Word, Log, Counts, Step, occurrences, counts, beginnings, prefixes, addRow, rows, allowed}
-use Rattle.nets.specs.Words.{Begins, Prefix, allowed→, prefix-shorter}
+use Rattle.nets.specs.Words.{Begins, allowed→, prefix-shorter}
 use Rattle.nets.specs.Fits.{Below, LogBelow}
 use Rattle.nets.specs.Rows.{→row, rows-distinct, addRow-old, addRow-new, addRow-distinct}
 use Rattle.nets.specs.CountLaws.{counts-snoc}

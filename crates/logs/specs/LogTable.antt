@@ -1,12 +1,12 @@
 -- The table after the words of a log are taken from a fresh one.
-use mathlib.Core.Path.{_≡_, refl, sym, ap, ap₂, _∙_, subst}
+use mathlib.Core.Path.{_≡_, refl, sym, ap, _∙_, subst}
 use mathlib.Core.Logic.{⊎-elim}
 use mathlib.Core.Bool.{Bool, true, false, cond}
-use mathlib.Core.List.{List, [], _∷_, _++_, map, map-map, append-assoc, List·Memᴰ, List·Memᴰ·head, List·Memᴰ·tail, List·Memᴰ·not-nil}
+use mathlib.Core.List.{List, [], _∷_, _++_, map, map-map, append-assoc, List·Memᴰ·head, List·Memᴰ·tail, List·Memᴰ·not-nil}
 use Prim.Native.Nat.{ℕ, zero, suc, _+_, _*_, _-_, _<_, _≤_, suc-le-suc}
 use native.Mathlib.Nat.{le-refl, le-trans, add-zero, zero-add, add-assoc, lt-of-lt-of-le}
 use native.Mathlib.Omega.{arith}
-use lib.ListN.{length, take, drop, length-append, length-drop, length-map, length-replicate, replicate, replicate-append-replicate}
+use lib.ListN.{length, drop, length-append, length-drop, length-map, length-replicate, replicate-append-replicate}
 use lib.Dec.{ltb}
 use lib.Seq.{drop-at, length-take-le}
 use borrow.Author.Tests.{ltb-false}
@@ -16,21 +16,20 @@ use Rattle.refusals.specs.declared.Refusal.{Refusal}
 use Rattle.laws.specs.Booleans.{neither}
 use Rattle.laws.specs.Lists.{map-same}
 use Rattle.laws.specs.Bits.{maskOf, maskOf-same}
+use Rattle.nets.specs.Events.{firstBad, EventsBelow, none-bad}
 use Rattle.nets.specs.Nets.{Word, Log, Counts, eventCount, rows, allowed}
 use Rattle.nets.specs.Fits.{Below, LogBelow}
 use Rattle.nets.specs.Wide.{wide, rows-wide, allowed-wide}
 use Rattle.nets.specs.Machine.{COUNTS}
-use Rattle.logs.specs.Rows.{ROW, Row, rowAt, numbers, rowsOf, flat, withRows, newRow, present, marked, updateAt, bump, findRow, takeWord, none, EventsBelow, cleared}
-use Rattle.logs.specs.Answers.{TABLE, MAX-ROWS, MAX-EVENTS, badEventCount, badSummary, rowsAfter, firstBad, takenAnswer, takenTable, freshAnswer, freshTable}
+use Rattle.logs.specs.Rows.{ROW, Row, rowAt, numbers, rowsOf, flat, withRows, newRow, present, marked, updateAt, bump, findRow, takeWord, none, cleared}
+use Rattle.logs.specs.Answers.{TABLE, MAX-ROWS, MAX-EVENTS, badEventCount, badSummary, rowsAfter, takenAnswer, takenTable, freshAnswer, freshTable}
 use Rattle.logs.specs.Log.{takeLog, maskAt, withMasks, logRows, Takes}
 use Rattle.logs.specs.declared.Summary.{Summary}
 use Rattle.logs.specs.declared.Taken.{Taken}
 use Rattle.logs.specs.declared.Taken.the-variants.{Next, Refused}
 use Rattle.logs.specs.Flat.{length-rows, rows-flat, length-numbers, rowAt-numbers, counts-rowAt}
-use Rattle.logs.specs.Prefixes.{none-bad}
 use Rattle.logs.specs.Growth.{length-present, length-bump, present-le, present-cases}
 use Rattle.logs.specs.Taking.{drop-more}
-use Rattle.logs.specs.AnswerLaws.{good}
 use Rattle.logs.specs.LogRows.{log-rows}
 
 -- rows of twelve counts each

@@ -8,11 +8,12 @@ use lib.Dec.{ltb}
 use Rattle.laws.specs.Lists.{any, among}
 use Rattle.refusals.specs.Table.{TABLE-SHORT, VALUE, EVENTS, ROWS, SUMMARY}
 use Rattle.refusals.specs.Answers.{refusal}
+use Rattle.nets.specs.Events.{firstBad}
 use Rattle.nets.specs.Nets.{Word}
-use Rattle.logs.specs.Answers.{TABLE, MAX-ROWS, MAX-EVENTS, badEventCount, badSummary, rowsAfter, firstBad, freshAnswer, takenAnswer, takenNumber}
+use Rattle.logs.specs.Answers.{TABLE, MAX-ROWS, MAX-EVENTS, badEventCount, badSummary, rowsAfter, freshAnswer, takenAnswer, takenNumber}
 use Rattle.logs.specs.declared.Summary.{Summary}
 use Rattle.logs.specs.declared.Taken.{Taken}
-use Rattle.logs.specs.declared.Taken.the-variants.{Next, Refused}
+use Rattle.logs.specs.declared.Taken.the-variants.{Refused}
 
 -- a refusal with a number of the list, or what follows
 either : (numbers : List ℕ) (b : Bool) (n at : ℕ) (rest : Taken) → among n numbers ≡ true → among (takenNumber rest) numbers ≡ true

@@ -5,20 +5,10 @@ use Prim.Native.Nat.{ℕ, zero, suc, _+_, _<_, _≤_}
 use native.Mathlib.Nat.{le-refl, add-assoc}
 use native.Mathlib.Numerals.{add-one}
 use native.Mathlib.Omega.{arith}
-use borrow.Author.Tests.{ltb-true}
-use lib.Dec.{ltb}
 use lib.ListN.{length, getD, drop, set, replicate, length-set, drop-of-length-le}
 use lib.Seq.{drop-cons}
-use Rattle.laws.specs.Scans.{failing-none}
-use Rattle.nets.specs.Nets.{Word, Counts}
 use Rattle.nets.specs.Machine.{COUNTS}
-use Rattle.logs.specs.Rows.{Row, findRow, present, marked, updateAt, bump, absent, newRows, takeWord, EventsBelow, none}
-use Rattle.logs.specs.Answers.{firstBad}
-
--- where no event is bad, all are below n
-pub none-bad : (n : ℕ) (w : Word) → length w ≤ firstBad n w → EventsBelow n w
-unfolding firstBad
-none-bad n w h k l = ltb-true _ _ (failing-none (λ e. ltb e n) 0 w h k l)
+use Rattle.logs.specs.Rows.{Row, findRow, present, marked, updateAt, bump, absent, newRows, takeWord, none}
 
 -- v counts at most i events
 pub record Counted (v : List ℕ) (i : ℕ) : Type 0 where

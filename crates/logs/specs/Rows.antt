@@ -2,7 +2,7 @@
 use mathlib.Core.Path.{_≡_}
 use mathlib.Core.Bool.{not, cond}
 use mathlib.Core.List.{List, [], _∷_, _++_}
-use Prim.Native.Nat.{ℕ, zero, suc, _+_, _*_, _<_}
+use Prim.Native.Nat.{ℕ, zero, suc, _+_, _*_}
 use lib.ListN.{length, getD, take, drop, set, replicate}
 use lib.Dec.{ltb}
 use Rattle.laws.specs.Lists.{equal}
@@ -83,10 +83,6 @@ abbrev pub none : Counts
 none = replicate COUNTS 0
 
 -- ---- What is known before anything is written
-
--- each event of w is below n
-abbrev pub EventsBelow : ℕ → Word → Type 0
-EventsBelow n w = (k : ℕ) → k < length w → getD w k 0 < n
 
 -- 1 where no row has the counts v, else 0
 unfoldable pub absent : Counts → List Row → ℕ

@@ -7,10 +7,10 @@ use native.Mathlib.Nat.{add-sub-cancel-left}
 use lib.ListN.{length, getD, take, drop, set}
 use borrow.Author.Fill.{fill-more}
 use Rattle.laws.specs.Lists.{equal}
-use Rattle.laws.specs.Scans.{firstFailing, failing-most, failing-here, failing-again, failing-end}
+use Rattle.laws.specs.Scans.{failing-here, failing-again, failing-end}
 use Rattle.nets.specs.Nets.{Counts}
 use Rattle.nets.specs.Machine.{COUNTS}
-use Rattle.logs.specs.Rows.{ROW, Row, newRow, none, rowsOf, rowAt, findRow, cleared}
+use Rattle.logs.specs.Rows.{ROW, Row, newRow, none, rowsOf, findRow, cleared}
 use Rattle.logs.specs.Flat.{length-rows, rows-at, counts-rowAt}
 
 -- a loop that looks for the counts v: they are in none of the rows below i

@@ -1,12 +1,12 @@
 -- The loop that takes a word.
-use mathlib.Core.Path.{_≡_, refl, sym, ap, _∙_}
+use mathlib.Core.Path.{_≡_, refl, _∙_}
 use mathlib.Core.List.{List, []}
 use Prim.Native.Nat.{ℕ, _+_, _*_, _-_, _<_, _≤_}
 use native.Mathlib.Omega.{arith}
 use lib.ListN.{length, getD, drop}
 use lib.Seq.{drop-drop}
 use Rattle.nets.specs.Machine.{COUNTS}
-use Rattle.logs.specs.Rows.{ROW, Row, rowsOf, findRow, newRow, present, marked, updateAt, absent, bump, takeWord, none, Holds}
+use Rattle.logs.specs.Rows.{ROW, Row, rowsOf, findRow, present, marked, updateAt, bump, takeWord, none, Holds}
 use Rattle.logs.specs.Flat.{length-rows, held}
 use Rattle.logs.specs.Prefixes.{Counted, counted-none, counted-bump, take-again, take-end}
 use Rattle.logs.specs.Growth.{length-present, length-update, present-le}

@@ -3,13 +3,13 @@ pub mod rows; // a row found, appended, marked
 pub mod words; // a word taken
 
 use nets::COUNTS;
+use nets::first_bad;
 use refusals::EVENTS;
 use refusals::ROWS;
 use refusals::Refusal;
 use refusals::SUMMARY;
 use refusals::TABLE_SHORT;
 use refusals::VALUE;
-use words::first_bad;
 use words::has_room;
 use words::write_word;
 ghost use mathlib.Core.Path.{_≡_};

@@ -7,9 +7,10 @@ ghost use mathlib.Core.Path.{_≡_};
 ghost use Prim.Native.Nat.{_+_, _-_, _*_, _<_, _≤_};
 ghost use lib.Dec.{leb};
 ghost use lib.ListN.{length, getD};
+ghost use Rattle.nets.specs.Events.{EventsBelow};
 ghost use Rattle.nets.specs.Machine.{COUNTS};
-ghost use Rattle.logs.specs.Rows.{ROW, bump, findRow, rowsOf, present, marked, updateAt, absent, newRows, takeWord, none, EventsBelow, Holds};
-ghost use Rattle.logs.specs.Answers.{MAX-ROWS, MAX-EVENTS, firstBad};
+ghost use Rattle.logs.specs.Rows.{ROW, bump, findRow, rowsOf, present, marked, updateAt, absent, newRows, takeWord, none, Holds};
+ghost use Rattle.logs.specs.Answers.{MAX-ROWS, MAX-EVENTS};
 
 // The counts with one more of event e.
 fn bumped(counts: [u16; 12], e: usize) -> [u16; 12]
@@ -19,20 +20,6 @@ fn bumped(counts: [u16; 12], e: usize) -> [u16; 12]
     let mut next = counts;
     next[e] = counts[e] + 1;
     next
-}
-
-// The position of the first event that is not below n, or the word's length.
-pub fn first_bad(word: &[u8], n: usize) -> usize
-    ensures { λ r. ⌜ r ≡ firstBad n (now (word .entry)) ⌝ }
-{
-    let mut i = 0;
-    while i < word.len() {
-        if n <= word[i] as usize {
-            return i;
-        }
-        i += 1;
-    }
-    i
 }
 
 // 1 where no row has these counts, else 0.

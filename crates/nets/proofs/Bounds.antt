@@ -1,12 +1,10 @@
 -- The tokens of a place whose numbers are `u16`, and its surplus, are `i64`.
-use mathlib.Core.Path.{_≡_}
 use Prim.Native.Nat.{ℕ, _+_, _*_, _^_, _≤_, _<_}
 use native.Mathlib.Nat.{mul-le-mul}
 use native.Mathlib.Omega.{arith}
-use lib.ListN.{getD}
 use mir.Syntax.{w64}
 use mir.Val.{SFits}
-use Rattle.laws.specs.Sums.{sum, sum-bound}
+use Rattle.laws.specs.Sums.{sum-bound}
 use Rattle.nets.specs.Nets.{Place, Step, Counts, at, tokens, surplus}
 use Rattle.nets.specs.Surplus.{given, taken, tokens-is, surplus-is}
 use Rattle.nets.specs.Machine.{COUNTS}

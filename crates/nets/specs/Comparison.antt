@@ -7,10 +7,10 @@ use Prim.Native.Nat.{ℕ, _<_}
 use lib.Dec.{T, T-not, not-T}
 use lib.ListN.{length}
 use lib.Ieee.Fits.{and-i, and-l, and-r}
-use Rattle.laws.specs.Lists.{all, all-member, all-intro, keep, keep-in}
+use Rattle.laws.specs.Lists.{all-member, all-intro, keep, keep-in}
 use Rattle.laws.specs.Booleans.{decide, same-test}
 use Rattle.laws.specs.Distinct.{distinct-same-length, distinct-keep}
-use Rattle.nets.specs.Nets.{Word, Log, Net, Place, Step, Counts, Certificate, byPlace, byWeights, Bundle, counts, stepAfter, placePermits, netPermits, permits, permitted, stopped, firstRefusing, screen, rows, allowed, continuations, allowedSteps, wrongContinuations, solves, solvesAll, accepted, isByPlace, tally}
+use Rattle.nets.specs.Nets.{Word, Log, Net, Step, Counts, Certificate, byPlace, byWeights, Bundle, stepAfter, placePermits, netPermits, permits, permitted, stopped, firstRefusing, screen, rows, allowed, continuations, allowedSteps, wrongContinuations, solves, solvesAll, accepted, isByPlace, tally}
 use Rattle.nets.specs.Words.{PermitsLog, Prefix, word-prefix, permits-snoc, permits-prefix, permits-allowed, allowed-more}
 use Rattle.nets.specs.Rows.{row→, →row, rows-distinct, continuation→, →continuation, allowedStep→, →allowedStep, allowedSteps-distinct, wrong→, →wrong, wrong-distinct}
 use Rattle.nets.specs.Screening.{screen-snoc}

@@ -1,11 +1,11 @@
 -- Places that fit a log: a net permits every word of a log exactly when each of its places permits every allowed step.
 use mathlib.Core.Path.{refl, sym, subst}
 use mathlib.Core.Logic.{_↔_, ⊎-elim}
-use mathlib.Core.List.{List, _∷_, [], _++_, List·Memᴰ, List·Memᴰ·head, List·Memᴰ·not-nil, Memᴰ·cast, Memᴰ·append-left, Memᴰ·append-right}
+use mathlib.Core.List.{_∷_, [], _++_, List·Memᴰ, List·Memᴰ·head, List·Memᴰ·not-nil, Memᴰ·cast, Memᴰ·append-left, Memᴰ·append-right}
 use Prim.Native.Nat.{ℕ, _<_}
 use lib.Dec.{T}
 use Rattle.laws.specs.Lists.{all, all-member, all-intro}
-use Rattle.nets.specs.Nets.{Word, Log, Net, Place, Step, placePermits, netPermits, permits, allowed, allowedSteps, fits}
+use Rattle.nets.specs.Nets.{Word, Log, Net, Place, Step, placePermits, netPermits, allowed, allowedSteps, fits}
 use Rattle.nets.specs.Words.{Prefix, prefix→, prefix-shorter, PermitsLog, allowed→, permits-allowed, steps-permit}
 use Rattle.nets.specs.Rows.{→row, →continuation, allowedStep→, →allowedStep}
 

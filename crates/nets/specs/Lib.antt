@@ -8,7 +8,8 @@ pub mod Certificates
 pub mod Screening
 pub mod Comparison
 pub mod CountLaws
+pub mod Events
+pub mod Markings
 pub mod LogLaws
 pub mod Wide
 pub mod Machine
-pub mod Samples

@@ -1,7 +1,7 @@
 -- Laws for code that takes a log word by word: the prefixes, the rows and the allowed steps with one word more.
-use mathlib.Core.Path.{_≡_, refl, sym, ap, _∙_, subst}
+use mathlib.Core.Path.{_≡_, sym, ap, _∙_, subst}
 use mathlib.Core.Logic.{_↔_, _⊎_, inl, inr, ⊎-elim}
-use mathlib.Core.List.{List, [], _∷_, _++_, map, flatMap, foldl, append-nil, append-assoc, foldl-append, List·Memᴰ, Memᴰ·cast, List·Memᴰ·append-cases, Memᴰ·append-left, Memᴰ·append-right}
+use mathlib.Core.List.{List, [], _∷_, _++_, map, flatMap, foldl, append-nil, foldl-append, List·Memᴰ, Memᴰ·cast, List·Memᴰ·append-cases, Memᴰ·append-left, Memᴰ·append-right}
 use Prim.Native.Nat.{ℕ, _+_, _≤_}
 use native.Mathlib.Omega.{arith}
 use lib.Dec.{T}

@@ -1,19 +1,20 @@
 -- Screening: it answers permitted exactly when the net permits the word, and otherwise stops at the first refused step.
-use mathlib.Core.Path.{_≡_, refl, _∙_}
+use mathlib.Core.Path.{_≡_, refl, sym, ap, ap₂, _∙_, subst}
 use mathlib.Core.Bool.{Bool, true, false, not, cond, _&&_}
-use mathlib.Core.Logic.{_↔_}
+use mathlib.Core.Logic.{_↔_, ⊎-elim}
 use mathlib.Core.List.{[], _∷_, _++_, append-nil}
 use Prim.Native.Nat.{ℕ, zero, suc, _<_}
-use native.Mathlib.Nat.{le-of-suc-le-suc, not-suc-le-zero}
+use native.Mathlib.Nat.{le-antisymm, le-of-suc-le-suc, not-suc-le-zero}
 use native.Mathlib.Omega.{arith}
 use lib.Dec.{T, T-not, not-T}
 use lib.Ieee.Fits.{and-i, and-l, and-r}
-use lib.ListN.{length}
-use lib.Seq.{append-snoc}
+use lib.ListN.{length, getD, take, drop, length-append}
+use lib.Seq.{append-snoc, take-at, getD-at, split-at, length-take-le}
 use Rattle.laws.specs.Lists.{all}
-use Rattle.laws.specs.Booleans.{yes-true, no-false}
+use Rattle.laws.specs.Booleans.{yes-true, no-false, lt-or-le}
 use Rattle.nets.specs.Nets.{Word, Net, Step, placePermits, refusedBy, permitted, stopped, stepAfter, netPermits, permitsAfter, permits, firstRefusing, screenAfter, screen}
 use Rattle.nets.specs.Words.{permits-snoc}
+use Rattle.nets.specs.Certificates.{refused→}
 
 module _ (n : ℕ) (net : Net) where
   screenAfter-permits : (w u : Word) → screenAfter n net u w ≡ permitted → T (permitsAfter n net u w)
@@ -77,3 +78,91 @@ module _ (n : ℕ) (s : Step) where
       go true q (suc i) h below = below i (le-of-suc-le-suc h)
       go false q zero h below = absurd (not-suc-le-zero h)
       go false q (suc i) h below = absurd (not-suc-le-zero h)
+
+-- ---- the first refused step
+
+-- the first refused step of w has position i, and j is the lowest place that refuses it
+pub record FirstRefused (n : ℕ) (net : Net) (w : Word) (i j : ℕ) : Type 0 where
+  pub within : i < length w
+  pub before : T (permits n net (take i w))
+  pub refuses : T (refusedBy n net j (stepAfter n (take i w) (getD w i 0)))
+  pub lowest : (k : ℕ) → k < j → T (not (refusedBy n net k (stepAfter n (take i w) (getD w i 0))))
+
+module _ (n : ℕ) (net : Net) where
+  -- a word that stops, at its first refused step
+  record Stop (u w : Word) (i j : ℕ) : Type 0 where
+    done : Word
+    event : ℕ
+    rest : Word
+    whole : w ≡ done ++ event ∷ rest
+    permitted : T (permitsAfter n net u done)
+    refused : T (not (netPermits n net (stepAfter n (u ++ done) event)))
+    position : i ≡ length (u ++ done)
+    place : j ≡ firstRefusing n net (stepAfter n (u ++ done) event)
+
+  stop→ : (w u : Word) (i j : ℕ) → screenAfter n net u w ≡ stopped i j → Stop u w i j
+  unfolding screenAfter permitsAfter
+  stop→ [] u i j e = let z : _≡_ {A = ℕ} 0 1 = cc in absurd (omega arith)
+  stop→ (a ∷ w) u i j e = go (netPermits n net (stepAfter n u a)) refl e (stop→ w (u ++ a ∷ []) i j)
+    where
+      go : (t : Bool) → netPermits n net (stepAfter n u a) ≡ t → cond t (screenAfter n net (u ++ a ∷ []) w) (stopped (length u) (firstRefusing n net (stepAfter n u a))) ≡ stopped i j
+          → (screenAfter n net (u ++ a ∷ []) w ≡ stopped i j → Stop (u ++ a ∷ []) w i j) → Stop u (a ∷ w) i j
+      go true t e below =
+          let s = below e in
+          let same = append-snoc u a (s .done) in
+          record {
+            done = a ∷ s .done;
+            event = s .event;
+            rest = s .rest;
+            whole = ap (λ (l : Word). a ∷ l) (s .whole);
+            permitted = and-i (netPermits n net (stepAfter n u a)) (permitsAfter n net (u ++ a ∷ []) (s .done)) (rw t tt) (s .permitted);
+            refused = rw same at (s .refused);
+            position = s .position ∙ ap length same;
+            place = s .place ∙ ap (λ (l : Word). firstRefusing n net (stepAfter n l (s .event))) same;
+          }
+      go false t e below = record {
+        done = [];
+        event = a;
+        rest = w;
+        whole = refl;
+        permitted = tt;
+        refused = rw (append-nil, t) tt;
+        position = cc (append-nil u);
+        place = cc (append-nil u);
+      }
+
+  -- the lowest place that refuses a step is the one that screening names
+  lowest-first : (s : Step) (j : ℕ) → T (refusedBy n net j s) → ((k : ℕ) → k < j → T (not (refusedBy n net k s))) → j ≡ firstRefusing n net s
+  lowest-first s j r low = le-antisymm
+      (⊎-elim (λ h. absurd (T-not (refusedBy n net (firstRefusing n net s) s) (low (firstRefusing n net s) h) first)) (λ h. h) (lt-or-le (firstRefusing n net s) j))
+      (⊎-elim (λ h. absurd (T-not (refusedBy n net j s) (first-lowest n s net j h) r)) (λ h. h) (lt-or-le j (firstRefusing n net s)))
+    where
+      first : T (refusedBy n net (firstRefusing n net s) s)
+      first = first-refuses n s net (not-T (netPermits n net s) (λ t. refused→ n net j s r t))
+
+  stop-first : (w : Word) (i j : ℕ) → Stop [] w i j → FirstRefused n net w i j
+  unfolding permits
+  stop-first w i j s =
+      let step = stepAfter n (s .done) (s .event) in
+      let taken : take i w ≡ s .done = rw (s .whole) (take-at (s .done) (s .event ∷ s .rest) i (sym (s .position))) in
+      let next : getD w i 0 ≡ s .event = rw (s .whole) (getD-at (s .done) (s .event) (s .rest) 0 i (sym (s .position))) in
+      record {
+        within = omega (arith, s .position, ap length (s .whole), length-append (s .done) (s .event ∷ s .rest));
+        before = rw taken (s .permitted);
+        refuses = rw (taken, next, s .place) (first-refuses n step net (s .refused));
+        lowest = λ k h. rw (taken, next) (first-lowest n step net k (subst (λ (x : ℕ). k < x) (s .place) h));
+      }
+
+  first-stops : (w : Word) (i j : ℕ) → FirstRefused n net w i j → screen n net w ≡ stopped i j
+  unfolding screen screenAfter permits
+  first-stops w i j f =
+      let step = stepAfter n (take i w) (getD w i 0) in
+      let refused : netPermits n net step ≡ false = no-false (netPermits n net step) (not-T (netPermits n net step) (λ t. refused→ n net j step (f .refuses) t)) in
+      ap (screenAfter n net []) (split-at w i 0 (f .within))
+      ∙ screenAfter-append n net (take i w) [] (getD w i 0 ∷ drop (suc i) w) (f .before)
+      ∙ rw refused (ap₂ stopped (length-take-le i w (omega (arith, f .within))) (sym (lowest-first step j (f .refuses) (f .lowest))))
+
+  -- screening stops with a position and a place exactly when they are those of the first refused step
+  pub screen-stopped-exactly : (w : Word) (i j : ℕ) → (screen n net w ≡ stopped i j) ↔ FirstRefused n net w i j
+  unfolding screen
+  screen-stopped-exactly w i j = ((λ e. stop-first w i j (stop→ w [] i j e)), first-stops w i j)

@@ -1,16 +1,22 @@
--- Wider count vectors: with zeros from n on, as the twelve counts of a table row, the rows and the allowed steps stay the same.
-use mathlib.Core.Path.{_≡_, refl, sym, ap, ap₂, _∙_, subst}
+-- Wider count vectors: with zeros from n on, as the twelve counts of a table row, the rows, the allowed steps and what a place permits
+-- stay the same.
+use mathlib.Core.Path.{_≡_, refl, sym, ap, _∙_}
 use mathlib.Core.Bool.{Bool, true, false, cond}
-use mathlib.Core.List.{List, [], _∷_, _++_, append-cancel-right, map, map-map, foldl, List·Memᴰ, Memᴰ·map, Memᴰ·of-map, Memᴰ·cast}
-use Prim.Native.Nat.{ℕ, _+_, _<_}
+use mathlib.Core.List.{List, [], _∷_, _++_, append-cancel-right, map, map-map, foldl, Memᴰ·map, Memᴰ·of-map, Memᴰ·cast}
+use Prim.Native.Nat.{ℕ, _+_}
+use native.Mathlib.Omega.{arith}
 use lib.Dec.{T}
-use lib.ListN.{replicate}
+use lib.IntN.{ℤ, pos, _-ℤ_}
+use lib.ListN.{length, replicate, List·getD-eq-default}
+use lib.Signed.{nonNeg}
 use Rattle.laws.specs.Booleans.{same-test}
+use Rattle.laws.specs.Parts.{getD-padded}
 use Rattle.laws.specs.Lists.{member, member→, →member, map-append, map-same}
-use Rattle.nets.specs.Nets.{Word, Log, Counts, Step, counts, prefixes, addRow, rows, allowed}
+use Rattle.nets.specs.Nets.{Word, Log, Counts, Place, counts, surplus, placePermits, prefixes, addRow, rows, allowed}
 use Rattle.nets.specs.Words.{Prefix, allowed→, →allowed, prefix-shorter}
 use Rattle.nets.specs.Fits.{LogBelow, prefix-below}
 use Rattle.nets.specs.CountLaws.{counts-wide}
+use Rattle.nets.specs.Surplus.{tokens-row, tokens-wide}
 
 -- rows added under a renaming of count vectors that keeps them apart
 module _ (f : Counts → Counts) (apart : (u v : Counts) → f u ≡ f v → u ≡ v) where
@@ -61,3 +67,11 @@ module _ (n k : ℕ) (log : Log) (below : LogBelow n log) where
           let f = allowed→ n log (record { row = v; event = e }) t in
           let here = wide-counts (f .0) (prefix-shorter log (f .0) (e ∷ []) (f .2)) in
           →allowed (n + k) log (record { row = wide k v; event = e }) (f .0, here ∙ ap (wide k) (f .1), f .2)
+
+-- zeros behind the counts of n events change nothing
+pub permits-wide : (n k : ℕ) (p : Place) (v : Counts) (e : ℕ) → length v ≡ n
+    → placePermits (n + k) p (record { row = wide k v; event = e }) ≡ placePermits n p (record { row = v; event = e })
+unfolding placePermits surplus
+permits-wide n k p v e size =
+    ap (λ (z : ℤ). nonNeg (z -ℤ pos (p .consumed e)))
+    (tokens-row (n + k) p (wide k v) v (λ i _. getD-padded v k i 0) ∙ tokens-wide n k p v (λ i b. List·getD-eq-default v 0 (omega arith)))

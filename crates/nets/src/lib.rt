@@ -1,11 +1,13 @@
-// Places of a net, and the masks of a log table: what a place permits after given counts of events.
+// Places of a net: what a place permits after given counts of events. The events of a word, and the masks of a log table.
 // The definitions are in specs/Nets.antt, over numbers of any size.
 ghost use mathlib.Core.Path.{_≡_};
 ghost use Prim.Native.Nat.{_≤_, _<_};
 ghost use lib.IntN.{pos, _-ℤ_, _*ℤ_};
 ghost use lib.ListN.{length};
+ghost use lib.Signed.{nonNeg};
 ghost use Rattle.laws.specs.Bits.{bit, bitCount, withBit};
 ghost use Rattle.nets.specs.Nets.{tokens as tokensAfter, surplus as surplusOf, placePermits};
+ghost use Rattle.nets.specs.Events.{firstBad};
 ghost use Rattle.nets.specs.Machine.{COUNTS, placeOf};
 
 // The counts of a row: as many as a bundle may have events.
@@ -39,6 +41,13 @@ pub fn tokens(place: Place, counts: &[u16]) -> i64
     total
 }
 
+// Whether the tokens in a place cover what an event takes: whether the surplus is 0 or more. (Inner function.)
+pub fn covers(tokens: i64, consumed: u16) -> bool
+    ensures { λ r. ⌜ r ≡ nonNeg (tokens -ℤ pos consumed) ⌝ }
+{
+    consumed as i64 <= tokens
+}
+
 // The surplus of a place at the counts and the event. (Inner function.)
 pub fn surplus(place: Place, counts: &[u16], event: usize) -> i64
     requires { ⌜ (event < COUNTS) × (COUNTS ≤ length (now counts)) ⌝ }
@@ -53,6 +62,20 @@ pub fn permits(place: Place, counts: &[u16], event: usize) -> bool
     ensures { λ r. ⌜ r ≡ placePermits COUNTS (placeOf place) (record { row = now (counts .entry); event = event }) ⌝ }
 {
     0 <= surplus(place, counts, event)
+}
+
+// The position of the first event that is not below n, or the word's length. (Inner function.)
+pub fn first_bad(word: &[u8], n: usize) -> usize
+    ensures { λ r. ⌜ r ≡ firstBad n (now (word .entry)) ⌝ }
+{
+    let mut i = 0;
+    while i < word.len() {
+        if n <= word[i] as usize {
+            return i;
+        }
+        i += 1;
+    }
+    i
 }
 
 // The mask with bit `event` set. (Inner function.)

@@ -1,8 +1,8 @@
 -- What a call that writes bytes answers, and what its output holds afterwards.
 use mathlib.Core.List.{List}
-use mathlib.Core.Bool.{cond}
+use mathlib.Core.Bool.{Bool, cond}
 use Prim.Native.Nat.{ℕ}
-use lib.ListN.{length, take}
+use lib.ListN.{length}
 use lib.Dec.{leb}
 use Rattle.laws.specs.Parts.{front}
 use Rattle.refusals.specs.Table.{OUTPUT-SHORT}
@@ -12,6 +12,10 @@ use Rattle.refusals.specs.declared.Written.the-variants.{Length, Refused
 
 abbrev pub refusal : ℕ → ℕ → Refusal
 refusal n at = record { number = n; spot = at }
+
+-- an answer where a test passes, else a refusal
+unfoldable pub provided : {A : Type 0} → (Refusal → A) → Bool → ℕ → ℕ → A → A
+provided refuse passed number spot a = cond passed a (refuse (refusal number spot))
 
 -- what a call owes, before its output is looked at: bytes, or a refusal
 pub data Result : Type 0 where

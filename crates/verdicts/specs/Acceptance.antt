@@ -1,34 +1,34 @@
 -- Demand 2 for judging: a bundle is accepted exactly when it keeps the layout and the limits and passes the definitions' test, and then
 -- the verdict has the definitions' four counts.
 use mathlib.Core.Path.{_≡_, refl, sym, ap, ap₂, _∙_, subst}
-use mathlib.Core.Bool.{Bool, true, false, cond, _&&_}
+use mathlib.Core.Bool.{Bool, true, false, cond}
 use mathlib.Core.Logic.{_↔_}
-use mathlib.Core.List.{List, [], _∷_, _++_, map, flatMap, append-nil, List·Memᴰ}
-use Prim.Native.Nat.{ℕ, _+_, _≤_, _<_}
+use mathlib.Core.List.{List, [], _∷_, _++_, map, flatMap, append-nil}
+use Prim.Native.Nat.{ℕ, _+_, _≤_}
 use native.Mathlib.Nat.{le-trans}
 use native.Mathlib.Omega.{arith}
 use borrow.Author.Tests.{le-leb}
 use lib.Dec.{T, leb, leb→le, le→leb}
 use lib.Ieee.Fits.{and-i, and-l, and-r}
-use lib.ListN.{length, drop, drop-of-length-le}
+use lib.ListN.{length, drop-of-length-le}
+use Rattle.laws.specs.Every.{Every}
 use Rattle.laws.specs.Booleans.{yes-true}
 use Rattle.laws.specs.Lists.{all, any, all-member, all-intro}
 use Rattle.laws.specs.Numbers.{Bytes}
-use Rattle.refusals.specs.Table.{BUNDLE-LENGTH, TABLE-SHORT, BYTES-FOLLOW}
-use Rattle.refusals.specs.Answers.{refusal}
-use Rattle.nets.specs.Nets.{Log, Step, Tally, prefixes, addRow, permits, rows, wrongContinuations, solves, solvesAll, fits, accepted, tally}
+use Rattle.refusals.specs.Table.{BUNDLE-LENGTH, BYTES-FOLLOW}
+use Rattle.refusals.specs.Answers.{refusal, provided}
+use Rattle.nets.specs.Nets.{Log, Step, prefixes, addRow, permits, rows, wrongContinuations, solves, solvesAll, fits, accepted, tally}
 use Rattle.nets.specs.LogLaws.{rows-longer}
 use Rattle.nets.specs.Fits.{LogBelow, permits-fits}
 use Rattle.logs.specs.Answers.{TABLE}
-use Rattle.bundles.specs.Reading.{Read, got, failed, Reader, andThen, _>>_, give}
-use Rattle.bundles.specs.Layout.{CertificateFields, Head, Contents, Every, HeadInLimits, CertificateInLimits, InLimits, toNet, toCertificate, toBundle, certificateBytes, headBytes, bytesOf}
+use Rattle.bundles.specs.Reading.{Read, got, failed, andThen, _>>_, give}
+use Rattle.bundles.specs.Layout.{CertificateFields, Head, Contents, HeadInLimits, CertificateInLimits, InLimits, toNet, toCertificate, toBundle, certificateBytes, bytesOf, sizeFits}
 use Rattle.bundles.specs.Readers.{certificate}
 use Rattle.bundles.specs.ReadingLaws.{Law, part-front, EachValid, andThen-got, law-then, law-give, law-same, law-require, law-tested, law-each}
 use Rattle.bundles.specs.LayoutLaws.{HeadValid, law-head, law-certificate}
-use Rattle.bundles.specs.Limits.{words-below, head→limits, limits→head}
-use Rattle.verdicts.specs.Judging.{rowsBelowLimit, unsolved, solved, atEnd, afterHead, contents, judging, sizeFits, provided, countsOf, verdictOn, verdict}
+use Rattle.bundles.specs.Limits.{size→, →size, words-below, head→limits, limits→head}
+use Rattle.verdicts.specs.Judging.{rowsBelowLimit, solved, atEnd, afterHead, contents, judging, countsOf, verdictOn, verdict}
 use Rattle.verdicts.specs.declared.Counts.{Counts}
-use Rattle.verdicts.specs.declared.Verdict.{Verdict}
 use Rattle.verdicts.specs.declared.Verdict.the-variants as verdicts
 
 few-rows : (n : ℕ) (log more : Log) → T (rowsBelowLimit n (log ++ more)) → T (rowsBelowLimit n log)
@@ -146,15 +146,6 @@ module _ (b : List ℕ) (bytes : Bytes b) where
   →judging : (c : Contents) → Acceptable c → b ≡ bytesOf c → judging b 0 ≡ got c (length (bytesOf c))
   unfolding judging andThen atEnd
   →judging c v e = rw (law-contents .complete 0 c (length (bytesOf c)) v (part-front b (bytesOf c) [] (e ∙ sym (append-nil (bytesOf c)))), le-leb (length b) (length (bytesOf c)) (omega (arith, ap length e)))
-
--- a bundle of at least one and at most 64,512 bytes
-pub size→ : (b : List ℕ) → T (sizeFits b) → length b ≤ 64512
-unfolding sizeFits
-size→ b t = leb→le (length b) 64512 (and-r (leb 1 (length b)) (leb (length b) 64512) t)
-
-pub →size : (b : List ℕ) (h : Head) (rest : List ℕ) → b ≡ headBytes h ++ rest → length b ≤ 64512 → T (sizeFits b)
-unfolding sizeFits headBytes
-→size b h rest e most = and-i (leb 1 (length b)) (leb (length b) 64512) (le→leb 1 (length b) (omega (arith, ap length e))) (le→leb (length b) 64512 most)
 
 -- the bundle b has the fields d, within every limit; its net permits every log word, each wrong continuation has a certificate that solves
 -- it, and the counts c are the definitions'

@@ -1,19 +1,19 @@
 -- Judging on bytes: which verdict a bundle gets, with the refusals' numbers and spots, and what it leaves in the table.
 use mathlib.Core.Bool.{Bool, cond, _&&_}
-use mathlib.Core.List.{List, [], _∷_}
+use mathlib.Core.List.{List, []}
 use Prim.Native.Nat.{ℕ}
 use lib.Dec.{leb}
 use lib.ListN.{length}
 use Rattle.laws.specs.Lists.{all}
 use Rattle.laws.specs.Scans.{firstFailing}
 use Rattle.refusals.specs.Table.{BUNDLE-LENGTH, TABLE-SHORT, PLACE-FIT, PLACE-PERMITS, WEIGHTS, BYTES-FOLLOW}
-use Rattle.refusals.specs.Answers.{refusal}
+use Rattle.refusals.specs.Answers.{refusal, provided}
 use Rattle.nets.specs.Nets.{Log, Step, Tally, rows, fits, wrongContinuations, solves, tally}
 use Rattle.logs.specs.Rows.{withRows, cleared}
 use Rattle.logs.specs.Answers.{TABLE, MAX-ROWS}
 use Rattle.logs.specs.Log.{logRows}
 use Rattle.bundles.specs.Reading.{Read, got, failed, Reader, _>>=_, _>>_, give, require, each}
-use Rattle.bundles.specs.Layout.{CertificateFields, kind0, kind1, Head, Contents, toNet, toCertificate, toBundle}
+use Rattle.bundles.specs.Layout.{CertificateFields, kind0, kind1, Head, Contents, toNet, toCertificate, toBundle, sizeFits}
 use Rattle.bundles.specs.Readers.{head, certificate}
 use Rattle.verdicts.specs.declared.Counts.{Counts}
 use Rattle.verdicts.specs.declared.Verdict.{Verdict}
@@ -60,14 +60,6 @@ judging = do
 
 -- ---- The verdict
 
--- 1 to 64,512 bytes
-unfoldable pub sizeFits : List ℕ → Bool
-sizeFits b = leb 1 (length b) && leb (length b) 64512
-
--- a refusal where a test fails
-unfoldable pub provided : Bool → ℕ → ℕ → Verdict → Verdict
-provided ok number spot verdict = cond ok verdict (Refused (refusal number spot))
-
 abbrev pub countsOf : Tally → Counts
 countsOf t = record { rows = t .rowCount; allowed = t .allowedCount; «by_place» = t .byPlaceCount; «by_weights» = t .byWeightsCount }
 
@@ -79,8 +71,8 @@ verdictOn (failed number spot) = Refused (refusal number spot)
 -- the verdict on a bundle, with a table of so many numbers: 4, 5, then bundle order
 unfoldable pub verdict : ℕ → List ℕ → Verdict
 verdict tableSize b =
-    provided (sizeFits b) BUNDLE-LENGTH 0
-    (provided (leb TABLE tableSize) TABLE-SHORT TABLE
+    provided Refused (sizeFits b) BUNDLE-LENGTH 0
+    (provided Refused (leb TABLE tableSize) TABLE-SHORT TABLE
     (verdictOn (judging b 0)))
 
 -- 0, or the refusal's number

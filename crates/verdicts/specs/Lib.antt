@@ -1,3 +1,3 @@
 pub mod Judging
 pub mod Acceptance
-pub mod Samples
+pub mod Order

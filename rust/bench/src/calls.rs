@@ -1,11 +1,12 @@
 //! The calls that are timed. A further one is a further entry in [`on_files`],
-//! [`on_logs`] or [`on_bundles`].
+//! [`on_logs`], [`on_bundles`] or [`on_words`].
 
-use differential::bundles::SAMPLE_A;
+use differential::bundles::{Bundle, Place, MAX_PLACES, SAMPLE_A};
 use differential::limits::{Size, LARGEST, MIDDLE};
 use differential::rng::Rng;
 use hovmekhar::{
-    Summary, CONTENTS_SIZE, MAX_BLOCKS, MAX_FILE_SIZE, MAX_LOG_EVENTS, MAX_ROWS, TABLE_SIZE,
+    Summary, CONTENTS_SIZE, MAX_BLOCKS, MAX_EVENTS, MAX_FILE_SIZE, MAX_LOG_EVENTS, MAX_ROWS,
+    MAX_WORD_EVENTS, TABLE_SIZE,
 };
 use std::hint::black_box;
 
@@ -112,6 +113,26 @@ pub fn on_bundles() -> Vec<Call<Vec<u8>, u16>> {
             prepare: || with_table(bundle_of(LARGEST)),
             ours: judge_ours,
             reference: judge_reference,
+        },
+    ]
+}
+
+/// Screening of words that are permitted.
+pub fn on_words() -> Vec<Call<Screening, u8>> {
+    vec![
+        Call {
+            name: "screen",
+            size: "2 places, 2 events",
+            prepare: || without_output(sample_word()),
+            ours: screen_ours,
+            reference: screen_reference,
+        },
+        Call {
+            name: "screen",
+            size: "64 places, 65,535 events",
+            prepare: || without_output(longest_word()),
+            ours: screen_ours,
+            reference: screen_reference,
         },
     ]
 }
@@ -241,4 +262,72 @@ fn judge_reference(buffers: &mut Buffers<Vec<u8>, u16>) -> Option<usize> {
 /// A bundle of this size, the same in every run.
 fn bundle_of(size: Size) -> Vec<u8> {
     size.certified(&mut Rng::new(0)).bundle.bytes()
+}
+
+/// A bundle, and a word to screen with it.
+pub struct Screening {
+    bundle: Vec<u8>,
+    word: Vec<u8>,
+}
+
+/// Screens, and returns how many events are permitted.
+fn screen_ours(buffers: &mut Buffers<Screening, u8>) -> Option<usize> {
+    let Screening { bundle, word } = &buffers.input;
+    let screened = hovmekhar::screen(black_box(bundle), black_box(word)).ok()?;
+    Some(match screened {
+        hovmekhar::Screened::Permitted => word.len(),
+        hovmekhar::Screened::Stopped { position, .. } => position,
+    })
+}
+
+fn screen_reference(buffers: &mut Buffers<Screening, u8>) -> Option<usize> {
+    let Screening { bundle, word } = &buffers.input;
+    let screened = reference::screen(black_box(bundle), black_box(word)).ok()?;
+    Some(match screened {
+        reference::Screened::Permitted => word.len(),
+        reference::Screened::Stopped { position, .. } => position,
+    })
+}
+
+/// An input of a call that only reads.
+fn without_output<I>(input: I) -> Buffers<I, u8> {
+    Buffers {
+        input,
+        output: Vec::new(),
+    }
+}
+
+/// Sample B.
+fn sample_word() -> Screening {
+    Screening {
+        bundle: SAMPLE_A.to_vec(),
+        word: vec![0, 1],
+    }
+}
+
+/// The longest word, with as many places and events as there can be. An event puts
+/// as many tokens into a place as it takes out, or one more.
+fn longest_word() -> Screening {
+    let n = MAX_EVENTS;
+    let place = |number: usize| {
+        let outs: Vec<u16> = (0..n).map(|e| ((e * 7 + number) % 5) as u16).collect();
+        let ins = (0..n).map(|e| outs[e] + u16::from((e + number) % 8 == 0));
+        Place {
+            m: 1_000,
+            ins: ins.collect(),
+            outs: outs.clone(),
+        }
+    };
+    let bundle = Bundle {
+        n,
+        words: Vec::new(),
+        places: (0..MAX_PLACES).map(place).collect(),
+        certificates: Vec::new(),
+    };
+    Screening {
+        bundle: bundle.bytes(),
+        word: (0..MAX_WORD_EVENTS)
+            .map(|i| (i * 167 % 251 % n) as u8)
+            .collect(),
+    }
 }

@@ -15,11 +15,11 @@ fn main() {
     println!("Time of one call in nanoseconds: the median of {ROUNDS} rounds, ours and the");
     println!("reference in turn. Both get the same buffers, allocated once and not cleared");
     println!("between calls. A log is a fresh table and then all of its words, one by one. The");
-    println!("bundles that are judged are accepted. The ratio is ours / reference; below 1 ours");
-    println!("is faster.");
+    println!("bundles that are judged are accepted, and the words that are screened permitted.");
+    println!("The ratio is ours / reference; below 1 ours is faster.");
     println!();
     println!(
-        "{:<5} {:<31} {:>10} {:>10} {:>6}",
+        "{:<6} {:<31} {:>10} {:>10} {:>6}",
         "call", "size", "ours", "reference", "ratio"
     );
     for call in calls::on_files() {
@@ -31,13 +31,16 @@ fn main() {
     for call in calls::on_bundles() {
         print(&call);
     }
+    for call in calls::on_words() {
+        print(&call);
+    }
 }
 
 /// Times a call and prints its line.
 fn print<I, T: Default + Clone + PartialEq>(call: &Call<I, T>) {
     let (ours, reference) = timing::compare(call);
     println!(
-        "{:<5} {:<31} {ours:>10.1} {reference:>10.1} {:>6.2}",
+        "{:<6} {:<31} {ours:>10.1} {reference:>10.1} {:>6.2}",
         call.name,
         call.size,
         ours / reference

@@ -1,6 +1,7 @@
-//! Bundles that have to be refused, each with one fault.
+//! Bundles that have to be refused, each with one fault, and bundles with several
+//! changes.
 
-use crate::bundles::{Certificate, Field, Layout, MAX_PLACES, MAX_TERMS};
+use crate::bundles::{Bundle, Certificate, Field, Layout, MAX_PLACES, MAX_TERMS};
 use crate::logs::COUNTS;
 use crate::nets::{term, weights_but_for, Certified, Step};
 use crate::rng::Rng;
@@ -211,6 +212,35 @@ pub fn refusal_of_cut(layout: &Layout, length: usize) -> Refusal {
 pub fn write_value(bytes: &mut [u8], range: &Range<usize>, value: usize) {
     let size = range.len();
     bytes[range.clone()].copy_from_slice(&value.to_le_bytes()[..size]);
+}
+
+/// The bytes of a bundle with up to four changes: random fields set to values that
+/// are near, at a border or any, the end cut or bytes added.
+pub fn altered(rng: &mut Rng, bundle: &Bundle) -> Vec<u8> {
+    let layout = bundle.layout();
+    let mut bytes = layout.bytes;
+    for _ in 0..rng.within(1..=4) {
+        match rng.below(8) {
+            0 => {
+                let length = rng.within(1..=bytes.len());
+                bytes.truncate(length);
+            }
+            1 => bytes.push(rng.choose(&[0, 1, 255])),
+            _ => {
+                let (_, range) = layout.fields[rng.below(layout.fields.len())].clone();
+                if range.end <= bytes.len() {
+                    let value = bytes[range.clone()]
+                        .iter()
+                        .rev()
+                        .fold(0, |value, &byte| 256 * value + usize::from(byte));
+                    let any = rng.below(65_536);
+                    let values = [value.wrapping_sub(1), value + 1, 0, 1, 64, 65, 65_535, any];
+                    write_value(&mut bytes, &range, rng.choose(&values));
+                }
+            }
+        }
+    }
+    bytes
 }
 
 /// A bundle with a value that is out of range in one of the fields of this kind.

@@ -2,8 +2,9 @@
 //! close to their wording as possible and without regard to speed. The tests know
 //! from it what a call has to answer, apart from what the reference says.
 
+use crate::fields::Fields;
 use crate::files::MAX_BUNDLE;
-use crate::logs::{table_of, MAX_EVENTS, MAX_ROWS, TABLE};
+use crate::logs::{table_of, MAX_ROWS, TABLE};
 use crate::run::{refusal, Outcome, Run};
 use reference::{log_rows, Counts, Row};
 
@@ -11,8 +12,7 @@ use reference::{log_rows, Counts, Row};
 /// and what the first 3,328 numbers of the table are afterwards.
 pub fn judge_by_definitions(bundle: &[u8]) -> (Outcome<Counts>, Vec<u16>) {
     assert!(!bundle.is_empty() && bundle.len() <= MAX_BUNDLE);
-    let mut fields = Fields { bundle, next: 0 };
-    match accepted(&mut fields) {
+    match accepted(&mut Fields::new(bundle)) {
         Ok((counts, table)) => (Ok(counts), table),
         Err(refused) => (Err(refused), vec![0; TABLE]),
     }
@@ -32,82 +32,12 @@ pub fn judge(run: &mut Run, bundle: &[u8]) -> Outcome<Counts> {
     outcome
 }
 
-/// A bundle, and the offset of its next field.
-struct Fields<'b> {
-    bundle: &'b [u8],
-    next: usize,
-}
-
-impl Fields<'_> {
-    /// A field of one byte or two, with the low byte first, and its offset.
-    fn field(&mut self, size: usize) -> Outcome<(usize, usize)> {
-        let offset = self.next;
-        if offset + size > self.bundle.len() {
-            return refusal(6, offset);
-        }
-        self.next += size;
-        let bytes = &self.bundle[offset..self.next];
-        let value = bytes
-            .iter()
-            .rev()
-            .fold(0, |value, &byte| 256 * value + usize::from(byte));
-        Ok((value, offset))
-    }
-
-    /// A field of this size whose value has to be in the range.
-    fn within(&mut self, size: usize, least: usize, most: usize) -> Outcome {
-        let (value, offset) = self.field(size)?;
-        if value < least || value > most {
-            return refusal(7, offset);
-        }
-        Ok(value)
-    }
-
-    /// A field of this size that has to name one of `count` things.
-    fn one_of(&mut self, size: usize, count: usize) -> Outcome {
-        let (value, offset) = self.field(size)?;
-        if value >= count {
-            return refusal(7, offset);
-        }
-        Ok(value)
-    }
-}
-
-/// A place over whole numbers.
-struct Place {
-    m: i128,
-    ins: Vec<i128>,
-    outs: Vec<i128>,
-}
-
-impl Place {
-    /// m + sum of v(i) × (in(i) − out(i)) − out(e).
-    fn surplus(&self, v: &[usize], e: usize) -> i128 {
-        let mut surplus = self.m;
-        for (i, &count) in v.iter().enumerate() {
-            surplus += count as i128 * (self.ins[i] - self.outs[i]);
-        }
-        surplus - self.outs[e]
-    }
-
-    /// Whether the place permits every allowed step.
-    fn fits(&self, rows: &[Row]) -> bool {
-        rows.iter().all(|row| {
-            (0..row.counts.len()).all(|e| !row.allowed[e] || self.surplus(&row.counts, e) >= 0)
-        })
-    }
-}
-
 /// Reads a whole bundle. Gives back the counts and the table.
 fn accepted(fields: &mut Fields) -> Outcome<(Counts, Vec<u16>)> {
     let n = fields.within(1, 1, 12)?;
-    let words = words(fields, n)?;
+    let words = fields.words(n, MAX_ROWS)?;
     let rows = log_rows(n, &words);
-
-    let mut places = Vec::new();
-    for _ in 0..fields.within(1, 0, 64)? {
-        places.push(place(fields, n)?);
-    }
+    let places = fields.places(n)?;
     if let Some(lowest) = places.iter().position(|place| !place.fits(&rows)) {
         return refusal(10, lowest);
     }
@@ -144,46 +74,8 @@ fn accepted(fields: &mut Fields) -> Outcome<(Counts, Vec<u16>)> {
             number += 1;
         }
     }
-    if fields.next < fields.bundle.len() {
-        return refusal(13, fields.next);
-    }
+    fields.finish()?;
     Ok((counts, table_of(n, &words)))
-}
-
-/// Reads the words of a log.
-fn words(fields: &mut Fields, n: usize) -> Outcome<Vec<Vec<u8>>> {
-    let mut words: Vec<Vec<u8>> = Vec::new();
-    let mut events = 0;
-    for _ in 0..fields.within(1, 0, 255)? {
-        let (length, offset) = fields.field(1)?;
-        events += length;
-        if events > MAX_EVENTS {
-            return refusal(8, offset);
-        }
-        let mut word = Vec::new();
-        for _ in 0..length {
-            word.push(fields.one_of(1, n)? as u8);
-        }
-        words.push(word);
-        // There is the row of the empty prefix, and at most one for each event.
-        if events + 1 > MAX_ROWS && log_rows(n, &words).len() > MAX_ROWS {
-            return refusal(9, offset);
-        }
-    }
-    Ok(words)
-}
-
-/// Reads a place.
-fn place(fields: &mut Fields, n: usize) -> Outcome<Place> {
-    let mut numbers = Vec::new();
-    for _ in 0..1 + n + n {
-        numbers.push(fields.field(2)?.0 as i128);
-    }
-    Ok(Place {
-        m: numbers[0],
-        ins: numbers[1..1 + n].to_vec(),
-        outs: numbers[1 + n..].to_vec(),
-    })
 }
 
 /// A certificate of kind 1.

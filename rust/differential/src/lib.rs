@@ -10,7 +10,8 @@
 //! - [`nets`]: nets and certificates for logs, with the method of [`simplex`].
 //! - [`limits`]: bundles up to the limits.
 //! - [`bundle_faults`]: bundles that have to be refused.
-//! - [`judging`]: judging, by the definitions.
+//! - [`fields`], [`places`]: reading a bundle, and its places, by the definitions.
+//! - [`judging`], [`screening`]: judging and screening, by the definitions.
 //! - [`samples`]: the files in `samples/`.
 //! - [`vectors`]: cases with their answers, from a file.
 //! - [`guarded`]: lent buffers with guards on both sides.
@@ -30,14 +31,17 @@
 pub mod bundle_faults;
 pub mod bundles;
 pub mod faults;
+pub mod fields;
 pub mod files;
 pub mod guarded;
 pub mod judging;
 pub mod limits;
 pub mod logs;
 pub mod nets;
+pub mod places;
 pub mod rng;
 pub mod run;
 pub mod samples;
+pub mod screening;
 pub mod simplex;
 pub mod vectors;

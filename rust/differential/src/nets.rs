@@ -2,6 +2,7 @@
 
 use crate::bundles::{Bundle, Certificate, Place, Term, MAX_PLACES, MAX_TERMS};
 use crate::logs::{random_word, Shape, COUNTS, MAX_ROWS};
+use crate::places;
 use crate::rng::Rng;
 use crate::simplex::{solve, Solution};
 use reference::{log_rows, Counts, Row};
@@ -122,16 +123,22 @@ fn column_numbers(rows: &[Row], step: Step) -> Vec<i128> {
         .collect()
 }
 
+/// A place that fits and refuses a step, in whole numbers of any size, or multiples
+/// of the allowed steps that show that there is none. Nothing when numbers get too
+/// large on the way.
+fn solve_step(rng: &mut Rng, rows: &[Row], step: Step) -> Option<Solution> {
+    let constraints: Vec<Vec<i128>> = steps(rows, true)
+        .into_iter()
+        .map(|step| column_numbers(rows, step))
+        .collect();
+    solve(rng, &constraints, &column_numbers(rows, step))
+}
+
 /// A place that fits and refuses a step, or weights that show that there is none.
 /// Nothing when numbers are too large for a bundle.
 fn decide(rng: &mut Rng, rows: &[Row], step: Step) -> Option<Result<Place, Certificate>> {
     let n = rows[0].counts.len();
-    let allowed = steps(rows, true);
-    let constraints: Vec<Vec<i128>> = allowed
-        .iter()
-        .map(|&step| column_numbers(rows, step))
-        .collect();
-    match solve(rng, &constraints, &column_numbers(rows, step))? {
+    match solve_step(rng, rows, step)? {
         Solution::Ray(ray) => {
             let numbers = two_bytes(&ray)?;
             Some(Ok(Place {
@@ -141,9 +148,28 @@ fn decide(rng: &mut Rng, rows: &[Row], step: Step) -> Option<Result<Place, Certi
             }))
         }
         Solution::Multipliers { scale, multiples } => {
+            let allowed = steps(rows, true);
             Some(Err(weights(&allowed, scale, &multiples)?))
         }
     }
+}
+
+/// A net that permits all words of a log and refuses each wrong continuation that
+/// any such net refuses, in whole numbers of any size. Nothing when numbers get too
+/// large on the way.
+pub fn strictest_net(rng: &mut Rng, rows: &[Row]) -> Option<Vec<places::Place>> {
+    let n = rows[0].counts.len();
+    let mut net = Vec::new();
+    for step in steps(rows, false) {
+        if let Solution::Ray(ray) = solve_step(rng, rows, step)? {
+            net.push(places::Place {
+                m: ray[0],
+                ins: ray[1..=n].to_vec(),
+                outs: ray[1 + n..].to_vec(),
+            });
+        }
+    }
+    Some(net)
 }
 
 /// Weights for which all inequalities hold but one: the first is that of the sum

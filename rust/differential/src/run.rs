@@ -4,13 +4,13 @@ use crate::guarded::Guarded;
 use crate::logs::{ROW, TABLE};
 use crate::rng::{Item, Rng};
 use hovmekhar::ffi;
-use reference::{Counts, Refusal, Summary};
+use reference::{Counts, Refusal, Screened, Summary};
 use std::collections::BTreeMap;
 use std::time::{SystemTime, UNIX_EPOCH};
 use std::{env, fmt};
 
 /// What a call answers: a result or a refusal. The result is a length, except
-/// for the calls on a log table.
+/// for the calls on a log table, for judging and for screening.
 pub type Outcome<R = usize> = Result<R, Refusal>;
 
 /// The refusal with this number and spot.
@@ -42,8 +42,10 @@ pub struct Judged {
     pub table: Vec<u16>,
 }
 
-/// What an answer allows a call to write.
+/// What an answer makes a call return and allows it to write.
 struct Written {
+    /// The number that is returned.
+    number: u32,
     /// The numbers of the answer, from `answer[0]` on.
     answer: Vec<u64>,
     /// How many items at the front of the output or table.
@@ -53,6 +55,7 @@ struct Written {
 impl Written {
     fn length(&length: &usize) -> Self {
         Self {
+            number: 0,
             answer: vec![length as u64],
             items: length,
         }
@@ -60,6 +63,7 @@ impl Written {
 
     fn summary(&Summary { n, rows, events }: &Summary, items: usize) -> Self {
         Self {
+            number: 0,
             answer: [n, rows, events].map(|number| number as u64).to_vec(),
             items,
         }
@@ -73,10 +77,33 @@ impl Written {
             by_weights,
         } = counts;
         Self {
+            number: 0,
             answer: [rows, allowed, by_place, by_weights]
                 .map(|number| number as u64)
                 .to_vec(),
             items: TABLE,
+        }
+    }
+
+    fn screened(screened: &Screened) -> Self {
+        let (number, answer) = match *screened {
+            Screened::Permitted => (0, Vec::new()),
+            Screened::Stopped { position, place } => {
+                (ffi::STOPPED, vec![position as u64, place as u64])
+            }
+        };
+        Self {
+            number,
+            answer,
+            items: 0,
+        }
+    }
+
+    fn refused(refusal: &Refusal, items: usize) -> Self {
+        Self {
+            number: refusal.number.into(),
+            answer: vec![refusal.spot as u64],
+            items,
         }
     }
 }
@@ -126,10 +153,10 @@ impl Run {
     pub fn open(&mut self, file: &[u8], output_len: usize) -> Done {
         let noise = self.rng.bytes(output_len);
         let (outcome, output) = self.compare(
-            file,
+            [file],
             noise,
-            ffi::open,
-            reference::open,
+            |[file], output, answer| ffi::open(file, output, answer),
+            |[file], output| reference::open(file, output),
             Written::length,
             nothing,
         );
@@ -140,10 +167,10 @@ impl Run {
     pub fn seal(&mut self, bundle: &[u8], output_len: usize) -> Done {
         let noise = self.rng.bytes(output_len);
         let (outcome, output) = self.compare(
-            bundle,
+            [bundle],
             noise,
-            ffi::seal,
-            reference::seal,
+            |[bundle], output, answer| ffi::seal(bundle, output, answer),
+            |[bundle], output| reference::seal(bundle, output),
             Written::length,
             nothing,
         );
@@ -153,10 +180,10 @@ impl Run {
     /// Starts a log on both sides, with copies of this table, and compares.
     pub fn fresh(&mut self, n: usize, table: &[u16]) -> Taken {
         let (outcome, table) = self.compare(
-            &[],
+            [],
             table.to_vec(),
-            |_, table, answer| ffi::fresh(n, table, answer),
-            |_, table| reference::fresh(n, table),
+            |[], table, answer| ffi::fresh(n, table, answer),
+            |[], table| reference::fresh(n, table),
             |summary| Written::summary(summary, TABLE),
             nothing,
         );
@@ -167,10 +194,10 @@ impl Run {
     pub fn take(&mut self, summary: Summary, word: &[u8], table: &[u16]) -> Taken {
         let Summary { n, rows, events } = summary;
         let (outcome, table) = self.compare(
-            word,
+            [word],
             table.to_vec(),
-            |word, table, answer| ffi::take(n, rows, events, word, table, answer),
-            |word, table| reference::take(summary, word, table),
+            |[word], table, answer| ffi::take(n, rows, events, word, table, answer),
+            |[word], table| reference::take(summary, word, table),
             |next| Written::summary(next, next.rows * ROW),
             nothing,
         );
@@ -180,10 +207,10 @@ impl Run {
     /// Judges a bundle on both sides, with copies of this table, and compares.
     pub fn judge(&mut self, bundle: &[u8], table: &[u16]) -> Judged {
         let (outcome, table) = self.compare(
-            bundle,
+            [bundle],
             table.to_vec(),
-            ffi::judge,
-            reference::judge,
+            |[bundle], table, answer| ffi::judge(bundle, table, answer),
+            |[bundle], table| reference::judge(bundle, table),
             Written::counts,
             |refused| match refused.number {
                 4 | 5 => 0,
@@ -193,22 +220,43 @@ impl Run {
         Judged { outcome, table }
     }
 
+    /// Screens a word on both sides and compares. Notes whether it is permitted or
+    /// stopped.
+    pub fn screen(&mut self, bundle: &[u8], word: &[u8]) -> Outcome<Screened> {
+        let no_output: Vec<u8> = Vec::new();
+        let (outcome, _) = self.compare(
+            [bundle, word],
+            no_output,
+            |[bundle, word], _, answer| ffi::screen(bundle, word, answer),
+            |[bundle, word], _| reference::screen(bundle, word),
+            Written::screened,
+            nothing,
+        );
+        match outcome {
+            Ok(Screened::Permitted) => self.note("permitted"),
+            Ok(Screened::Stopped { .. }) => self.note("stopped"),
+            Err(_) => (),
+        }
+        outcome
+    }
+
     /// Makes one call on both sides, with equal inputs and outputs, and compares
     /// the answers and every item of the outputs. Nothing may have changed but
     /// what the result allows; a refusal may only write `answer[0]`, and as many
     /// items at the front of the output as `refused` says. Inputs and outputs are
     /// anywhere in memory, bytes also at odd addresses. A table counts as output.
-    fn compare<T: Item, R>(
+    fn compare<T: Item, R, const INPUTS: usize>(
         &mut self,
-        input: &[u8],
+        inputs: [&[u8]; INPUTS],
         mut reference_output: Vec<T>,
-        ours: impl FnOnce(&[u8], &mut [T], &mut ffi::Answer) -> u32,
-        reference: impl FnOnce(&[u8], &mut [T]) -> Outcome<R>,
+        ours: impl FnOnce([&[u8]; INPUTS], &mut [T], &mut ffi::Answer) -> u32,
+        reference: impl FnOnce([&[u8]; INPUTS], &mut [T]) -> Outcome<R>,
         written: impl FnOnce(&R) -> Written,
         refused: impl FnOnce(&Refusal) -> usize,
     ) -> (Outcome<R>, Vec<T>) {
         self.calls += 1;
-        let input = self.guarded(input);
+        let inputs = inputs.map(|input| self.guarded(input));
+        let lent_inputs = inputs.each_ref().map(Guarded::lent);
         let mut output = self.guarded(&reference_output);
         let mut answer = Guarded::new(
             &self.rng.numbers::<4>(),
@@ -216,24 +264,18 @@ impl Run {
             &self.rng.numbers::<4>(),
         );
         let four: &mut ffi::Answer = answer.lent_mut().try_into().expect("four numbers");
-        let number = ours(input.lent(), output.lent_mut(), four);
+        let number = ours(lent_inputs, output.lent_mut(), four);
 
-        let outcome = reference(input.lent(), &mut reference_output);
-        let (reference_number, written) = match &outcome {
+        let outcome = reference(lent_inputs, &mut reference_output);
+        let (refusal_number, written) = match &outcome {
             Ok(result) => (0, written(result)),
-            Err(refusal) => (
-                refusal.number,
-                Written {
-                    answer: vec![refusal.spot as u64],
-                    items: refused(refusal),
-                },
-            ),
+            Err(refusal) => (refusal.number, Written::refused(refusal, refused(refusal))),
         };
 
         let answered = written.answer.len();
         assert_eq!(
             (number, &answer.lent()[..answered]),
-            (u32::from(reference_number), written.answer.as_slice()),
+            (written.number, written.answer.as_slice()),
             "number and answer, ours and the reference's: {self}"
         );
         let same = output.lent() == reference_output;
@@ -247,11 +289,11 @@ impl Run {
             "changed beyond what was answered, in the answer or around it: {self}"
         );
         assert!(
-            input.kept_beyond(0),
-            "changed in the input or around it: {self}"
+            inputs.iter().all(|input| input.kept_beyond(0)),
+            "changed in an input or around it: {self}"
         );
 
-        self.counts[usize::from(reference_number)] += 1;
+        self.counts[usize::from(refusal_number)] += 1;
         (outcome, reference_output)
     }
 

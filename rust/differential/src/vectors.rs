@@ -3,7 +3,8 @@
 //! A line is `judge FILE = ANSWER` or `screen BUNDLE WORD = ANSWER`, with bytes in
 //! hexadecimal, or a comment that starts with `#`. No bytes are written as `-`.
 
-use reference::{Counts, Refusal};
+use crate::run::Outcome;
+use reference::{Counts, Refusal, Screened};
 
 /// A sealed file, and the line that the program prints for it.
 #[derive(Clone, Debug, PartialEq, Eq)]
@@ -14,13 +15,24 @@ pub struct JudgeCase {
     pub line: String,
 }
 
+/// A bundle and a word, and the answer in words.
+#[derive(Clone, Debug, PartialEq, Eq)]
+pub struct ScreenCase {
+    /// The bundle.
+    pub bundle: Vec<u8>,
+    /// The word.
+    pub word: Vec<u8>,
+    /// The answer.
+    pub line: String,
+}
+
 /// The cases of a file.
 #[derive(Clone, Debug, Default, PartialEq, Eq)]
 pub struct Cases {
     /// Those for judging.
     pub judge: Vec<JudgeCase>,
-    /// How many there are for screening.
-    pub screen: usize,
+    /// Those for screening.
+    pub screen: Vec<ScreenCase>,
 }
 
 /// Reads the text of a file.
@@ -38,11 +50,11 @@ pub fn read(text: &str) -> Cases {
                 file: bytes(file),
                 line: answer.to_string(),
             }),
-            ["screen", bundle, word] => {
-                bytes(bundle);
-                bytes(word);
-                cases.screen += 1;
-            }
+            ["screen", bundle, word] => cases.screen.push(ScreenCase {
+                bundle: bytes(bundle),
+                word: bytes(word),
+                line: answer.to_string(),
+            }),
             _ => panic!("no known form: {line}"),
         }
     }
@@ -61,7 +73,7 @@ fn bytes(hexadecimal: &str) -> Vec<u8> {
 }
 
 /// The line that the program prints for this answer, without its end.
-pub fn line(answer: Result<Counts, Refusal>) -> String {
+pub fn line(answer: Outcome<Counts>) -> String {
     match answer {
         Ok(Counts {
             rows,
@@ -69,6 +81,19 @@ pub fn line(answer: Result<Counts, Refusal>) -> String {
             by_place,
             by_weights,
         }) => format!("accepted {rows} {allowed} {by_place} {by_weights}"),
-        Err(Refusal { number, spot }) => format!("refused {number} {spot}"),
+        Err(refused) => refused_line(refused),
     }
+}
+
+/// The answer of screening in words.
+pub fn screened_line(answer: Outcome<Screened>) -> String {
+    match answer {
+        Ok(Screened::Permitted) => "permitted".to_string(),
+        Ok(Screened::Stopped { position, place }) => format!("stopped {position} {place}"),
+        Err(refused) => refused_line(refused),
+    }
+}
+
+fn refused_line(Refusal { number, spot }: Refusal) -> String {
+    format!("refused {number} {spot}")
 }

@@ -105,12 +105,32 @@ fn judging() {
 }
 
 #[test]
+fn screening() {
+    assert_eq!(
+        run("screen"),
+        "0 1: permitted 0, 7 7 7 7\n\
+         1 0: stopped 256, 1 0 7 7\n\
+         0 0 0: stopped 256, 2 1 7 7\n\
+         no event: permitted 0, 7 7 7 7\n\
+         a word of the bundle: permitted 0, 7 7 7 7\n\
+         empty: refused 4, 0 7 7 7\n\
+         cut: refused 6, 27 7 7 7\n\
+         n = 0: refused 7, 0 7 7 7\n\
+         too many events: refused 8, 1026 7 7 7\n\
+         long word: refused 14, 65535 7 7 7\n\
+         longest word: stopped 256, 2 1 7 7\n\
+         wrong event: refused 15, 2 7 7 7\n"
+    );
+}
+
+#[test]
 fn pages_around_the_buffers_are_not_touched() {
     assert_eq!(
         run("pages"),
         "1280 calls on files\n\
          5100 calls on tables\n\
-         2196 judged\n"
+         2196 judged\n\
+         4046 screened\n"
     );
 }
 
@@ -158,6 +178,8 @@ fn header_and_crate_agree() {
         ("HOV_MAX_ROWS", hovmekhar::MAX_ROWS),
         ("HOV_TABLE_SIZE", hovmekhar::TABLE_SIZE),
         ("HOV_MAX_LOG_EVENTS", hovmekhar::MAX_LOG_EVENTS),
+        ("HOV_MAX_WORD_EVENTS", hovmekhar::MAX_WORD_EVENTS),
+        ("HOV_STOPPED", hovmekhar::ffi::STOPPED as usize),
     ] {
         assert!(has(&["#define", name, &size.to_string()]), "{name} {size}");
     }

@@ -1,11 +1,12 @@
 //! Guards around every lent buffer, at every alignment.
 
-use differential::bundles::one_for_each_answer;
+use differential::bundles::{one_for_each_answer, SAMPLE_A, SAMPLE_F};
 use differential::files::{build, bundle_length, BLOCK, CONTENTS};
 use differential::guarded::Guarded;
 use differential::logs::TABLE;
 use differential::rng::Item;
 use differential::run::Run;
+use differential::screening::MAX_WORD;
 use hovmekhar::ffi;
 
 /// Alignments to try: all within a cache line, more than any load asks for.
@@ -221,5 +222,87 @@ fn guards_of_judging_stay_as_they_were() {
         (11, 256),
         (12, 256),
         (13, 256),
+    ]);
+}
+
+/// A bundle and a word, and what has to come of screening.
+struct Screening {
+    bundle: Vec<u8>,
+    word: Vec<u8>,
+    number: u32,
+    answered: Vec<u64>,
+}
+
+/// One for each answer that screening has.
+fn screenings() -> [Screening; 9] {
+    let case = |bundle: &[u8], word: &[u8], number, answered: &[u64]| Screening {
+        bundle: bundle.to_vec(),
+        word: word.to_vec(),
+        number,
+        answered: answered.to_vec(),
+    };
+    let five_words = [vec![1, 5], [vec![255], vec![0; 255]].concat().repeat(5)].concat();
+    [
+        case(&SAMPLE_A, &[0, 1], 0, &[]),
+        case(&SAMPLE_F, &[], 0, &[]),
+        case(&SAMPLE_A, &[1, 0], ffi::STOPPED, &[1, 0]),
+        case(&[], &[1, 0], 4, &[0]),
+        case(&SAMPLE_A[..28], &[1, 0], 6, &[27]),
+        case(&[0, 0, 0], &[1, 0], 7, &[0]),
+        case(&five_words, &[1, 0], 8, &[2 + 4 * 256]),
+        case(&SAMPLE_A, &[0; MAX_WORD + 1], 14, &[65_535]),
+        case(&SAMPLE_A, &[1, 0, 2], 15, &[2]),
+    ]
+}
+
+/// Screens with guards of these lengths before bundle and word, and checks that
+/// nothing changed but the numbers to be answered.
+fn screen_between_guards(run: &mut Run, case: &Screening, bundle_front: usize, word_front: usize) {
+    let rng = &mut run.rng;
+    let bundle = Guarded::new(&rng.bytes(bundle_front), &case.bundle, &rng.bytes(100));
+    let word = Guarded::new(&rng.bytes(word_front), &case.word, &rng.bytes(100));
+    let mut answer = Guarded::new(
+        &rng.numbers::<4>(),
+        &rng.numbers::<4>(),
+        &rng.numbers::<4>(),
+    );
+    let four: &mut ffi::Answer = answer.lent_mut().try_into().expect("four numbers");
+    // A word that is stopped is a result.
+    run.count(u8::try_from(case.number).unwrap_or(0));
+    let number = ffi::screen(bundle.lent(), word.lent(), four);
+
+    let place = format!("bundle after {bundle_front}, word after {word_front}, {run}");
+    let answered = case.answered.len();
+    assert_eq!(number, case.number, "{place}");
+    assert_eq!(answer.lent()[..answered], case.answered, "{place}");
+    assert!(bundle.kept_beyond(0), "bundle or its guards: {place}");
+    assert!(word.kept_beyond(0), "word or its guards: {place}");
+    assert!(
+        answer.kept_beyond(answered),
+        "answer or its guards: {place}"
+    );
+}
+
+#[test]
+fn guards_of_screening_stay_as_they_were() {
+    let mut run = Run::start("guards_of_screening_stay_as_they_were");
+    let cases = screenings();
+    for alignment in 0..ALIGNMENTS {
+        for case in &cases {
+            let this = ALIGNMENTS + alignment;
+            let other = ALIGNMENTS + run.rng.below(ALIGNMENTS);
+            screen_between_guards(&mut run, case, this, other);
+            screen_between_guards(&mut run, case, other, this);
+        }
+    }
+    // For each of 64 alignments each of the 9 cases twice.
+    run.finish(&[
+        (0, 384),
+        (4, 128),
+        (6, 128),
+        (7, 128),
+        (8, 128),
+        (14, 128),
+        (15, 128),
     ]);
 }

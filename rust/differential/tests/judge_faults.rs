@@ -1,6 +1,6 @@
 //! Judging: bundles with one fault or several, parts in another order, and noise.
 
-use differential::bundle_faults::{write_value, BundleFault};
+use differential::bundle_faults::{altered, BundleFault};
 use differential::bundles::{Bundle, Certificate};
 use differential::judging::judge;
 use differential::nets::{certified, small_certified, small_log, Certified};
@@ -177,15 +177,14 @@ fn changed_parts() {
     run.finish(&[(0, 500), (6, 1), (7, 20), (10, 50), (11, 500), (12, 100)]);
 }
 
-/// Sets random fields to values that are near, at a border or any, cuts the end or
-/// adds bytes: up to four faults at once. The definitions say which comes first.
+/// Up to four changes at once. The definitions say which fault comes first.
 #[test]
 fn several_faults() {
     let mut run = Run::start("several_faults");
     for _ in 0..run.cases(400) {
         let certified = sound(&mut run);
         for _ in 0..8 {
-            let bytes = altered(&mut run, &certified);
+            let bytes = altered(&mut run.rng, &certified.bundle);
             judge(&mut run, &bytes).ok();
         }
     }
@@ -198,33 +197,6 @@ fn several_faults() {
         (12, 100),
         (13, 50),
     ]);
-}
-
-fn altered(run: &mut Run, certified: &Certified) -> Vec<u8> {
-    let layout = certified.bundle.layout();
-    let mut bytes = layout.bytes;
-    for _ in 0..run.rng.within(1..=4) {
-        match run.rng.below(8) {
-            0 => {
-                let length = run.rng.within(1..=bytes.len());
-                bytes.truncate(length);
-            }
-            1 => bytes.push(run.rng.choose(&[0, 1, 255])),
-            _ => {
-                let (_, range) = layout.fields[run.rng.below(layout.fields.len())].clone();
-                if range.end <= bytes.len() {
-                    let value = bytes[range.clone()]
-                        .iter()
-                        .rev()
-                        .fold(0, |value, &byte| 256 * value + usize::from(byte));
-                    let any = run.rng.below(65_536);
-                    let values = [value.wrapping_sub(1), value + 1, 0, 1, 64, 65, 65_535, any];
-                    write_value(&mut bytes, &range, run.rng.choose(&values));
-                }
-            }
-        }
-    }
-    bytes
 }
 
 /// Bundles of small random bytes, after which often something else comes than the

@@ -6,6 +6,10 @@
 /// Where a call puts the numbers of its answer.
 pub type Answer = [u64; 4];
 
+/// What `hov_screen` returns for a word that is stopped; no refusal has this
+/// number.
+pub const STOPPED: u32 = 256;
+
 unsafe extern "C" {
     fn hov_open(
         file: *const u8,
@@ -41,6 +45,14 @@ unsafe extern "C" {
         bundle_len: usize,
         table: *mut u16,
         table_len: usize,
+        answer: *mut u64,
+    ) -> u32;
+
+    fn hov_screen(
+        bundle: *const u8,
+        bundle_len: usize,
+        word: *const u8,
+        word_len: usize,
         answer: *mut u64,
     ) -> u32;
 }
@@ -119,6 +131,21 @@ pub fn judge(bundle: &[u8], table: &mut [u16], answer: &mut Answer) -> u32 {
             bundle.len(),
             table.as_mut_ptr(),
             table.len(),
+            answer.as_mut_ptr(),
+        )
+    }
+}
+
+/// Calls `hov_screen`.
+pub fn screen(bundle: &[u8], word: &[u8], answer: &mut Answer) -> u32 {
+    // SAFETY: As for `hov_open`, with two inputs and no output. The library only
+    // reads the inputs, so they may overlap with each other.
+    unsafe {
+        hov_screen(
+            bundle.as_ptr(),
+            bundle.len(),
+            word.as_ptr(),
+            word.len(),
             answer.as_mut_ptr(),
         )
     }

@@ -1,5 +1,5 @@
-//! Opens and seals files, keeps log tables and judges bundles, with the proved
-//! static library.
+//! Opens and seals files, keeps log tables, judges bundles and screens words, with
+//! the proved static library.
 //!
 //! A *sealed file* is 1 to 128 blocks of 512 bytes, each with its number, its
 //! used count, 504 bytes of contents and two checksums. The used contents of
@@ -13,6 +13,7 @@
 //! A bundle holds a log, a net of places, and a certificate for each *wrong
 //! continuation*: each event that does not follow the counts of a row in the log.
 //! [`judge`] accepts it when the net permits the log and every certificate holds.
+//! [`screen`] replays a word on the net of a bundle, and says where it is stopped.
 //!
 //! A call that cannot give a result returns a [`Refusal`] and writes nothing; only
 //! [`judge`] clears the table.
@@ -49,9 +50,11 @@ pub mod ffi;
 mod judging;
 mod logs;
 mod refusal;
+mod screening;
 
 pub use blocks::{open, open_vec, seal, seal_vec};
 pub use blocks::{BLOCK_SIZE, CONTENTS_SIZE, MAX_BLOCKS, MAX_BUNDLE_SIZE, MAX_FILE_SIZE};
 pub use judging::{judge, judge_vec, Counts};
 pub use logs::{Summary, MAX_EVENTS, MAX_LOG_EVENTS, MAX_ROWS, ROW_SIZE, TABLE_SIZE};
 pub use refusal::Refusal;
+pub use screening::{screen, Screened, MAX_WORD_EVENTS};

@@ -4,11 +4,11 @@
 //! in this order. It is read once, field by field.
 
 use crate::blocks::MAX_BUNDLE;
+use crate::places::Place;
 use crate::reader::Reader;
 use crate::tables::{front, MASK, MAX_EVENTS, MAX_N, MAX_ROWS, ROW};
 use crate::Refusal;
 
-const MAX_PLACES: u8 = 64;
 const MAX_TERMS: u8 = 64;
 
 /// The counts of an accepted bundle.
@@ -125,19 +125,13 @@ impl<'t> Log<'t> {
             before: Vec::with_capacity(MAX_ROWS),
         };
         log.before.push(0);
-        let mut events = 0;
-        for _ in 0..reader.byte(..)? {
-            let spot = reader.offset();
-            let length = reader.byte(..)?.into();
-            events += length;
-            if events > MAX_EVENTS {
-                return Err(Refusal { number: 8, spot });
+        reader.words(n, |word, spot| {
+            if log.take(word) {
+                Ok(())
+            } else {
+                Err(Refusal { number: 9, spot })
             }
-            let word = reader.events(length, n)?;
-            if !log.take(word) {
-                return Err(Refusal { number: 9, spot });
-            }
-        }
+        })?;
         Ok(log)
     }
 
@@ -200,32 +194,9 @@ impl<'t> Log<'t> {
     }
 }
 
-/// A place. All numbers have at most two bytes and a word has at most 255
-/// events, so its tokens stay far inside 32 bits.
-struct Place {
-    initial: i32,
-    /// For each event in - out.
-    change: [i32; MAX_N],
-    out: [i32; MAX_N],
-}
-
-impl Place {
-    fn read(reader: &mut Reader, n: u8) -> Result<Self, Refusal> {
-        let mut place = Self {
-            initial: reader.number(..)?.into(),
-            change: [0; MAX_N],
-            out: [0; MAX_N],
-        };
-        for event in 0..usize::from(n) {
-            place.change[event] = reader.number(..)?.into();
-        }
-        for event in 0..usize::from(n) {
-            place.out[event] = reader.number(..)?.into();
-            place.change[event] -= place.out[event];
-        }
-        Ok(place)
-    }
-
+/// All numbers have at most two bytes and a word has at most 255 events, so the
+/// tokens stay far inside 32 bits.
+impl Place<i32> {
     /// Writes how many tokens there are after each row. Row 0 has the initial
     /// ones; every other row comes one step after a lower one.
     fn count_tokens(&self, log: &Log, tokens: &mut [i32]) {
@@ -240,17 +211,11 @@ impl Place {
         let permits = |step: &Step| self.permits(tokens[step.row], step.event);
         log.allowed.iter().all(permits)
     }
-
-    /// Whether the surplus is 0 or more. What the event puts into the place does
-    /// not count.
-    fn permits(&self, tokens: i32, event: usize) -> bool {
-        tokens >= self.out[event]
-    }
 }
 
 /// The places of a bundle, and how many tokens each has after each row.
 struct Net {
-    places: Vec<Place>,
+    places: Vec<Place<i32>>,
     /// Place by place, and in each row by row.
     tokens: Vec<i32>,
     rows: usize,
@@ -259,14 +224,9 @@ struct Net {
 impl Net {
     /// Reads the places and checks that they fit the log.
     fn read(reader: &mut Reader, n: u8, log: &Log) -> Result<Self, Refusal> {
-        let count = reader.byte(..=MAX_PLACES)?.into();
-        let mut places = Vec::with_capacity(count);
-        for _ in 0..count {
-            places.push(Place::read(reader, n)?);
-        }
-
+        let places = Place::read_all(reader, n)?;
         let rows = log.rows();
-        let mut tokens = vec![0; count * rows];
+        let mut tokens = vec![0; places.len() * rows];
         for (spot, place) in places.iter().enumerate() {
             let tokens = &mut tokens[spot * rows..][..rows];
             place.count_tokens(log, tokens);

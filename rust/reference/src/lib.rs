@@ -1,10 +1,10 @@
-//! A second implementation of the file format, the log table and the judge, in
-//! plain safe Rust.
+//! A second implementation of the file format, the log table, the judge and the
+//! screening of words, in plain safe Rust.
 //!
 //! It is written from the product's rules alone and shares no code with the
 //! proved library, so that tests can compare the two. See [`open`] and [`seal`]
-//! for files, [`fresh`] and [`take`] for the log table, [`judge`] for bundles.
-//! [`log_rows`] has the same rows without a table.
+//! for files, [`fresh`] and [`take`] for the log table, [`judge`] for bundles,
+//! [`screen`] for a word. [`log_rows`] has the same rows without a table.
 
 #![forbid(unsafe_code)]
 #![deny(missing_docs)]
@@ -12,12 +12,15 @@
 mod blocks;
 mod judging;
 mod logs;
+mod places;
 mod reader;
+mod screening;
 mod tables;
 
 pub use blocks::{open, seal};
 pub use judging::{judge, Counts};
 pub use logs::{log_rows, Row};
+pub use screening::{screen, Screened};
 pub use tables::{fresh, take, Summary};
 
 /// Why a call gave no result.

@@ -1,5 +1,6 @@
 //! Reading a bundle field by field.
 
+use crate::tables::MAX_EVENTS;
 use crate::Refusal;
 use std::ops::RangeBounds;
 
@@ -13,11 +14,6 @@ impl<'b> Reader<'b> {
     /// A reader at the front of a bundle.
     pub fn new(bundle: &'b [u8]) -> Self {
         Self { bundle, offset: 0 }
-    }
-
-    /// The offset of the next field.
-    pub fn offset(&self) -> usize {
-        self.offset
     }
 
     /// The next field, which has one byte.
@@ -60,7 +56,7 @@ impl<'b> Reader<'b> {
     /// # Errors
     ///
     /// With the offset of the first that is missing or not below `n`: 6 or 7.
-    pub fn events(&mut self, length: usize, n: u8) -> Result<&'b [u8], Refusal> {
+    fn events(&mut self, length: usize, n: u8) -> Result<&'b [u8], Refusal> {
         let rest = &self.bundle[self.offset..];
         let events = &rest[..length.min(rest.len())];
         if let Some(position) = events.iter().position(|&event| event >= n) {
@@ -74,6 +70,31 @@ impl<'b> Reader<'b> {
             return Err(self.ends());
         }
         Ok(events)
+    }
+
+    /// The words of a log over `n` events. Hands each to `take`, with the offset of
+    /// its length.
+    ///
+    /// # Errors
+    ///
+    /// 6 or 7 with the offset of a field, 8 with the offset of the length with which
+    /// the events would pass 1,024, or what `take` refused.
+    pub fn words(
+        &mut self,
+        n: u8,
+        mut take: impl FnMut(&'b [u8], usize) -> Result<(), Refusal>,
+    ) -> Result<(), Refusal> {
+        let mut events = 0;
+        for _ in 0..self.byte(..)? {
+            let spot = self.offset;
+            let length = self.byte(..)?.into();
+            events += length;
+            if events > MAX_EVENTS {
+                return Err(Refusal { number: 8, spot });
+            }
+            take(self.events(length, n)?, spot)?;
+        }
+        Ok(())
     }
 
     /// Checks that no byte is left.

@@ -2,11 +2,11 @@
 use borrow.Author.Needs.{needs}
 use mathlib.Core.Path.{_≡_, sym, ap, _∙_}
 use mathlib.Core.Bool.{true}
-use Prim.Native.Nat.{ℕ, _+_, _-_, _≤_}
+use Prim.Native.Nat.{_+_, _-_, _≤_}
 use native.Mathlib.Omega.{arith}
 use borrow.Author.Tests.{not-true, not-false}
 use Rattle.laws.specs.Numbers.{numberAt}
-use Rattle.block.specs.Block.{usedCount, rightCount, rightPadding, rightSums}
+use Rattle.block.specs.Block.{usedCount, rightCount, rightPadding}
 use Rattle.block.specs.BlockLaws.{rightCount-most, fault-number, fault-count, fault-padding, fault-sums, fault-none}
 use Rattle.block.proofs.fault_of.Statement.{statement}
 use Rattle.block.proofs.fault_of.Tie as tie

@@ -1,5 +1,5 @@
 -- `bundles::any_byte` meets its contract.
-use mathlib.Core.Path.{sym, _∙_}
+use mathlib.Core.Path.{sym}
 use native.Mathlib.Omega.{arith}
 use borrow.Author.Needs.{needs}
 use Rattle.bundles.specs.Readers.{anything}

@@ -1,6 +1,6 @@
 -- `bundles::read_places` meets its contract: the places are there when so many numbers are.
 use mathlib.Core.Path.{_≡_, sym, ap, _∙_}
-use Prim.Native.Nat.{ℕ, _+_, _*_, _-_, _≤_, _<_}
+use Prim.Native.Nat.{_-_, _≤_}
 use native.Mathlib.Nat.{mul-le-mul}
 use native.Mathlib.Omega.{arith}
 use borrow.Author.Needs.{needs}
@@ -8,7 +8,7 @@ use borrow.Author.Tests.{leb-true}
 use denote.Ref.{now}
 use Rattle.bundles.specs.Reading.{got, byte}
 use Rattle.bundles.specs.FieldSteps.{readOf, upTo, byte-got}
-use Rattle.bundles.specs.PlaceSteps.{placeSize, fieldsAt, placesRead, places-failed, places-missing, places-kept}
+use Rattle.bundles.specs.PlaceSteps.{placeSize, placesRead, places-failed, places-missing, places-kept}
 use Rattle.bundles.proofs.read_places.Statement.{statement}
 use Rattle.bundles.proofs.read_places.Tie as tie
 

@@ -1,5 +1,5 @@
 -- `bundles::row_at` meets its contract. The loop's invariant: the row has the numbers of the events below i, and zeros.
-use mathlib.Core.Path.{_≡_, sym, ap, _∙_}
+use mathlib.Core.Path.{_≡_, sym, _∙_}
 use Prim.Native.Nat.{_-_, _≤_}
 use native.Mathlib.Omega.{arith}
 use borrow.Author.Needs.{needs}

@@ -1,6 +1,5 @@
 -- `bundles::word_at` meets its contract.
-use mathlib.Core.Path.{_≡_}
-use Prim.Native.Nat.{_+_, _-_}
+use Prim.Native.Nat.{_-_}
 use native.Mathlib.Nat.{add-sub-cancel-left}
 use borrow.Author.Needs.{needs}
 use Rattle.bundles.specs.WordSteps.{eventsAt}

@@ -11,7 +11,8 @@ use Rattle.bundles.specs.FieldSteps.{readOf, below, byte-got}
 use Rattle.bundles.specs.PlaceSteps.{placeSize}
 use Rattle.logs.specs.Rows.{ROW, rowAt}
 use Rattle.certifying.specs.Certifying.{permitsAt}
-use Rattle.certifying.specs.CheckLaws.{place-inside, place-permitted, place-refused, place-unread}
+use Rattle.bundles.specs.PlaceSteps.{place-inside}
+use Rattle.certifying.specs.CheckLaws.{place-permitted, place-refused, place-unread}
 use Rattle.certifying.proofs.check_place.Statement.{statement}
 use Rattle.certifying.proofs.check_place.Tie as tie
 

@@ -14,10 +14,10 @@ use Rattle.nets.specs.declared.Place.{Place}
 use Rattle.nets.specs.Machine.{placeOf}
 use Rattle.bundles.specs.Layout.{PlaceFields, toPlace}
 use Rattle.bundles.specs.NumberSteps.{itemsAt, items-length}
-use Rattle.bundles.specs.PlaceSteps.{placeSize, fieldsAt}
+use Rattle.bundles.specs.PlaceSteps.{placeSize, fieldsAt, place-inside}
 use Rattle.logs.specs.Rows.{rowsOf}
 use Rattle.fitting.specs.Fitting.{fitsRows}
-use Rattle.fitting.specs.FittingLaws.{place-fits, place-inside}
+use Rattle.fitting.specs.FittingLaws.{place-fits}
 use Rattle.fitting.proofs.first_misfit.Statement.{statement}
 use Rattle.fitting.proofs.first_misfit.Tie as tie
 
@@ -51,7 +51,8 @@ inside : (c : tie.In-loop Inv-loop μ-loop)
     c .before .loop .at + 2 * placeSize (args .n) ≤ length (args .bundle .now)
 inside c =
     let start = c .before .before .before .before in
-    place-inside _ (start .args .bundle .now) (start .args .places .first) (start .args .places .count) (c .before .loop .j) (c .loop-test .taken) _ (c .before .loop .inv .1) (start .pre .1)
+    let loop = c .before .loop in
+    omega (arith, place-inside (start .args .n) (start .args .places .first) (start .args .places .count) (loop .j) (length (start .args .bundle .now)) (c .loop-test .taken) (start .pre .1), loop .inv .1)
 
 place-at-requires : tie.Need-place-at-requires Inv-loop μ-loop
 place-at-requires c κs = (c .before .before .before .before .pre .0, inside c)

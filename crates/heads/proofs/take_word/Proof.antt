@@ -1,13 +1,14 @@
 -- `heads::take_word` meets its contract: the word's tests are those of `word`, and its rows are taken where there is room.
 use mathlib.Core.Path.{_≡_, sym, ap, _∙_}
-use Prim.Native.Nat.{_+_, _-_, _*_, _≤_, _<_}
+use Prim.Native.Nat.{_-_, _≤_, _<_}
 use native.Mathlib.Omega.{arith}
 use borrow.Author.Needs.{needs}
 use borrow.Author.Tests.{leb-true, leb-false, not-true, not-false}
 use denote.Ref.{now}
 use lib.ListN.{length}
+use Rattle.nets.specs.Events.{EventsBelow}
 use Rattle.nets.specs.Machine.{COUNTS}
-use Rattle.logs.specs.Rows.{ROW, rowsOf, newRows, none, takeWord, EventsBelow}
+use Rattle.logs.specs.Rows.{rowsOf, newRows, none}
 use Rattle.logs.specs.Answers.{MAX-ROWS, MAX-EVENTS}
 use Rattle.bundles.specs.FieldSteps.{readOf}
 use Rattle.heads.specs.Taken.{WordRead, word-read, word-refused, no-room, room-size, word-taken}

@@ -1,5 +1,5 @@
 -- `heads::take_words` meets its contract. The loop's invariant: so many words are left, behind a log whose rows the table has.
-use mathlib.Core.Path.{sym, _∙_}
+use mathlib.Core.Path.{_∙_}
 use native.Mathlib.Omega.{arith}
 use borrow.Author.Needs.{needs}
 use Rattle.heads.specs.Taken.{TakenSoFar, taken-start, taken-next, taken-failed, taken-done}

@@ -11,7 +11,8 @@ use lib.ListN.{length}
 use Rattle.logs.specs.Rows.{rowsOf, cleared}
 use Rattle.logs.specs.Answers.{TABLE}
 use Rattle.logs.specs.LogTable.{cleared-first, cleared-length}
-use Rattle.verdicts.specs.Judging.{sizeFits, judging, verdictOn, verdict, tableOn, tableAfter}
+use Rattle.bundles.specs.Layout.{sizeFits}
+use Rattle.verdicts.specs.Judging.{judging, verdictOn, verdict, tableOn, tableAfter}
 use Rattle.judging.specs.Steps.{TableLeft, isRefused, table-kept, table-cleared, answer-4, answer-5, answer-rest}
 use Rattle.judging.proofs.judge.Statement.{statement}
 use Rattle.judging.proofs.judge.Tie as tie

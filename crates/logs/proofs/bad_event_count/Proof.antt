@@ -1,5 +1,4 @@
 -- `logs::bad_event_count` meets its contract.
-use borrow.Author.Needs.{needs}
 use borrow.Author.Tests.{lt-ltb, le-ltb}
 use Rattle.logs.proofs.bad_event_count.Statement.{statement}
 use Rattle.logs.proofs.bad_event_count.Tie as tie

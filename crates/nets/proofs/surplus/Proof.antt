@@ -1,12 +1,11 @@
 -- `nets::surplus` meets its contract, by what `tokens` ensures.
 use mathlib.Core.Path.{_≡_, ap₂, _∙_}
-use Prim.Native.Nat.{ℕ}
 use native.Mathlib.Omega.{arith}
 use borrow.Author.Needs.{needs}
 use lib.IntN.{ℤ, _-ℤ_}
 use lib.ListN.{getD}
 use mir.Syntax.{w16, w64}
-use mir.Val.{Fits, SFits, toZ, ofZ}
+use mir.Val.{Fits, toZ, ofZ}
 use mir.Facts.{toZ-pos, toZ-ofZ}
 use Rattle.nets.specs.Nets.{surplus}
 use Rattle.nets.specs.Machine.{COUNTS, placeOf}

@@ -1,6 +1,6 @@
 -- `nets::with_bit` meets its contract: 1 shifted by less than 16 loses no bit.
 use mathlib.Core.Path.{ap, _∙_}
-use Prim.Native.Nat.{ℕ, _*_, _%_, _^_}
+use Prim.Native.Nat.{ℕ, _%_, _^_}
 use native.Mathlib.Nat.{one-mul, mod-eq-of-lt}
 use borrow.Author.Needs.{needs}
 use lib.Bits.{bitOr}

@@ -1,7 +1,7 @@
 /*
  * Makes calls on buffers that start or end exactly where a page that may not be
- * read or written starts or ends, with the input in pages that may not be
- * written. A call that reads or writes beyond its buffers, or writes to its
+ * read or written starts or ends, with the inputs in pages that may not be
+ * written. A call that reads or writes beyond its buffers, or writes to an
  * input, ends the program with a signal.
  */
 #define _DEFAULT_SOURCE
@@ -55,6 +55,7 @@ static uint8_t *lend(struct pages pages, size_t length, bool at_end)
 typedef uint32_t call(const uint8_t *, size_t, uint8_t *, size_t, uint64_t[4]);
 
 static struct pages input_pages;
+static struct pages word_pages;
 static struct pages output_pages;
 static bool at_end;
 static unsigned calls;
@@ -185,6 +186,55 @@ static void make_judge_calls(const uint8_t *bundle, size_t bundle_len)
     make_judge(bundle, bundle_len, 0, HOV_TABLE_SHORT);
 }
 
+/* Screens a word, which has to return this number. */
+static void make_screen(const uint8_t *bundle, size_t bundle_len, const uint8_t *word,
+                        size_t word_len, uint32_t number)
+{
+    uint8_t *lent_bundle = lend(input_pages, bundle_len, at_end);
+    uint8_t *lent_word = lend(word_pages, word_len, at_end);
+    uint64_t answer[4] = {0};
+
+    memcpy(lent_bundle, bundle, bundle_len);
+    memcpy(lent_word, word, word_len);
+    protect(input_pages, PROT_READ);
+    protect(word_pages, PROT_READ);
+    if (hov_screen(lent_bundle, bundle_len, lent_word, word_len, answer) != number) {
+        fail("another number than expected");
+    }
+    protect(input_pages, PROT_READ | PROT_WRITE);
+    protect(word_pages, PROT_READ | PROT_WRITE);
+    calls++;
+}
+
+/* Screens with every beginning of a bundle, whose last place ends here: words of
+   events 0 up to the longest, of which so many are permitted. */
+static void make_screen_calls(const uint8_t *bundle, size_t bundle_len, size_t places_end,
+                              size_t permitted)
+{
+    static uint8_t longer[HOV_MAX_BUNDLE_SIZE + 1];
+    static uint8_t zeros[HOV_MAX_WORD_EVENTS + 1];
+    static uint8_t wrong[HOV_MAX_WORD_EVENTS];
+    memcpy(longer, bundle, bundle_len);
+    wrong[sizeof wrong - 1] = HOV_MAX_EVENTS;
+
+    for (size_t length = 1; length < places_end; length++) {
+        make_screen(bundle, length, zeros, permitted, HOV_BUNDLE_END);
+    }
+    for (size_t length = places_end; length <= bundle_len; length++) {
+        for (size_t word_len = 0; word_len <= permitted; word_len++) {
+            make_screen(bundle, length, zeros, word_len, 0);
+        }
+        make_screen(bundle, length, zeros, permitted + 1, HOV_STOPPED);
+        make_screen(bundle, length, zeros, HOV_MAX_WORD_EVENTS, HOV_STOPPED);
+        make_screen(bundle, length, zeros, HOV_MAX_WORD_EVENTS + 1, HOV_WORD_LENGTH);
+        make_screen(bundle, length, wrong, sizeof wrong, HOV_WORD_EVENT);
+    }
+    make_screen(longer, HOV_MAX_BUNDLE_SIZE, zeros, permitted, 0);
+    make_screen(longer, sizeof longer, zeros, permitted, HOV_BUNDLE_LENGTH);
+    make_screen(bundle, 0, zeros, permitted, HOV_BUNDLE_LENGTH);
+    make_screen(bundle, 0, zeros, HOV_MAX_WORD_EVENTS + 1, HOV_WORD_LENGTH);
+}
+
 int main(void)
 {
     static uint8_t bundle[HOV_MAX_BUNDLE_SIZE];
@@ -192,6 +242,7 @@ int main(void)
         bundle[i] = (uint8_t)(i % 251 + 1);
     }
     input_pages = open_pages(HOV_MAX_FILE_SIZE);
+    word_pages = open_pages(HOV_MAX_WORD_EVENTS + 1);
     output_pages = open_pages(HOV_MAX_FILE_SIZE);
 
     for (size_t blocks = 1; blocks <= HOV_MAX_BLOCKS; blocks++) {
@@ -239,5 +290,15 @@ int main(void)
     make_judge_calls(both_kinds, sizeof both_kinds);
     make_judge_calls(all_rows, sizeof all_rows);
     printf("%u judged\n", calls);
+
+    calls = 0;
+    /* Each has two bytes of certificates at the end, or more. */
+    at_end = false;
+    make_screen_calls(both_kinds, sizeof both_kinds, 29, 2);
+    make_screen_calls(all_rows, sizeof all_rows, sizeof all_rows - 2, 255);
+    at_end = true;
+    make_screen_calls(both_kinds, sizeof both_kinds, 29, 2);
+    make_screen_calls(all_rows, sizeof all_rows, sizeof all_rows - 2, 255);
+    printf("%u screened\n", calls);
     return 0;
 }

@@ -1,12 +1,11 @@
 -- `logs::rows::find_row` meets its contract. The invariant: the counts are in no row below r.
-use Prim.Native.Nat.{_≤_, _-_, _+_, _*_}
+use Prim.Native.Nat.{_≤_, _-_, _+_}
 use mathlib.Core.Path.{_≡_, _∙_, sym}
 use borrow.Author.Needs.{needs}
 use native.Mathlib.Omega.{arith}
 use native.Mathlib.Nat.{zero-add}
-use lib.ListN.{length, drop}
-use Rattle.nets.specs.Machine.{COUNTS}
-use Rattle.logs.specs.Rows.{ROW, findRow, rowsOf}
+use lib.ListN.{drop}
+use Rattle.logs.specs.Rows.{findRow, rowsOf}
 use Rattle.logs.specs.Searching.{find-here, find-again, find-end}
 use Rattle.logs.proofs.rows.find_row.Statement.{statement}
 use Rattle.logs.proofs.rows.find_row.Tie as tie

@@ -1,6 +1,5 @@
 -- `logs::rows::mark_row` meets its contract.
 use borrow.Author.Needs.{needs}
-use native.Mathlib.Omega.{arith}
 use Rattle.logs.proofs.rows.mark_row.Statement.{statement}
 use Rattle.logs.proofs.rows.mark_row.Tie as tie
 

@@ -1,12 +1,11 @@
 -- `logs::words::new_rows` meets its contract.
 use borrow.Author.Needs.{needs}
 use Prim.Native.Nat.{_≤_, _-_, _+_}
-use mathlib.Core.Path.{_≡_, refl, sym, _∙_}
+use mathlib.Core.Path.{_≡_}
 use native.Mathlib.Nat.{zero-add}
 use mathlib.Core.List.{[]}
 use native.Mathlib.Omega.{arith}
 use lib.ListN.{length, drop, getD}
-use Rattle.nets.specs.Machine.{COUNTS}
 use Rattle.logs.specs.Rows.{rowsOf, newRows, none}
 use Rattle.logs.specs.Prefixes.{Counted, counted-none, counted-bump, count-again, count-end}
 use Rattle.logs.specs.Growth.{new-le}

@@ -1,16 +1,15 @@
--- `logs::words::first_bad` meets its contract.
+-- `nets::first_bad` meets its contract.
 use borrow.Author.Needs.{needs}
 use Prim.Native.Nat.{_≤_, _-_, _+_}
 use mathlib.Core.Path.{_≡_, sym}
 use native.Mathlib.Nat.{zero-add}
 use native.Mathlib.Omega.{arith}
 use lib.ListN.{length, drop}
-use lib.Dec.{ltb}
 use borrow.Author.Tests.{lt-ltb, le-ltb}
 use Rattle.laws.specs.Scans.{failing-here, failing-again, failing-end}
-use Rattle.logs.specs.Answers.{firstBad}
-use Rattle.logs.proofs.words.first_bad.Statement.{statement}
-use Rattle.logs.proofs.words.first_bad.Tie as tie
+use Rattle.nets.specs.Events.{firstBad}
+use Rattle.nets.proofs.first_bad.Statement.{statement}
+use Rattle.nets.proofs.first_bad.Tie as tie
 
 abbrev Inv-loop : tie.InvT-loop
 Inv-loop word n i₀ i = (i ≤ length word) × (firstBad n word ≡ i + firstBad n (drop i word))

@@ -1,8 +1,8 @@
--- `judging::size_fits` meets its contract.
+-- `bundles::size_fits` meets its contract.
 use borrow.Author.Tests.{le-leb, lt-leb}
-use Rattle.verdicts.specs.Judging.{sizeFits}
-use Rattle.judging.proofs.size_fits.Statement.{statement}
-use Rattle.judging.proofs.size_fits.Tie as tie
+use Rattle.bundles.specs.Layout.{sizeFits}
+use Rattle.bundles.proofs.size_fits.Statement.{statement}
+use Rattle.bundles.proofs.size_fits.Tie as tie
 
 returns : tie.Need-returns
 unfolding sizeFits

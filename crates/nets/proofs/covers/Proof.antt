@@ -1,4 +1,4 @@
--- `fitting::covers` meets its contract: the comparison says whether the difference is 0 or more.
+-- `nets::covers` meets its contract: the comparison says whether the difference is 0 or more.
 use mathlib.Core.Path.{ap₂, _∙_}
 use native.Mathlib.Omega.{arith}
 use borrow.Author.Needs.{needs}
@@ -6,8 +6,8 @@ use lib.Signed.{leZ}
 use mir.Syntax.{w64}
 use mir.Facts.{toZ-pos, toZ-ofZ}
 use Rattle.laws.specs.Differences.{pos-leZ}
-use Rattle.fitting.proofs.covers.Statement.{statement}
-use Rattle.fitting.proofs.covers.Tie as tie
+use Rattle.nets.proofs.covers.Statement.{statement}
+use Rattle.nets.proofs.covers.Tie as tie
 
 returns : tie.Need-returns
 returns c =

@@ -1,0 +1,34 @@
+// Screening.
+use screening::Screened;
+ghost use mathlib.Core.Path.{_≡_};
+ghost use Rattle.screening.specs.Screening.{screened, screenedNumber};
+ghost use Rattle.abi.specs.Numbers.{withScreened};
+
+// Hands the answer of screening out as numbers.
+fn handed(screened: Screened, answer: &mut [u64; 4]) -> u32
+    ensures { λ r. ⌜ r ≡ screenedNumber screened ⌝ }
+    ensures { λ _. ⌜ now (answer .exit) ≡ withScreened (now (answer .entry)) screened ⌝ }
+{
+    match screened {
+        Screened::Permitted => 0,
+        Screened::Stopped(stop) => {
+            answer[0] = stop.position as u64;
+            answer[1] = stop.place as u64;
+            256
+        }
+        Screened::Refused(r) => {
+            answer[0] = r.spot as u64;
+            r.number as u32
+        }
+    }
+}
+
+// Screens a word with a bundle. Returns 256 where the word is stopped: answer[0] and [1] are then the position of the first refused step and the
+// lowest place that refuses it.
+#[no_mangle]
+pub extern "C" fn hov_screen(bundle: &[u8], word: &[u8], answer: &mut [u64; 4]) -> u32
+    ensures { λ r. ⌜ r ≡ screenedNumber (screened (now (bundle .entry)) (now (word .entry))) ⌝ }
+    ensures { λ _. ⌜ now (answer .exit) ≡ withScreened (now (answer .entry)) (screened (now (bundle .entry)) (now (word .entry))) ⌝ }
+{
+    handed(screening::screen(bundle, word), answer)
+}

@@ -1,0 +1,130 @@
+-- The comparison of two accepted bundles: from the definitions on nets to the bytes of two bundles.
+use mathlib.Core.Path.{_≡_, refl, sym, ap, _∙_, subst}
+use mathlib.Core.Bool.{Bool, true, false, cond}
+use mathlib.Core.Logic.{_⊎_, ⊎-elim}
+use mathlib.Core.List.{List, [], _∷_, _++_, flatMap, List·Memᴰ·append-cases, List·Memᴰ·eq-of-singleton}
+use Prim.Native.Nat.{ℕ, _≤_, _<_}
+use native.Mathlib.Omega.{arith}
+use lib.Dec.{leb}
+use lib.ListN.{length, length-append}
+use borrow.Author.Tests.{leb-true}
+use Rattle.laws.specs.Booleans.{no-false}
+use Rattle.laws.specs.Every.{Every, every-member, every-intro}
+use Rattle.laws.specs.Numbers.{Bytes}
+use Rattle.refusals.specs.Table.{BUNDLE-LENGTH, TABLE-SHORT}
+use Rattle.refusals.specs.Answers.{refusal, provided}
+use Rattle.nets.specs.Nets.{Word, Tally, stepAfter, permits, permitted, stopped, firstRefusing, screen}
+use Rattle.nets.specs.Words.{Prefix, prefix→}
+use Rattle.nets.specs.Fits.{prefix-below}
+use Rattle.nets.specs.Comparison.{PrefixesIn, first-exactly, second-permits, nets-agree, first-screened, second-screened, tallies-agree}
+use Rattle.logs.specs.Answers.{TABLE}
+use Rattle.bundles.specs.Layout.{CertificateFields, Head, Contents, WordInLimits, toBundle, certificateBytes, bytesOf, sizeFits}
+use Rattle.bundles.specs.Readers.{headOf, eventsIn, logIn, netIn}
+use Rattle.bundles.specs.Limits.{words-below}
+use Rattle.verdicts.specs.Judging.{countsOf, judging, verdictOn, verdict}
+use Rattle.verdicts.specs.Acceptance.{AcceptedAs, accepted-exactly}
+use Rattle.verdicts.specs.declared.Counts.{Counts}
+use Rattle.verdicts.specs.declared.Verdict.the-variants.{Accepted, Refused}
+use Rattle.screening.specs.Screening.{MAX-WORD, replayed, screened}
+use Rattle.screening.specs.Screens.{Readable, Screenable, screened-replayed, permitted-exactly, readable-exactly, screenable-head}
+use Rattle.demands.specs.Demands.{ScreenedAtEnd, Compared}
+
+-- ---- one accepted bundle
+
+-- the table of an accepted bundle was long enough
+long-table : (tableSize : ℕ) (b : List ℕ) (c : Counts) → verdict tableSize b ≡ Accepted c → TABLE ≤ tableSize
+unfolding verdict provided
+long-table tableSize b c e = go (sizeFits b) (leb TABLE tableSize) refl e
+  where
+    go : (p q : Bool) → leb TABLE tableSize ≡ q → cond p (cond q (verdictOn (judging b 0)) (Refused (refusal TABLE-SHORT TABLE))) (Refused (refusal BUNDLE-LENGTH 0)) ≡ Accepted c → TABLE ≤ tableSize
+    go true true l e = leb-true TABLE tableSize l
+    go true false l e = absurd (let z : _≡_ {A = ℕ} 0 1 = cc in omega arith)
+    go false q l e = absurd (let z : _≡_ {A = ℕ} 0 1 = cc in omega arith)
+
+module _ (b : List ℕ) (bytes : Bytes b) where
+  screenable : (c : Counts) (d : Contents) → AcceptedAs b c d → (w : Word) → length w ≤ MAX-WORD → Every (λ e. e < d .head .events) w
+      → Screenable b w (d .head) (flatMap certificateBytes (d .certificates))
+  unfolding bytesOf
+  screenable c d a w size events = record {
+    size = subst (λ (l : List ℕ). length l ≤ 64512) (sym (a .layout)) (a .limits .size);
+    layout = a .layout;
+    limits = a .limits .head;
+    wordSize = size;
+    events = events;
+  }
+
+  -- screening reads the head that was judged
+  pub accepted-head : (c : Counts) (d : Contents) → AcceptedAs b c d → headOf b ≡ d .head
+  accepted-head c d a = screenable-head b bytes [] (d .head) _ (screenable c d a [] (omega arith) tt)
+
+  module _ (tableSize : ℕ) (c : Counts) (yes′ : verdict tableSize b ≡ Accepted c) where
+    -- its fields, with the head that screening reads
+    pub fields : (cs : List CertificateFields) × AcceptedAs b c (record { head = headOf b; certificates = cs })
+    fields =
+        let r = accepted-exactly tableSize (long-table tableSize b c yes′) b bytes c .0 yes′ in
+        let same = accepted-head c (r .0) (r .1) in
+        (r .0 .certificates, subst (λ (h : Head). AcceptedAs b c (record { head = h; certificates = r .0 .certificates })) (sym same) (r .1))
+
+    prefix-length : (u : Word) → Prefix (logIn b) u → length u ≤ 255
+    prefix-length u m = ⊎-elim
+        (λ q. omega (arith, ap length q))
+        (λ r. omega (arith, every-member (WordInLimits (eventsIn b)) (logIn b) (fields .1 .limits .head .words) (r .1) .size, length-append u (r .2 .0), ap length (r .2 .1)))
+        (prefix→ (logIn b) u m)
+
+    longer-below : (w : Word) → Prefix (logIn b) w → (e : ℕ) → e < eventsIn b → Every (λ x. x < eventsIn b) (w ++ e ∷ [])
+    longer-below w m e h = every-intro (λ x. x < eventsIn b) (w ++ e ∷ []) (λ x k.
+        ⊎-elim
+        (prefix-below (eventsIn b) (logIn b) (words-below (eventsIn b) (logIn b) (fields .1 .limits .head .words)) w m x)
+        (λ q. subst (λ (y : ℕ). y < eventsIn b) (sym (List·Memᴰ·eq-of-singleton q)) h)
+        (List·Memᴰ·append-cases w k))
+
+    -- a prefix of its log with one event more is readable
+    longer-readable : (w : Word) → Prefix (logIn b) w → (e : ℕ) → e < eventsIn b → Readable b (w ++ e ∷ [])
+    longer-readable w m e h =
+        let f = fields in
+        let d : Contents = record { head = headOf b; certificates = f .0 } in
+        readable-exactly b bytes (w ++ e ∷ []) .1 (headOf b, _, screenable c d (f .1) (w ++ e ∷ []) (omega (arith, length-append w (e ∷ []), prefix-length w m)) (longer-below w m e h))
+
+    -- screening it: permitted exactly when the net permits it, and otherwise stopped at the added event
+    screened-at-end : (w : Word) → Prefix (logIn b) w → (e : ℕ) → e < eventsIn b
+        → screen (eventsIn b) (netIn b) (w ++ e ∷ []) ≡ cond (permits (eventsIn b) (netIn b) (w ++ e ∷ [])) permitted (stopped (length w) (firstRefusing (eventsIn b) (netIn b) (stepAfter (eventsIn b) w e)))
+        → ScreenedAtEnd (screened b (w ++ e ∷ [])) (eventsIn b) (netIn b) w e
+    unfolding replayed
+    screened-at-end w m e h is =
+        let readable = longer-readable w m e h in
+        let j = firstRefusing (eventsIn b) (netIn b) (stepAfter (eventsIn b) w e) in
+        record {
+          permitted = permitted-exactly b (w ++ e ∷ []) readable;
+          stopped = λ t.
+              let stops : screen (eventsIn b) (netIn b) (w ++ e ∷ []) ≡ stopped (length w) j = is ∙ ap (λ (p : Bool). cond p permitted (stopped (length w) j)) (no-false (permits (eventsIn b) (netIn b) (w ++ e ∷ [])) t) in
+              (j, screened-replayed b (w ++ e ∷ []) readable ∙ ap replayed stops);
+        }
+
+-- ---- two accepted bundles
+
+same-counts : (t₁ t₂ : Tally) (c₁ c₂ : Counts) → c₁ ≡ countsOf t₁ → c₂ ≡ countsOf t₂ → t₁ ≡ t₂
+    → (c₁ .rows ≡ c₂ .rows) × (c₁ .allowed ≡ c₂ .allowed) × (c₁ .«by_place» ≡ c₂ .«by_place») × (c₁ .«by_weights» ≡ c₂ .«by_weights»)
+same-counts t₁ t₂ c₁ c₂ e₁ e₂ t =
+    let same : c₁ ≡ c₂ = e₁ ∙ ap countsOf t ∙ sym e₂ in
+    (ap (λ (c : Counts). c .rows) same, ap (λ (c : Counts). c .allowed) same, ap (λ (c : Counts). c .«by_place») same, ap (λ (c : Counts). c .«by_weights») same)
+
+module _ (b₁ b₂ : List ℕ) (bytes₁ : Bytes b₁) (bytes₂ : Bytes b₂) (size₁ size₂ : ℕ) (c₁ c₂ : Counts) (yes₁ : verdict size₁ b₁ ≡ Accepted c₁) (yes₂ : verdict size₂ b₂ ≡ Accepted c₂) (same-events : eventsIn b₁ ≡ eventsIn b₂) (to : PrefixesIn (logIn b₁) (logIn b₂)) where
+  pub compared : Compared b₁ b₂ c₁ c₂
+  unfolding toBundle
+  compared =
+      let f₁ = fields b₁ bytes₁ size₁ c₁ yes₁ in
+      let f₂ = fields b₂ bytes₂ size₂ c₂ yes₂ in
+      let d₁ : Contents = record { head = headOf b₁; certificates = f₁ .0 } in
+      let d₂ : Contents = record { head = headOf b₂; certificates = f₂ .0 } in
+      let a₁ = f₁ .1 .accepted in
+      let a₂ = f₂ .1 .accepted in
+      record {
+        longer = λ w m e h. record {
+          exactly = first-exactly (toBundle d₁) (toBundle d₂) a₁ a₂ same-events to w m e h;
+          second = second-permits (toBundle d₁) (toBundle d₂) a₁ a₂ same-events to w m e h;
+          same = nets-agree (toBundle d₁) (toBundle d₂) a₁ a₂ same-events to w m e h;
+          screened₁ = screened-at-end b₁ bytes₁ size₁ c₁ yes₁ w m e h (first-screened (toBundle d₁) (toBundle d₂) a₁ a₂ same-events to w m e h);
+          screened₂ = screened-at-end b₂ bytes₂ size₂ c₂ yes₂ w (to w m) e (subst (λ (n : ℕ). e < n) same-events h) (second-screened (toBundle d₁) (toBundle d₂) a₁ a₂ same-events to w m e h);
+        };
+        counts = λ from. same-counts _ _ c₁ c₂ (f₁ .1 .counts) (f₂ .1 .counts) (tallies-agree (toBundle d₁) (toBundle d₂) a₁ a₂ same-events to from);
+      }

@@ -1,0 +1,116 @@
+-- The user's three demands, as types. Proved.antt proves each of them; README.md and docs/ASSURANCE.md say how to read them.
+-- A file, a bundle, an output, a table and a word are lists of numbers; `Bytes` says that each number is below 256.
+use mathlib.Core.Path.{_≡_}
+use mathlib.Core.Bool.{true, false, not}
+use mathlib.Core.Logic.{_↔_}
+use mathlib.Core.List.{List, [], _∷_, _++_}
+use Prim.Native.Nat.{ℕ, _≤_, _<_}
+use lib.Dec.{T}
+use lib.ListN.{length, take}
+use Rattle.laws.specs.Lists.{among}
+use Rattle.laws.specs.Numbers.{Bytes}
+use Rattle.laws.specs.Parts.{front}
+use Rattle.refusals.specs.Answers.{Result, answer, written, numberOf}
+use Rattle.refusals.specs.Laws.{Ends}
+use Rattle.refusals.specs.declared.Refusal.{Refusal}
+use Rattle.refusals.specs.declared.Written.the-variants as writing
+use Rattle.block.specs.File.{opened, sealed}
+use Rattle.nets.specs.Nets.{Word, Net, permits}
+use Rattle.nets.specs.Words.{Prefix, PermitsLog}
+use Rattle.nets.specs.Comparison.{PrefixesIn}
+use Rattle.nets.specs.Screening.{FirstRefused}
+use Rattle.logs.specs.Rows.{cleared}
+use Rattle.logs.specs.Answers.{TABLE, freshAnswer, freshTable, takenAnswer, takenTable, takenNumber}
+use Rattle.logs.specs.declared.Summary.{Summary}
+use Rattle.logs.specs.declared.Taken.the-variants as taking
+use Rattle.bundles.specs.Layout.{Head, Contents}
+use Rattle.bundles.specs.Readers.{eventsIn, logIn, netIn}
+use Rattle.verdicts.specs.Judging.{verdict, verdictNumber, tableAfter}
+use Rattle.verdicts.specs.Acceptance.{AcceptedAs}
+use Rattle.verdicts.specs.declared.Counts.{Counts}
+use Rattle.verdicts.specs.declared.Verdict.the-variants as judging
+use Rattle.screening.specs.Screening.{screened, screenedNumber}
+use Rattle.screening.specs.Screens.{Readable, Screenable}
+use Rattle.screening.specs.declared.Screened.{Screened}
+use Rattle.screening.specs.declared.Screened.the-variants as screening
+
+-- ---- DEMAND 1: 'every call on every input ends in a result or in a refusal from the numbered table, touches no memory but the buffers
+-- lent to it, and leaves in each of them exactly what the table says.'
+-- That a call ends, and touches nothing else, is part of its being proved. Its contract gives the answer and each buffer at exit by the
+-- definitions below, for every input. Of these it is stated here that a refusal's number is one of the call's line in the order of
+-- refusals (0 is a result, 256 a stop), and what a refusal leaves.
+
+pub record Demand1 : Type 0 where
+  pub refusals-of-open : (file : List ℕ) (room : ℕ) → among (numberOf (answer (opened file) room)) (0 ∷ 1 ∷ 2 ∷ 3 ∷ []) ≡ true
+  pub refusals-of-seal : (b : List ℕ) (room : ℕ) → among (numberOf (answer (sealed b) room)) (0 ∷ 4 ∷ 3 ∷ []) ≡ true
+  pub refusals-of-fresh : (n : ℕ) (table : List ℕ) → among (takenNumber (freshAnswer n table)) (0 ∷ 5 ∷ 16 ∷ []) ≡ true
+  pub refusals-of-take : (s : Summary) (table : List ℕ) (w : Word) → among (takenNumber (takenAnswer s table w)) (0 ∷ 5 ∷ 16 ∷ 8 ∷ 7 ∷ 9 ∷ []) ≡ true
+  pub refusals-of-judge : (tableSize : ℕ) (b : List ℕ) → among (verdictNumber (verdict tableSize b)) (0 ∷ 4 ∷ 5 ∷ 6 ∷ 7 ∷ 8 ∷ 9 ∷ 10 ∷ 11 ∷ 12 ∷ 13 ∷ []) ≡ true
+  pub refusals-of-screen : (b : List ℕ) (w : Word) → among (screenedNumber (screened b w)) (0 ∷ 256 ∷ 14 ∷ 4 ∷ 6 ∷ 7 ∷ 8 ∷ 15 ∷ []) ≡ true
+  -- no refusal writes to an output; a result stands in front of it, and the rest is left
+  pub refused-output : (result : Result) (output : List ℕ) (r : Refusal) → answer result (length output) ≡ writing.Refused r → written result output ≡ output
+  pub result-output : (result : Result) (output : List ℕ) (n : ℕ) → answer result (length output) ≡ writing.Length n
+      → (new : List ℕ) × (result ≡ Result.bytes new) × (n ≡ length new) × (written result output ≡ front new output)
+  -- the summary and fresh, refusing, leave the table
+  pub refused-fresh : (n : ℕ) (table : List ℕ) (r : Refusal) → freshAnswer n table ≡ taking.Refused r → freshTable (freshAnswer n table) table ≡ table
+  pub refused-take : (s : Summary) (table : List ℕ) (w : Word) (r : Refusal) → takenAnswer s table w ≡ taking.Refused r → takenTable (takenAnswer s table w) s table w ≡ table
+  -- the judge, refusing with 4 or 5, leaves the table; with any other number it leaves zeros up to number 3,327, and the rest
+  pub refused-judge : (table b : List ℕ) (r : Refusal) → verdict (length table) b ≡ judging.Refused r
+      → ((among (r .number) (4 ∷ 5 ∷ []) ≡ true) → tableAfter b table ≡ table) × ((among (r .number) (4 ∷ 5 ∷ []) ≡ false) → tableAfter b table ≡ cleared TABLE table)
+
+-- ---- DEMAND 2: 'With long enough buffers lent, a bundle is accepted exactly when it keeps the layout and limits and, by the region
+-- definitions of Badouel and Schlachter, its net permits every log word and each wrong continuation is refused by the place its
+-- certificate lists or, in that certificate, has whole-number weights that meet the stated inequalities; the four counts are those of the
+-- definitions. Screening names a readable word's first refused step, or permits when there is none. Sealing and opening, so lent, undo
+-- each other.'
+
+pub record Demand2 : Type 0 where
+  pub accepted : (tableSize : ℕ) → TABLE ≤ tableSize → (b : List ℕ) → Bytes b → (c : Counts) → (verdict tableSize b ≡ judging.Accepted c) ↔ ((d : Contents) × AcceptedAs b c d)
+  pub permitted : (b : List ℕ) (w : Word) → Readable b w → (screened b w ≡ screening.Permitted) ↔ T (permits (eventsIn b) (netIn b) w)
+  pub stopped : (b : List ℕ) (w : Word) → Readable b w → (i j : ℕ) → (screened b w ≡ screening.Stopped (record { position = i; place = j })) ↔ FirstRefused (eventsIn b) (netIn b) w i j
+  pub readable : (b : List ℕ) → Bytes b → (w : Word) → Readable b w ↔ ((h : Head) × (rest : List ℕ) × Screenable b w h rest)
+  pub seal-then-open : (b first second : List ℕ) (n : ℕ) → answer (sealed b) (length first) ≡ writing.Length n → length b ≤ length second
+      → Ends (opened (take n (written (sealed b) first))) second (writing.Length (length b)) (front b second)
+  pub open-then-seal : (file first second : List ℕ) (n : ℕ) → Bytes file → answer (opened file) (length first) ≡ writing.Length n → length file ≤ length second
+      → Ends (sealed (take n (written (opened file) first))) second (writing.Length (length file)) (front file second)
+
+-- ---- DEMAND 3: 'Take any two sealed files that open and are accepted, whatever the outputs and tables held before, with the same event
+-- count and with every prefix in the first log a prefix in the second. Add any one event at the end of any prefix of the first log. ...'
+
+-- the file opens into the output, in front of which is then the bundle b, and with the table b is accepted with the counts c
+pub record FileAccepted (file output table b : List ℕ) (c : Counts) : Type 0 where
+  pub size : ℕ
+  pub opens : answer (opened file) (length output) ≡ writing.Length size
+  pub bundle : take size (written (opened file) output) ≡ b
+  pub accepted : verdict (length table) b ≡ judging.Accepted c
+
+-- '.. screening .. answers permitted exactly when that net permits it, and otherwise stops at the added event': the answer s is so for the
+-- net over n events, the prefix w and the event e
+pub record ScreenedAtEnd (s : Screened) (n : ℕ) (net : Net) (w : Word) (e : ℕ) : Type 0 where
+  pub permitted : (s ≡ screening.Permitted) ↔ T (permits n net (w ++ e ∷ []))
+  pub stopped : T (not (permits n net (w ++ e ∷ []))) → (j : ℕ) × (s ≡ screening.Stopped (record { position = length w; place = j }))
+
+-- of the prefix w and the event e, for the bundles b₁ and b₂ with the verdicts' counts c₁ and c₂
+pub record Longer (b₁ b₂ : List ℕ) (w : Word) (e : ℕ) : Type 0 where
+  -- 'The first net permits that longer word exactly when it is permitted by every net, of any number of places with whole numbers of any
+  -- size, that permits all words of the first log.'
+  pub exactly : T (permits (eventsIn b₁) (netIn b₁) (w ++ e ∷ [])) ↔ ((net : Net) → PermitsLog (eventsIn b₁) net (logIn b₁) → T (permits (eventsIn b₁) net (w ++ e ∷ [])))
+  -- 'When the first net permits it, so does the second.'
+  pub second : T (permits (eventsIn b₁) (netIn b₁) (w ++ e ∷ [])) → T (permits (eventsIn b₂) (netIn b₂) (w ++ e ∷ []))
+  -- 'Where the logs have the same prefixes, both nets permit and refuse the same longer words'
+  pub same : PrefixesIn (logIn b₂) (logIn b₁) → permits (eventsIn b₁) (netIn b₁) (w ++ e ∷ []) ≡ permits (eventsIn b₂) (netIn b₂) (w ++ e ∷ [])
+  -- 'Screening the longer word with either bundle ..'
+  pub screened₁ : ScreenedAtEnd (screened b₁ (w ++ e ∷ [])) (eventsIn b₁) (netIn b₁) w e
+  pub screened₂ : ScreenedAtEnd (screened b₂ (w ++ e ∷ [])) (eventsIn b₂) (netIn b₂) w e
+
+pub record Compared (b₁ b₂ : List ℕ) (c₁ c₂ : Counts) : Type 0 where
+  pub longer : (w : Word) → Prefix (logIn b₁) w → (e : ℕ) → e < eventsIn b₁ → Longer b₁ b₂ w e
+  -- '.. and the four counts in the first verdict equal those in the second, one by one.'
+  pub counts : PrefixesIn (logIn b₂) (logIn b₁)
+      → (c₁ .rows ≡ c₂ .rows) × (c₁ .allowed ≡ c₂ .allowed) × (c₁ .«by_place» ≡ c₂ .«by_place») × (c₁ .«by_weights» ≡ c₂ .«by_weights»)
+
+abbrev pub Demand3 : Type 0
+Demand3 =
+    (file₁ file₂ output₁ output₂ table₁ table₂ b₁ b₂ : List ℕ) (c₁ c₂ : Counts) → Bytes file₁ → Bytes file₂
+    → FileAccepted file₁ output₁ table₁ b₁ c₁ → FileAccepted file₂ output₂ table₂ b₂ c₂
+    → eventsIn b₁ ≡ eventsIn b₂ → PrefixesIn (logIn b₁) (logIn b₂) → Compared b₁ b₂ c₁ c₂

@@ -1,0 +1,6 @@
+pub mod Demands
+pub mod Comparing
+pub mod Proved
+pub mod Files
+pub mod Samples
+pub mod Met

@@ -1,0 +1,54 @@
+-- The three demands, proved.
+use mathlib.Core.Path.{_≡_, sym, ap, _∙_}
+use mathlib.Core.List.{List}
+use Prim.Native.Nat.{ℕ}
+use lib.ListN.{length}
+use Rattle.refusals.specs.Answers.Result.{bytes}
+use Rattle.refusals.specs.Laws.{answer-length, answer-taken, refused-writes-nothing}
+use Rattle.block.specs.File.{opened}
+use Rattle.block.specs.Order.{open-numbers, seal-numbers}
+use Rattle.block.specs.RoundTrip.{opened-small, seal-then-open, open-then-seal}
+use Rattle.logs.specs.Answers.{freshTable}
+use Rattle.logs.specs.Order.{fresh-numbers, take-numbers}
+use Rattle.logs.specs.AnswerLaws.{refused-table}
+use Rattle.verdicts.specs.Acceptance.{accepted-exactly}
+use Rattle.verdicts.specs.Order.{judge-numbers, refused-judge}
+use Rattle.verdicts.specs.declared.Counts.{Counts}
+use Rattle.screening.specs.Order.{screen-numbers}
+use Rattle.screening.specs.Screens.{permitted-exactly, stopped-exactly, readable-exactly}
+use Rattle.demands.specs.Demands.{Demand1, Demand2, Demand3, FileAccepted}
+use Rattle.demands.specs.Comparing.{compared}
+
+pub demand-1 : Demand1
+unfolding freshTable
+demand-1 = record {
+  refusals-of-open = open-numbers;
+  refusals-of-seal = seal-numbers;
+  refusals-of-fresh = fresh-numbers;
+  refusals-of-take = take-numbers;
+  refusals-of-judge = judge-numbers;
+  refusals-of-screen = screen-numbers;
+  refused-output = refused-writes-nothing;
+  result-output = λ result output n e. let a = answer-length result output n e in (a .0, a .1, a .2 .0, a .2 .1);
+  refused-fresh = λ n table r e. rw e;
+  refused-take = λ s table w r e. sym (refused-table s table w r e);
+  refused-judge = refused-judge;
+}
+
+pub demand-2 : Demand2
+demand-2 = record {
+  accepted = accepted-exactly;
+  permitted = permitted-exactly;
+  stopped = stopped-exactly;
+  readable = readable-exactly;
+  seal-then-open = seal-then-open;
+  open-then-seal = open-then-seal;
+}
+
+-- the bundle of a file that opens and is accepted
+accepted-bundle : {file output table b : List ℕ} {c : Counts} → FileAccepted file output table b c → opened file ≡ bytes b
+accepted-bundle {file} {output} f = answer-taken (opened file) output (f .size) (f .opens) ∙ ap bytes (f .bundle)
+
+pub demand-3 : Demand3
+demand-3 file₁ file₂ output₁ output₂ table₁ table₂ b₁ b₂ c₁ c₂ small₁ small₂ first second same-events to =
+    compared b₁ b₂ (opened-small file₁ b₁ small₁ (accepted-bundle first)) (opened-small file₂ b₂ small₂ (accepted-bundle second)) (length table₁) (length table₂) c₁ c₂ (first .accepted) (second .accepted) same-events to

@@ -1,0 +1,97 @@
+-- Samples A to I of the paper for the definitions, on their bytes, and further refusals: what is computed, with what is expected.
+use mathlib.Core.Path.{_≡_, refl}
+use mathlib.Core.Bool.{true, cond}
+use mathlib.Core.List.{List, [], _∷_, flatMap}
+use Prim.Native.Nat.{ℕ}
+use lib.ListN.{length}
+use Rattle.laws.specs.Lists.{all, any, keep, tabulate, equal}
+use Rattle.laws.specs.Numbers.{numberAt}
+use Rattle.laws.specs.Differences.{sumℤ}
+use Rattle.laws.specs.Scans.{firstFailing}
+use Rattle.refusals.specs.Answers.{provided}
+use Rattle.nets.specs.Nets.{Log, same, occurrences, eventCount, weighed, beginnings, prefixes, addRow, counts, stepAfter, tokens, surplus, placePermits, netPermits, firstRefusing, screenAfter, screen, rows, allowed, rowSteps, continuations, allowedSteps, wrongContinuations, fits, refusedBy, weighsBefore, weighsAfter, weightsHold, solves, isByPlace, tally}
+use Rattle.nets.specs.Events.{firstBad}
+use Rattle.logs.specs.Answers.{TABLE}
+use Rattle.bundles.specs.Reading.{andThen, require, field, byte, number, each}
+use Rattle.bundles.specs.Layout.{toPlace, toNet, toTerm, toCertificate, toBundle, sizeFits}
+use Rattle.bundles.specs.Readers.{wordAfter, word, place, places, head, term, weights, ofKind, certificate}
+use Rattle.verdicts.specs.Judging.{unsolved, solved, atEnd, afterHead, contents, judging, verdictOn, verdict}
+use Rattle.verdicts.specs.declared.Verdict.{Verdict}
+use Rattle.verdicts.specs.declared.Verdict.the-variants as judging
+use Rattle.screening.specs.Screening.{replayed, screenedOn, screened}
+use Rattle.screening.specs.declared.Screened.{Screened}
+use Rattle.screening.specs.declared.Screened.the-variants as screening
+
+-- 0 and the four counts, or the refusal's number and spot
+ofVerdict : Verdict → List ℕ
+ofVerdict (judging.Accepted c) = 0 ∷ c .rows ∷ c .allowed ∷ c .«by_place» ∷ c .«by_weights» ∷ []
+ofVerdict (judging.Refused r) = r .number ∷ r .spot ∷ []
+
+-- 0 where it is permitted; 256, position and place where it is stopped; or the refusal's number and spot
+ofScreened : Screened → List ℕ
+ofScreened screening.Permitted = 0 ∷ []
+ofScreened (screening.Stopped s) = 256 ∷ s .position ∷ s .place ∷ []
+ofScreened (screening.Refused r) = r .number ∷ r .spot ∷ []
+
+-- case A: 53 bytes
+unfoldable pub bytesA : List ℕ
+bytesA =
+    2 ∷ 2 ∷ 1 ∷ 1 ∷ 3 ∷ 0 ∷ 0 ∷ 1 ∷ 2
+    ∷ 1 ∷ 0 ∷ 1 ∷ 0 ∷ 0 ∷ 0 ∷ 1 ∷ 0 ∷ 1 ∷ 0
+    ∷ 2 ∷ 0 ∷ 0 ∷ 0 ∷ 0 ∷ 0 ∷ 1 ∷ 0 ∷ 0 ∷ 0
+    ∷ 0 ∷ 0 ∷ 0 ∷ 0 ∷ 1 ∷ 2 ∷ 0 ∷ 2 ∷ 0 ∷ 0 ∷ 1 ∷ 1 ∷ 0 ∷ 3 ∷ 0 ∷ 1 ∷ 1 ∷ 0 ∷ 0 ∷ 1 ∷ 0 ∷ 0 ∷ 0 ∷ 0 ∷ []
+
+-- the log of I: prefixes 0 1 and 1 0 have the same counts, so 3 is allowed after 0 1
+logI : Log
+logI = (0 ∷ 1 ∷ 2 ∷ []) ∷ (1 ∷ 0 ∷ 3 ∷ []) ∷ []
+
+pub samples : List (List ℕ × List ℕ)
+samples =
+    -- A
+    (ofVerdict (verdict TABLE bytesA), 0 ∷ 5 ∷ 4 ∷ 5 ∷ 1 ∷ [])
+    -- B
+    ∷ (ofScreened (screened bytesA (0 ∷ 1 ∷ [])), 0 ∷ [])
+    -- C
+    ∷ (ofScreened (screened bytesA (1 ∷ 0 ∷ [])), 256 ∷ 1 ∷ 0 ∷ [])
+    -- D
+    ∷ (ofScreened (screened bytesA (0 ∷ 0 ∷ 0 ∷ [])), 256 ∷ 2 ∷ 1 ∷ [])
+    -- E
+    ∷ (ofVerdict (verdict TABLE (1 ∷ 0 ∷ 1 ∷ 0 ∷ 0 ∷ 0 ∷ 0 ∷ 1 ∷ 0 ∷ 0 ∷ 0 ∷ [])), 0 ∷ 1 ∷ 0 ∷ 1 ∷ 0 ∷ [])
+    -- F
+    ∷ (ofVerdict (verdict TABLE (1 ∷ 0 ∷ 0 ∷ [])), 6 ∷ 3 ∷ [])
+    -- G
+    ∷ (ofVerdict (verdict TABLE (1 ∷ 0 ∷ 0 ∷ 1 ∷ 1 ∷ 0 ∷ 0 ∷ [])), 12 ∷ 0 ∷ [])
+    -- H
+    ∷ (ofVerdict (verdict TABLE (1 ∷ 0 ∷ 0 ∷ 1 ∷ 0 ∷ 0 ∷ 0 ∷ [])), 7 ∷ 4 ∷ [])
+    -- I: rows, allowed steps, wrong continuations, and 3 after 0 1
+    ∷ (length (rows 4 logI) ∷ length (allowedSteps 4 logI) ∷ length (wrongContinuations 4 logI) ∷ cond (allowed 4 logI (stepAfter 4 (0 ∷ 1 ∷ []) 3)) 1 0 ∷ [], 6 ∷ 6 ∷ 18 ∷ 1 ∷ [])
+    -- further verdicts
+    ∷ (ofVerdict (verdict TABLE []), 4 ∷ 0 ∷ [])
+    ∷ (ofVerdict (verdict 3327 (13 ∷ [])), 5 ∷ 3328 ∷ [])
+    ∷ (ofVerdict (verdict TABLE (13 ∷ [])), 7 ∷ 0 ∷ [])
+    ∷ (ofVerdict (verdict TABLE (1 ∷ 1 ∷ [])), 6 ∷ 2 ∷ [])
+    ∷ (ofVerdict (verdict TABLE (1 ∷ 1 ∷ 2 ∷ 0 ∷ [])), 6 ∷ 4 ∷ [])
+    ∷ (ofVerdict (verdict TABLE (1 ∷ 1 ∷ 2 ∷ 1 ∷ [])), 7 ∷ 3 ∷ [])
+    ∷ (ofVerdict (verdict TABLE (1 ∷ 0 ∷ 65 ∷ [])), 7 ∷ 2 ∷ [])
+    ∷ (ofVerdict (verdict TABLE (1 ∷ 0 ∷ 1 ∷ 0 ∷ 0 ∷ 0 ∷ [])), 6 ∷ 5 ∷ [])
+    ∷ (ofVerdict (verdict TABLE (1 ∷ 1 ∷ 1 ∷ 0 ∷ 1 ∷ 0 ∷ 0 ∷ 0 ∷ 0 ∷ 1 ∷ 0 ∷ [])), 10 ∷ 0 ∷ [])
+    ∷ (ofVerdict (verdict TABLE (2 ∷ 0 ∷ 1 ∷ 0 ∷ 0 ∷ 0 ∷ 0 ∷ 0 ∷ 0 ∷ 1 ∷ 0 ∷ 0 ∷ 0 ∷ 0 ∷ 0 ∷ 0 ∷ 0 ∷ [])), 11 ∷ 1 ∷ [])
+    ∷ (ofVerdict (verdict TABLE (1 ∷ 0 ∷ 1 ∷ 0 ∷ 0 ∷ 0 ∷ 0 ∷ 1 ∷ 0 ∷ 0 ∷ 1 ∷ [])), 7 ∷ 10 ∷ [])
+    ∷ (ofVerdict (verdict TABLE (1 ∷ 0 ∷ 1 ∷ 0 ∷ 0 ∷ 0 ∷ 0 ∷ 1 ∷ 0 ∷ 0 ∷ 0 ∷ 0 ∷ [])), 13 ∷ 11 ∷ [])
+    ∷ (ofVerdict (verdict TABLE (1 ∷ 0 ∷ 0 ∷ 2 ∷ [])), 7 ∷ 3 ∷ [])
+    ∷ (ofVerdict (verdict TABLE (1 ∷ 0 ∷ 0 ∷ 1 ∷ 1 ∷ 0 ∷ 1 ∷ 1 ∷ 0 ∷ 0 ∷ 0 ∷ 0 ∷ [])), 7 ∷ 7 ∷ [])
+    ∷ (ofVerdict (verdict TABLE (1 ∷ 0 ∷ 0 ∷ 1 ∷ 1 ∷ 0 ∷ 1 ∷ 0 ∷ 0 ∷ 0 ∷ 0 ∷ 0 ∷ [])), 12 ∷ 0 ∷ [])
+    -- further answers of screening: 4, 6, 7, 15, and a bundle that is not accepted
+    ∷ (ofScreened (screened [] (0 ∷ [])), 4 ∷ 0 ∷ [])
+    ∷ (ofScreened (screened (1 ∷ 0 ∷ []) (0 ∷ [])), 6 ∷ 2 ∷ [])
+    ∷ (ofScreened (screened (13 ∷ []) (0 ∷ [])), 7 ∷ 0 ∷ [])
+    ∷ (ofScreened (screened (1 ∷ 0 ∷ 1 ∷ 0 ∷ 0 ∷ 0 ∷ 0 ∷ 1 ∷ []) (0 ∷ [])), 6 ∷ 7 ∷ [])
+    ∷ (ofScreened (screened bytesA (0 ∷ 2 ∷ [])), 15 ∷ 1 ∷ [])
+    ∷ (ofScreened (screened bytesA []), 0 ∷ [])
+    ∷ (ofScreened (screened (1 ∷ 0 ∷ 1 ∷ 0 ∷ 0 ∷ 0 ∷ 0 ∷ 1 ∷ 0 ∷ 9 ∷ []) (0 ∷ [])), 256 ∷ 0 ∷ 0 ∷ [])
+    ∷ []
+
+-- one result over the list
+pub samples-hold : all (λ c. equal (c .0) (c .1)) samples ≡ true
+unfolding ofVerdict ofScreened bytesA logI samples all any keep tabulate equal numberAt firstFailing provided sumℤ same occurrences eventCount weighed beginnings prefixes addRow counts tokens surplus placePermits netPermits firstRefusing screenAfter screen rows allowed rowSteps continuations allowedSteps wrongContinuations fits refusedBy weighsBefore weighsAfter weightsHold solves isByPlace tally firstBad flatMap andThen require field byte number each toPlace toNet toTerm toCertificate toBundle sizeFits wordAfter word place places head term weights ofKind certificate unsolved solved atEnd afterHead contents judging verdictOn verdict replayed screenedOn screened
+samples-hold = refl

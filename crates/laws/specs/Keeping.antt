@@ -1,0 +1,33 @@
+-- The members of a list that pass a test, as a loop goes through them.
+use mathlib.Core.Path.{_≡_, sym}
+use mathlib.Core.Bool.{Bool, true, false, cond}
+use mathlib.Core.List.{List, [], _∷_, _++_}
+use Prim.Native.Nat.{ℕ, _+_, _<_}
+use native.Mathlib.Nat.{zero-add}
+use native.Mathlib.Numerals.{add-one}
+use native.Mathlib.Omega.{arith}
+use lib.ListN.{length, getD, drop}
+use lib.Seq.{drop-cons}
+use Rattle.laws.specs.Lists.{keep}
+
+-- the members from k on
+
+module _ {A : Type 0} (f : A → Bool) (xs : List A) (k : ℕ) (d : A) (h : k < length xs) where
+  pub keep-passed : f (getD xs k d) ≡ true → keep f (drop k xs) ≡ getD xs k d ∷ keep f (drop (k + 1) xs)
+  unfolding keep
+  keep-passed t = rw (drop-cons xs k d h, t, add-one)
+
+  pub keep-failed : f (getD xs k d) ≡ false → keep f (drop k xs) ≡ keep f (drop (k + 1) xs)
+  unfolding keep
+  keep-failed t = rw (drop-cons xs k d h, t, add-one)
+
+-- how many pass, with one member more
+pub keep-last : {A : Type 0} (f : A → Bool) (xs : List A) (x : A) → length (keep f (xs ++ x ∷ [])) ≡ length (keep f xs) + length (keep f (x ∷ []))
+unfolding keep
+keep-last f [] x = sym (zero-add _)
+keep-last f (y ∷ xs) x = go (f y) (keep-last f xs x)
+  where
+    go : (p : Bool) → length (keep f (xs ++ x ∷ [])) ≡ length (keep f xs) + length (keep f (x ∷ []))
+        → length (cond p (y ∷ keep f (xs ++ x ∷ [])) (keep f (xs ++ x ∷ []))) ≡ length (cond p (y ∷ keep f xs) (keep f xs)) + length (keep f (x ∷ []))
+    go true e = omega arith
+    go false e = e

@@ -1,0 +1,24 @@
+-- `screening::screen_places` meets its contract.
+use mathlib.Core.Path.{refl}
+use mathlib.Core.List.{[]}
+use borrow.Author.Needs.{needs}
+use denote.Ref.{now}
+use Rattle.screening.specs.Positions.{Best, best-start}
+use Rattle.screening.specs.Searching.{netAt}
+use Rattle.screening.specs.Steps.{search-stopped, search-permitted}
+use Rattle.screening.proofs.screen_places.Statement.{statement}
+use Rattle.screening.proofs.screen_places.Tie as tie
+
+-- the best stop of all places
+found : (c : tie.After-search-places) → let args = c .before .before .before .args in
+    Best (args .n) (netAt (args .n) (now (args .bundle)) (args .places .first) (args .places .count)) (now (args .word)) (c .search-places .result .position) (c .search-places .result .place)
+found c = c .search-places .ensures [] refl (best-start _ _ 0)
+
+returns : tie.Need-returns
+returns c = search-stopped _ _ _ _ _ (found (c .before .before)) (c .if1 .taken)
+
+returns-2 : tie.Need-returns-2
+returns-2 c = search-permitted _ _ _ _ _ (found (c .before .before)) (c .if1 .left)
+
+pub screen-places-spec : {M : Type 1} → statement M
+screen-places-spec = tie.close (tie.spec (λ c κs. search needs) returns returns-2)

@@ -1,0 +1,128 @@
+-- Screening by positions: the answer is the lowest position that some place refuses, then the lowest place that refuses it.
+-- It may be found place by place, each one followed only up to the best position so far.
+use mathlib.Core.Path.{_≡_, refl, sym, ap, ap₂, _∙_}
+use mathlib.Core.Bool.{Bool, true, false, cond, _&&_, and-true, and-assoc}
+use mathlib.Core.List.{[], _∷_, _++_, append-nil, append-assoc}
+use Prim.Native.Nat.{ℕ, zero, suc, _+_, _≤_, _<_}
+use native.Mathlib.Nat.{not-suc-le-zero, le-of-suc-le-suc}
+use native.Mathlib.Omega.{arith}
+use lib.ListN.{length, take, getD, length-append}
+use Rattle.laws.specs.Lists.{all}
+use Rattle.nets.specs.Nets.{Word, Net, Place, Step, permitted, stopped, stepAfter, placePermits, netPermits, firstRefusing, screenAfter, screen}
+
+module _ (n : ℕ) where
+  -- the step of a word at a position, behind the events of u
+  abbrev pub stepBehind : Word → Word → ℕ → Step
+  stepBehind u w i = stepAfter n (u ++ take i w) (getD w i 0)
+
+  -- the step of a word at a position
+  abbrev pub stepAt : Word → ℕ → Step
+  stepAt w i = stepAfter n (take i w) (getD w i 0)
+
+  pub step-first : (u : Word) (e : ℕ) (w : Word) → stepBehind u (e ∷ w) 0 ≡ stepAfter n u e
+  step-first u e w = ap (λ (v : Word). stepAfter n v e) (append-nil u)
+
+  -- behind one event more
+  pub step-shift : (u : Word) (e : ℕ) (w : Word) (i : ℕ) → stepBehind (u ++ e ∷ []) w i ≡ stepBehind u (e ∷ w) (suc i)
+  step-shift u e w i = ap (λ (v : Word). stepAfter n v (getD w i 0)) (append-assoc u (e ∷ []) (take i w))
+
+  -- ---- screening
+
+  module _ (net : Net) where
+    stopped-behind : (w u : Word) (k : ℕ) → k < length w → ((i : ℕ) → i < k → netPermits n net (stepBehind u w i) ≡ true)
+        → netPermits n net (stepBehind u w k) ≡ false → screenAfter n net u w ≡ stopped (length u + k) (firstRefusing n net (stepBehind u w k))
+    unfolding screenAfter
+    stopped-behind [] u k h passed refused = absurd (not-suc-le-zero h)
+    stopped-behind (e ∷ w) u zero h passed refused =
+        rw (sym (ap (netPermits n net) (step-first u e w)) ∙ refused, append-nil) (ap (λ (i : ℕ). stopped i (firstRefusing n net (stepAfter n u e))) (omega arith))
+    stopped-behind (e ∷ w) u (suc k) h passed refused =
+        rw (sym (ap (netPermits n net) (step-first u e w)) ∙ passed 0 (omega arith))
+        (stopped-behind w (u ++ e ∷ []) k (le-of-suc-le-suc h) (λ i b. ap (netPermits n net) (step-shift u e w i) ∙ passed (suc i) (omega arith)) (ap (netPermits n net) (step-shift u e w k) ∙ refused)
+        ∙ ap₂ stopped (omega (arith, length-append u (e ∷ []))) (ap (firstRefusing n net) (step-shift u e w k)))
+
+    passed-behind : (w u : Word) → ((i : ℕ) → i < length w → netPermits n net (stepBehind u w i) ≡ true) → screenAfter n net u w ≡ permitted
+    unfolding screenAfter
+    passed-behind [] u passed = refl
+    passed-behind (e ∷ w) u passed =
+        rw (sym (ap (netPermits n net) (step-first u e w)) ∙ passed 0 (omega arith))
+        (passed-behind w (u ++ e ∷ []) (λ i b. ap (netPermits n net) (step-shift u e w i) ∙ passed (suc i) (omega arith)))
+
+    pub screen-stopped-at : (w : Word) (k : ℕ) → k < length w → ((i : ℕ) → i < k → netPermits n net (stepAt w i) ≡ true)
+        → netPermits n net (stepAt w k) ≡ false → screen n net w ≡ stopped k (firstRefusing n net (stepAt w k))
+    unfolding screen
+    screen-stopped-at w k h passed refused = stopped-behind w [] k h passed refused ∙ ap (λ (i : ℕ). stopped i (firstRefusing n net (stepAt w k))) (omega arith)
+
+    pub screen-passed : (w : Word) → ((i : ℕ) → i < length w → netPermits n net (stepAt w i) ≡ true) → screen n net w ≡ permitted
+    unfolding screen
+    screen-passed w passed = passed-behind w [] passed
+
+  -- ---- one place more
+
+  module _ (p : Place) (s : Step) where
+    net-snoc : (net : Net) → netPermits n (net ++ p ∷ []) s ≡ netPermits n net s && placePermits n p s
+    unfolding netPermits all
+    net-snoc [] = and-true (placePermits n p s)
+    net-snoc (q ∷ net) = ap (λ (t : Bool). placePermits n q s && t) (net-snoc net) ∙ sym (and-assoc (placePermits n q s) (netPermits n net s) (placePermits n p s))
+
+    -- a place that is refused already stays the lowest
+    lowest-stays : (net : Net) → netPermits n net s ≡ false → firstRefusing n (net ++ p ∷ []) s ≡ firstRefusing n net s
+    unfolding netPermits all firstRefusing
+    lowest-stays [] e = absurd (let z : _≡_ {A = ℕ} 0 1 = cc in omega arith)
+    lowest-stays (q ∷ net) e = go (placePermits n q s) e (lowest-stays net)
+      where
+        go : (t : Bool) → (t && netPermits n net s) ≡ false → (netPermits n net s ≡ false → firstRefusing n (net ++ p ∷ []) s ≡ firstRefusing n net s) → cond t (suc (firstRefusing n (net ++ p ∷ []) s)) 0 ≡ cond t (suc (firstRefusing n net s)) 0
+        go true r below = ap suc (below r)
+        go false r below = refl
+
+    -- the new one is the lowest where no other refuses
+    lowest-new : (net : Net) → netPermits n net s ≡ true → placePermits n p s ≡ false → firstRefusing n (net ++ p ∷ []) s ≡ length net
+    unfolding netPermits all firstRefusing
+    lowest-new [] e r = rw r
+    lowest-new (q ∷ net) e r = go (placePermits n q s) e (λ t. lowest-new net t r)
+      where
+        go : (t : Bool) → (t && netPermits n net s) ≡ true → (netPermits n net s ≡ true → firstRefusing n (net ++ p ∷ []) s ≡ length net) → cond t (suc (firstRefusing n (net ++ p ∷ []) s)) 0 ≡ suc (length net)
+        go true k below = ap suc (below k)
+        go false k below = absurd (let z : _≡_ {A = ℕ} 0 1 = cc in omega arith)
+
+  -- ---- the best position so far
+
+  -- with the places of a net, a word stops first at `best`, and there at the place `lowest`; its length where it does not stop
+  pub record Best (net : Net) (w : Word) (best lowest : ℕ) : Type 0 where
+    pub within : best ≤ length w
+    pub passed : (i : ℕ) → i < best → netPermits n net (stepAt w i) ≡ true
+    pub refused : best < length w → netPermits n net (stepAt w best) ≡ false
+    pub first : best < length w → firstRefusing n net (stepAt w best) ≡ lowest
+
+  pub best-start : (w : Word) (lowest : ℕ) → Best [] w (length w) lowest
+  unfolding netPermits all
+  best-start w lowest = record {
+    within = omega arith;
+    passed = λ i h. refl;
+    refused = λ h. absurd (omega arith);
+    first = λ h. absurd (omega arith);
+  }
+
+  pub best-stopped : {net : Net} {w : Word} {best lowest : ℕ} → Best net w best lowest → best < length w → screen n net w ≡ stopped best lowest
+  best-stopped {net} {w} {best} b h = screen-stopped-at net w best h (b .passed) (b .refused h) ∙ ap (stopped best) (b .first h)
+
+  pub best-permitted : {net : Net} {w : Word} {best lowest : ℕ} → Best net w best lowest → length w ≤ best → screen n net w ≡ permitted
+  best-permitted {net} {w} b h = screen-passed net w (λ i k. b .passed i (omega arith))
+
+  module _ {net : Net} {w : Word} {best lowest : ℕ} (b : Best net w best lowest) (p : Place) where
+    -- a place that permits each step before the best one
+    pub best-stays : ((i : ℕ) → i < best → placePermits n p (stepAt w i) ≡ true) → Best (net ++ p ∷ []) w best lowest
+    best-stays permits = record {
+      within = b .within;
+      passed = λ i h. net-snoc p (stepAt w i) net ∙ rw (b .passed i h, permits i h);
+      refused = λ h. net-snoc p (stepAt w best) net ∙ rw (b .refused h);
+      first = λ h. lowest-stays p (stepAt w best) net (b .refused h) ∙ b .first h;
+    }
+
+    -- a place that refuses an earlier one
+    pub best-earlier : (k : ℕ) → k < best → ((i : ℕ) → i < k → placePermits n p (stepAt w i) ≡ true) → placePermits n p (stepAt w k) ≡ false → Best (net ++ p ∷ []) w k (length net)
+    best-earlier k h permits refuses = record {
+      within = omega (arith, b .within);
+      passed = λ i l. net-snoc p (stepAt w i) net ∙ rw (b .passed i (omega arith), permits i l);
+      refused = λ l. net-snoc p (stepAt w k) net ∙ rw (b .passed k h, refuses);
+      first = λ l. lowest-new p (stepAt w k) net (b .passed k h) refuses;
+    }

@@ -1,0 +1,155 @@
+//! A further reading of the rules for screening besides the reference, kept as
+//! close to their wording as possible and without regard to speed; and words and
+//! nets to screen.
+
+use crate::bundles::{Bundle, Place, MAX_PLACES};
+use crate::fields::Fields;
+use crate::files::MAX_BUNDLE;
+use crate::logs::random_word;
+use crate::nets::small_log;
+use crate::places::first_refused;
+use crate::rng::Rng;
+use crate::run::{refusal, Outcome, Run};
+use reference::Screened;
+
+/// The largest number of events in a word that is screened.
+pub const MAX_WORD: usize = 65_535;
+
+/// The answer for a word that is stopped.
+pub fn stopped(position: usize, place: usize) -> Outcome<Screened> {
+    Ok(Screened::Stopped { position, place })
+}
+
+/// Screens a word by the definitions.
+pub fn screen_by_definitions(bundle: &[u8], word: &[u8]) -> Outcome<Screened> {
+    if word.len() > MAX_WORD {
+        return refusal(14, MAX_WORD);
+    }
+    if bundle.is_empty() || bundle.len() > MAX_BUNDLE {
+        return refusal(4, 0);
+    }
+    let mut fields = Fields::new(bundle);
+    let n = fields.within(1, 1, 12)?;
+    // Rows are not counted.
+    fields.words(n, usize::MAX)?;
+    let places = fields.places(n)?;
+    if let Some(position) = word.iter().position(|&event| usize::from(event) >= n) {
+        return refusal(15, position);
+    }
+    match first_refused(n, &places, word) {
+        None => Ok(Screened::Permitted),
+        Some((position, place)) => stopped(position, place),
+    }
+}
+
+/// Screens a word on both sides, and checks the answer by the definitions.
+pub fn screen(run: &mut Run, bundle: &[u8], word: &[u8]) -> Outcome<Screened> {
+    let outcome = run.screen(bundle, word);
+    let expected = screen_by_definitions(bundle, word);
+    assert_eq!(outcome, expected, "{bundle:?}, {word:?}, {run}");
+    outcome
+}
+
+/// What a word to be screened is like.
+#[derive(Clone, Copy, Debug, PartialEq, Eq)]
+pub enum Kind {
+    /// No event.
+    Empty,
+    /// A word of the log.
+    Log,
+    /// A beginning of such a word, and one event more.
+    Continued,
+    /// A word of the log, and several events more.
+    Longer,
+    /// Few random events.
+    Short,
+    /// Many random events.
+    Long,
+    /// The same event over and over.
+    Equal,
+}
+
+impl Kind {
+    /// All of them.
+    pub const ALL: [Kind; 7] = [
+        Kind::Empty,
+        Kind::Log,
+        Kind::Continued,
+        Kind::Longer,
+        Kind::Short,
+        Kind::Long,
+        Kind::Equal,
+    ];
+
+    /// A word of this kind, for the log of a bundle.
+    pub fn word(self, rng: &mut Rng, bundle: &Bundle) -> Vec<u8> {
+        let n = bundle.n;
+        let mut of_log = match bundle.words.as_slice() {
+            [] => Vec::new(),
+            words => words[rng.below(words.len())].clone(),
+        };
+        match self {
+            Kind::Empty => Vec::new(),
+            Kind::Log => of_log,
+            Kind::Continued => {
+                of_log.truncate(rng.within(0..=of_log.len()));
+                of_log.push(rng.below(n) as u8);
+                of_log
+            }
+            Kind::Longer => {
+                of_log.extend(random_word(rng, n, 2..=20));
+                of_log
+            }
+            Kind::Short => random_word(rng, n, 1..=12),
+            Kind::Long => random_word(rng, n, 100..=600),
+            Kind::Equal => vec![rng.below(n) as u8; rng.within(1..=300)],
+        }
+    }
+}
+
+/// A bundle without certificates, whose places need not fit its log; and a word.
+/// Each place permits a beginning of the word, and often no more of it.
+pub fn any_net(rng: &mut Rng) -> (Bundle, Vec<u8>) {
+    let (n, words) = small_log(rng);
+    let longest = rng.choose(&[5, 50, 500]);
+    let word = random_word(rng, n, 1..=longest);
+    let count = rng.choose(&[0, 1, 1, 2, 3, 8, MAX_PLACES]);
+    let places = (0..count)
+        .map(|_| {
+            let end = rng.within(word.len() / 2..=word.len());
+            any_place(rng, n, &word[..end])
+        })
+        .collect();
+    let bundle = Bundle {
+        n,
+        words,
+        places,
+        certificates: Vec::new(),
+    };
+    (bundle, word)
+}
+
+/// A place with the fewest initial tokens with which it permits a word, or as many
+/// as two bytes can hold.
+fn any_place(rng: &mut Rng, n: usize, word: &[u8]) -> Place {
+    let largest = rng.choose(&[1, 1, 3, 300, 65_535]);
+    let zeros = rng.choose(&[0, 1, 3]);
+    let mut number = || match rng.below(1 + zeros) {
+        0 => rng.within(0..=largest) as u16,
+        _ => 0,
+    };
+    let ins: Vec<u16> = (0..n).map(|_| number()).collect();
+    let outs: Vec<u16> = (0..n).map(|_| number()).collect();
+
+    let mut tokens = 0;
+    let mut fewest = 0;
+    for event in word.iter().map(|&event| usize::from(event)) {
+        fewest = fewest.max(i64::from(outs[event]) - tokens);
+        tokens += i64::from(ins[event]) - i64::from(outs[event]);
+    }
+    Place {
+        m: fewest.min(65_535) as u16,
+        ins,
+        outs,
+    }
+}

@@ -1,0 +1,130 @@
+//! The safe call for screening: results and errors, against the reference.
+
+use differential::bundle_faults::altered;
+use differential::bundles::{Field, SAMPLE_A};
+use differential::files::MAX_BUNDLE;
+use differential::nets::small_certified;
+use differential::run::{Outcome, Run};
+use differential::screening::{any_net, Kind};
+use hovmekhar::{Refusal, Screened, MAX_BUNDLE_SIZE, MAX_WORD_EVENTS};
+use std::error::Error;
+
+/// A result of the safe call in the reference's terms.
+fn outcome(result: Result<Screened, Refusal>) -> Outcome<reference::Screened> {
+    match result {
+        Ok(Screened::Permitted) => Ok(reference::Screened::Permitted),
+        Ok(Screened::Stopped { position, place }) => {
+            Ok(reference::Screened::Stopped { position, place })
+        }
+        Err(Refusal { number, spot }) => Err(reference::Refusal { number, spot }),
+    }
+}
+
+/// A bundle and a word of any kind.
+fn any_call(run: &mut Run) -> (Vec<u8>, Vec<u8>) {
+    let bundle = match run.rng.below(2) {
+        0 => small_certified(&mut run.rng).bundle,
+        _ => any_net(&mut run.rng).0,
+    };
+    let kind = run.rng.choose(&Kind::ALL);
+    let mut word = kind.word(&mut run.rng, &bundle);
+    match run.rng.below(20) {
+        0 => word.resize(MAX_WORD_EVENTS + 1, 0),
+        1 | 2 => word.push(run.rng.within(bundle.n..=255) as u8),
+        _ => (),
+    }
+    let bytes = match run.rng.below(10) {
+        0 => {
+            let length = run.rng.choose(&[0, MAX_BUNDLE + 1]);
+            run.rng.bytes(length)
+        }
+        1..=3 => altered(&mut run.rng, &bundle),
+        _ => bundle.bytes(),
+    };
+    (bytes, word)
+}
+
+#[test]
+fn screen_agrees() {
+    let mut run = Run::start("screen_agrees");
+    for _ in 0..run.cases(2_000) {
+        let (bundle, word) = any_call(&mut run);
+        let screened = run.screen(&bundle, &word);
+        let result = hovmekhar::screen(&bundle, &word);
+        assert_eq!(outcome(result), screened, "{run}");
+    }
+    run.finish_with_classes(
+        &[(4, 50), (6, 20), (7, 50), (14, 40), (15, 50)],
+        &[("permitted", 300), ("stopped", 300)],
+    );
+}
+
+/// Samples B, C and D.
+#[test]
+fn samples() {
+    for (word, expected) in [
+        ([0, 1].as_slice(), Screened::Permitted),
+        (&[1, 0], stopped(1, 0)),
+        (&[0, 0, 0], stopped(2, 1)),
+    ] {
+        assert_eq!(hovmekhar::screen(&SAMPLE_A, word), Ok(expected), "{word:?}");
+    }
+}
+
+fn stopped(position: usize, place: usize) -> Screened {
+    Screened::Stopped { position, place }
+}
+
+/// The word may be a part of the bundle, as a word of its log is, with or without
+/// the byte behind it.
+#[test]
+fn word_in_the_bundle() {
+    let mut run = Run::start("word_in_the_bundle");
+    for _ in 0..run.cases(200) {
+        let layout = small_certified(&mut run.rng).bundle.layout();
+        let bundle = &layout.bytes;
+        for length in layout.all(Field::Length) {
+            let end = length.end + usize::from(bundle[length.start]);
+            for word in [&bundle[length.end..end], &bundle[length.end..=end]] {
+                let apart = run.screen(bundle, word);
+                let together = hovmekhar::screen(bundle, word);
+                assert_eq!(outcome(together), apart, "{run}");
+            }
+        }
+    }
+    run.finish_with_classes(&[(15, 200)], &[("permitted", 400), ("stopped", 100)]);
+}
+
+/// Each refusal that screening can give is an error with its number, its spot and a
+/// sentence with both.
+#[test]
+fn refusals_are_errors() {
+    let five_words = [vec![1, 5], [vec![255], vec![0; 255]].concat().repeat(5)].concat();
+    let too_long_bundle = [SAMPLE_A.as_slice(), &[0; MAX_BUNDLE_SIZE]].concat();
+    let too_long_word = [0; MAX_WORD_EVENTS + 1];
+    for (bundle, word, number, spot) in [
+        (
+            SAMPLE_A.as_slice(),
+            too_long_word.as_slice(),
+            Refusal::WORD_LENGTH,
+            65_535,
+        ),
+        (&[], &too_long_word, Refusal::WORD_LENGTH, 65_535),
+        (&[], &[0], Refusal::BUNDLE_LENGTH, 0),
+        (&too_long_bundle, &[0], Refusal::BUNDLE_LENGTH, 0),
+        (&SAMPLE_A[..28], &[0], Refusal::BUNDLE_END, 27),
+        (&[13, 0, 0], &[0], Refusal::VALUE, 0),
+        (&five_words, &[0], Refusal::EVENTS, 2 + 4 * 256),
+        (&SAMPLE_A, &[0, 1, 2], Refusal::WORD_EVENT, 2),
+    ] {
+        let refusal = hovmekhar::screen(bundle, word).expect_err("each of these is refused");
+        assert_eq!(refusal, Refusal { number, spot });
+        let error: Box<dyn Error> = Box::new(refusal);
+        let sentence = error.to_string();
+        assert!(
+            sentence.starts_with(&format!("refusal {number}: ")),
+            "{sentence}"
+        );
+        assert!(sentence.contains(&spot.to_string()), "{sentence}");
+    }
+}

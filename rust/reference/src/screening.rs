@@ -1,0 +1,102 @@
+//! Screening a word.
+//!
+//! A bundle is read up to its last place; then each place replays the word.
+
+use crate::blocks::MAX_BUNDLE;
+use crate::places::Place;
+use crate::reader::Reader;
+use crate::tables::MAX_N;
+use crate::Refusal;
+
+const MAX_WORD: usize = 65_535;
+
+/// What the places of a bundle say to a word.
+#[derive(Clone, Copy, Debug, PartialEq, Eq)]
+pub enum Screened {
+    /// They permit every step.
+    Permitted,
+    /// Some step is refused.
+    Stopped {
+        /// The position of the first refused step.
+        position: usize,
+        /// The lowest place that refuses it.
+        place: usize,
+    },
+}
+
+/// Screens a word with the places of a bundle, whatever follows them.
+///
+/// # Errors
+///
+/// 14 when the word is too long, else 4 when the bundle's length is wrong, else
+/// the first fault in the order of the bundle: 6 and 7 are refused with the offset
+/// of a field, 8 with the offset of a word's length. Else 15 with the first
+/// position of `word` whose event is not below the event count.
+pub fn screen(bundle: &[u8], word: &[u8]) -> Result<Screened, Refusal> {
+    if word.len() > MAX_WORD {
+        return Err(Refusal {
+            number: 14,
+            spot: MAX_WORD,
+        });
+    }
+    if bundle.is_empty() || bundle.len() > MAX_BUNDLE {
+        return Err(Refusal { number: 4, spot: 0 });
+    }
+
+    let mut reader = Reader::new(bundle);
+    let n = reader.byte(1..=MAX_N as u8)?;
+    // The words have to be sound, but are not needed.
+    reader.words(n, |_, _| Ok(()))?;
+    let places = Place::read_all(&mut reader, n)?;
+    if let Some(spot) = first_not_below(n, word) {
+        return Err(Refusal { number: 15, spot });
+    }
+    Ok(replay(&places, word))
+}
+
+/// The first position of a word whose event is not below `n`.
+fn first_not_below(n: u8, word: &[u8]) -> Option<usize> {
+    // Mostly there is none. The highest event is found many events at a time, the
+    // first position only one by one.
+    if word.iter().copied().max() < Some(n) {
+        return None;
+    }
+    word.iter().position(|&event| event >= n)
+}
+
+fn replay(places: &[Place<i64>], word: &[u8]) -> Screened {
+    // What is permitted by all places so far. A further place has to refuse a step
+    // of it, so the lowest place stays where several refuse the same step.
+    let mut permitted = word;
+    let mut refusing = None;
+    for (number, place) in places.iter().enumerate() {
+        if let Some(position) = place.first_refused(permitted) {
+            permitted = &permitted[..position];
+            refusing = Some(number);
+        }
+    }
+    match refusing {
+        None => Screened::Permitted,
+        Some(place) => Screened::Stopped {
+            position: permitted.len(),
+            place,
+        },
+    }
+}
+
+/// All numbers have at most two bytes and the word has at most 65,535 events, so
+/// the tokens pass 32 bits, but stay far inside 64.
+impl Place<i64> {
+    /// The position of the first step that the place refuses.
+    // Not inlined: on its own the loop is faster by a fifth.
+    #[inline(never)]
+    fn first_refused(&self, word: &[u8]) -> Option<usize> {
+        let mut tokens = self.initial;
+        word.iter().position(|&event| {
+            let event = usize::from(event);
+            let refused = !self.permits(tokens, event);
+            tokens += self.change[event];
+            refused
+        })
+    }
+}
