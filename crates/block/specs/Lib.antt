@@ -5,3 +5,4 @@ pub mod OpenLaws
 pub mod SealLaws
 pub mod RoundTrip
 pub mod Order
+pub mod Rooms

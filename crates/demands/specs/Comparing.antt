@@ -17,12 +17,14 @@ use Rattle.nets.specs.Nets.{Word, Tally, stepAfter, permits, permitted, stopped
 use Rattle.nets.specs.Words.{Prefix, prefix→}
 use Rattle.nets.specs.Fits.{prefix-below}
 use Rattle.nets.specs.Comparison.{PrefixesIn, first-exactly, second-permits, nets-agree, first-screened, second-screened, tallies-agree}
+use Rattle.logs.specs.Rows.{withRows, cleared}
 use Rattle.logs.specs.Answers.{TABLE}
+use Rattle.logs.specs.Log.{logRows}
 use Rattle.bundles.specs.Layout.{CertificateFields, Head, Contents, WordInLimits, toBundle, certificateBytes, bytesOf, sizeFits}
 use Rattle.bundles.specs.Readers.{headOf, eventsIn, logIn, netIn}
 use Rattle.bundles.specs.Limits.{words-below}
-use Rattle.verdicts.specs.Judging.{countsOf, judging, verdictOn, verdict}
-use Rattle.verdicts.specs.Acceptance.{AcceptedAs, accepted-exactly}
+use Rattle.verdicts.specs.Judging.{countsOf, judging, verdictOn, verdict, tableAfter}
+use Rattle.verdicts.specs.Acceptance.{AcceptedAs, accepted-exactly, accepted-table}
 use Rattle.verdicts.specs.declared.Counts.{Counts}
 use Rattle.verdicts.specs.declared.Verdict.the-variants.{Accepted, Refused}
 use Rattle.screening.specs.Screening.{MAX-WORD, replayed, screened}
@@ -64,6 +66,12 @@ module _ (b : List ℕ) (bytes : Bytes b) where
         let r = accepted-exactly tableSize (long-table tableSize b c yes′) b bytes c .0 yes′ in
         let same = accepted-head c (r .0) (r .1) in
         (r .0 .certificates, subst (λ (h : Head). AcceptedAs b c (record { head = h; certificates = r .0 .certificates })) (sym same) (r .1))
+
+    -- and the table that judging leaves has its log's rows
+    pub table-left : (table : List ℕ) → length table ≡ tableSize → tableAfter b table ≡ withRows (logRows (logIn b)) (cleared TABLE table)
+    table-left table size =
+        let f = fields in
+        accepted-table b table bytes (omega (arith, long-table tableSize b c yes′)) c (record { head = headOf b; certificates = f .0 }) (f .1)
 
     prefix-length : (u : Word) → Prefix (logIn b) u → length u ≤ 255
     prefix-length u m = ⊎-elim

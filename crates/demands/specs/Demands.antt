@@ -19,12 +19,13 @@ use Rattle.nets.specs.Nets.{Word, Net, permits}
 use Rattle.nets.specs.Words.{Prefix, PermitsLog}
 use Rattle.nets.specs.Comparison.{PrefixesIn}
 use Rattle.nets.specs.Screening.{FirstRefused}
-use Rattle.logs.specs.Rows.{cleared}
+use Rattle.logs.specs.Rows.{withRows, cleared}
 use Rattle.logs.specs.Answers.{TABLE, freshAnswer, freshTable, takenAnswer, takenTable, takenNumber}
+use Rattle.logs.specs.Log.{logRows}
 use Rattle.logs.specs.declared.Summary.{Summary}
 use Rattle.logs.specs.declared.Taken.the-variants as taking
 use Rattle.bundles.specs.Layout.{Head, Contents}
-use Rattle.bundles.specs.Readers.{eventsIn, logIn, netIn}
+use Rattle.bundles.specs.Readers.{headOf, eventsIn, logIn, netIn}
 use Rattle.verdicts.specs.Judging.{verdict, verdictNumber, tableAfter}
 use Rattle.verdicts.specs.Acceptance.{AcceptedAs}
 use Rattle.verdicts.specs.declared.Counts.{Counts}
@@ -38,7 +39,7 @@ use Rattle.screening.specs.declared.Screened.the-variants as screening
 -- lent to it, and leaves in each of them exactly what the table says.'
 -- That a call ends, and touches nothing else, is part of its being proved. Its contract gives the answer and each buffer at exit by the
 -- definitions below, for every input. Of these it is stated here that a refusal's number is one of the call's line in the order of
--- refusals (0 is a result, 256 a stop), and what a refusal leaves.
+-- refusals (0 is a result, 256 a stop), and what is left in the buffers.
 
 pub record Demand1 : Type 0 where
   pub refusals-of-open : (file : List ℕ) (room : ℕ) → among (numberOf (answer (opened file) room)) (0 ∷ 1 ∷ 2 ∷ 3 ∷ []) ≡ true
@@ -57,6 +58,9 @@ pub record Demand1 : Type 0 where
   -- the judge, refusing with 4 or 5, leaves the table; with any other number it leaves zeros up to number 3,327, and the rest
   pub refused-judge : (table b : List ℕ) (r : Refusal) → verdict (length table) b ≡ judging.Refused r
       → ((among (r .number) (4 ∷ 5 ∷ []) ≡ true) → tableAfter b table ≡ table) × ((among (r .number) (4 ∷ 5 ∷ []) ≡ false) → tableAfter b table ≡ cleared TABLE table)
+  -- accepting, it leaves the log's rows, each with its mask, zeros up to number 3,327, and the rest
+  pub accepted-judge : (table b : List ℕ) → Bytes b → (c : Counts) → verdict (length table) b ≡ judging.Accepted c
+      → tableAfter b table ≡ withRows (logRows (logIn b)) (cleared TABLE table)
 
 -- ---- DEMAND 2: 'With long enough buffers lent, a bundle is accepted exactly when it keeps the layout and limits and, by the region
 -- definitions of Badouel and Schlachter, its net permits every log word and each wrong continuation is refused by the place its
@@ -66,6 +70,8 @@ pub record Demand1 : Type 0 where
 
 pub record Demand2 : Type 0 where
   pub accepted : (tableSize : ℕ) → TABLE ≤ tableSize → (b : List ℕ) → Bytes b → (c : Counts) → (verdict tableSize b ≡ judging.Accepted c) ↔ ((d : Contents) × AcceptedAs b c d)
+  -- the event count, log and net that the lines below and demand 3 speak of are, of an accepted bundle, those of its contents
+  pub head : (b : List ℕ) → Bytes b → (c : Counts) (d : Contents) → AcceptedAs b c d → headOf b ≡ d .head
   pub permitted : (b : List ℕ) (w : Word) → Readable b w → (screened b w ≡ screening.Permitted) ↔ T (permits (eventsIn b) (netIn b) w)
   pub stopped : (b : List ℕ) (w : Word) → Readable b w → (i j : ℕ) → (screened b w ≡ screening.Stopped (record { position = i; place = j })) ↔ FirstRefused (eventsIn b) (netIn b) w i j
   pub readable : (b : List ℕ) → Bytes b → (w : Word) → Readable b w ↔ ((h : Head) × (rest : List ℕ) × Screenable b w h rest)
@@ -90,7 +96,7 @@ pub record ScreenedAtEnd (s : Screened) (n : ℕ) (net : Net) (w : Word) (e : �
   pub permitted : (s ≡ screening.Permitted) ↔ T (permits n net (w ++ e ∷ []))
   pub stopped : T (not (permits n net (w ++ e ∷ []))) → (j : ℕ) × (s ≡ screening.Stopped (record { position = length w; place = j }))
 
--- of the prefix w and the event e, for the bundles b₁ and b₂ with the verdicts' counts c₁ and c₂
+-- of the prefix w and the event e, for the bundles b₁ and b₂
 pub record Longer (b₁ b₂ : List ℕ) (w : Word) (e : ℕ) : Type 0 where
   -- 'The first net permits that longer word exactly when it is permitted by every net, of any number of places with whole numbers of any
   -- size, that permits all words of the first log.'

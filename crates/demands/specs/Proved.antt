@@ -1,5 +1,5 @@
 -- The three demands, proved.
-use mathlib.Core.Path.{_≡_, sym, ap, _∙_}
+use mathlib.Core.Path.{_≡_, refl, sym, ap, _∙_}
 use mathlib.Core.List.{List}
 use Prim.Native.Nat.{ℕ}
 use lib.ListN.{length}
@@ -17,7 +17,7 @@ use Rattle.verdicts.specs.declared.Counts.{Counts}
 use Rattle.screening.specs.Order.{screen-numbers}
 use Rattle.screening.specs.Screens.{permitted-exactly, stopped-exactly, readable-exactly}
 use Rattle.demands.specs.Demands.{Demand1, Demand2, Demand3, FileAccepted}
-use Rattle.demands.specs.Comparing.{compared}
+use Rattle.demands.specs.Comparing.{accepted-head, table-left, compared}
 
 pub demand-1 : Demand1
 unfolding freshTable
@@ -33,11 +33,13 @@ demand-1 = record {
   refused-fresh = λ n table r e. rw e;
   refused-take = λ s table w r e. sym (refused-table s table w r e);
   refused-judge = refused-judge;
+  accepted-judge = λ table b bytes c e. table-left b bytes (length table) c e table refl;
 }
 
 pub demand-2 : Demand2
 demand-2 = record {
   accepted = accepted-exactly;
+  head = accepted-head;
   permitted = permitted-exactly;
   stopped = stopped-exactly;
   readable = readable-exactly;

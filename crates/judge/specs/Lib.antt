@@ -1,1 +1,1 @@
-pub mod Inputs
+pub mod Files

@@ -1,4 +1,7 @@
 // Judges the sealed file that standard input has, and prints one line: `accepted` and four counts, or `refused`, number and spot.
+use console::Input;
+use console::write_number;
+use console::write_refusal;
 use libc::STDERR_FILENO;
 use libc::STDIN_FILENO;
 use libc::STDOUT_FILENO;
@@ -8,74 +11,23 @@ use refusals::Written;
 use verdicts::Counts;
 use verdicts::Verdict;
 ghost use mathlib.Core.Path.{_≡_};
-ghost use Prim.Native.Nat.{_-_, _≤_};
-ghost use lib.ListN.{length};
 ghost use Rattle.block.specs.File.{opened};
-ghost use Rattle.judge.specs.Inputs.{Within, fileVerdict};
-
-// What standard input has: so many bytes, or a read that failed.
-enum Input {
-    Bytes(usize),
-    Failed,
-}
-
-// One read to the buffer from an offset on: how many bytes came, 0 at the end of the input, or a read that failed.
-fn read_at(buffer: &mut [u8], at: usize) -> Input
-    requires { ⌜ at ≤ length (now buffer) ⌝ }
-    ensures { λ r. ⌜ Within r (length (now (buffer .entry)) - at) ⌝ }
-{
-    let got = libc::read(STDIN_FILENO, &mut buffer[at..]);
-    if got < 0 {
-        return Input::Failed;
-    }
-    Input::Bytes(io::count(got, &buffer[at..]))
-}
-
-// Reads until the buffer is full or the input ends.
-fn read_input(buffer: &mut [u8]) -> Input
-    ensures { λ r. ⌜ Within r (length (now (buffer .entry))) ⌝ }
-{
-    let mut done = 0;
-    while done < buffer.len() {
-        match read_at(buffer, done) {
-            Input::Failed => {
-                return Input::Failed;
-            }
-            Input::Bytes(more) => {
-                if more == 0 {
-                    return Input::Bytes(done);
-                }
-                done += more;
-            }
-        }
-    }
-    Input::Bytes(done)
-}
-
-fn print_number(n: usize) {
-    io::write_all(STDOUT_FILENO, &[b' ']);
-    io::print_decimal(STDOUT_FILENO, n as u64);
-}
+ghost use Rattle.judge.specs.Files.{fileVerdict};
 
 fn print_verdict(verdict: Verdict) {
     match verdict {
         Verdict::Accepted(counts) => {
-            io::write_all(
-                STDOUT_FILENO,
-                &[b'a', b'c', b'c', b'e', b'p', b't', b'e', b'd'],
-            );
-            print_number(counts.rows);
-            print_number(counts.allowed);
-            print_number(counts.by_place);
-            print_number(counts.by_weights);
+            io::write_all(STDOUT_FILENO, b"accepted");
+            write_number(STDOUT_FILENO, counts.rows);
+            write_number(STDOUT_FILENO, counts.allowed);
+            write_number(STDOUT_FILENO, counts.by_place);
+            write_number(STDOUT_FILENO, counts.by_weights);
+            io::write_all(STDOUT_FILENO, b"\n");
         }
-        Verdict::Refused(r) => {
-            io::write_all(STDOUT_FILENO, &[b'r', b'e', b'f', b'u', b's', b'e', b'd']);
-            print_number(r.number as usize);
-            print_number(r.spot);
+        Verdict::Refused(refusal) => {
+            write_refusal(STDOUT_FILENO, refusal);
         }
     }
-    io::write_all(STDOUT_FILENO, &[b'\n']);
 }
 
 // The verdict on a sealed file: that of opening it, or that on its bundle.
@@ -91,24 +43,20 @@ fn judge_file(file: &[u8]) -> Verdict
 }
 
 fn main() {
+    // A byte more than the longest file, so that a longer one is seen.
     let mut file = [0u8; 65537];
-    let input = read_input(&mut file);
-    match input {
+    match console::read_input(STDIN_FILENO, &mut file) {
         Input::Failed => {
-            io::write_all(STDERR_FILENO, &[b'r', b'e', b'a', b'd', b'\n']);
-            print_verdict(Verdict::Refused(Refusal {
-                number: FILE_LENGTH,
-                spot: 0,
-            }));
-        }
-        Input::Bytes(n) => {
-            if 65536 < n {
-                print_verdict(Verdict::Refused(Refusal {
+            io::write_all(STDERR_FILENO, b"read\n");
+            write_refusal(
+                STDOUT_FILENO,
+                Refusal {
                     number: FILE_LENGTH,
                     spot: 0,
-                }));
-                return;
-            }
+                },
+            );
+        }
+        Input::Bytes(n) => {
             print_verdict(judge_file(&file[..n]));
         }
     }

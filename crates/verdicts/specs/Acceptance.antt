@@ -20,14 +20,16 @@ use Rattle.refusals.specs.Answers.{refusal, provided}
 use Rattle.nets.specs.Nets.{Log, Step, prefixes, addRow, permits, rows, wrongContinuations, solves, solvesAll, fits, accepted, tally}
 use Rattle.nets.specs.LogLaws.{rows-longer}
 use Rattle.nets.specs.Fits.{LogBelow, permits-fits}
+use Rattle.logs.specs.Rows.{withRows, cleared}
 use Rattle.logs.specs.Answers.{TABLE}
+use Rattle.logs.specs.Log.{logRows}
 use Rattle.bundles.specs.Reading.{Read, got, failed, andThen, _>>_, give}
 use Rattle.bundles.specs.Layout.{CertificateFields, Head, Contents, HeadInLimits, CertificateInLimits, InLimits, toNet, toCertificate, toBundle, certificateBytes, bytesOf, sizeFits}
 use Rattle.bundles.specs.Readers.{certificate}
 use Rattle.bundles.specs.ReadingLaws.{Law, part-front, EachValid, andThen-got, law-then, law-give, law-same, law-require, law-tested, law-each}
 use Rattle.bundles.specs.LayoutLaws.{HeadValid, law-head, law-certificate}
 use Rattle.bundles.specs.Limits.{size→, →size, words-below, head→limits, limits→head}
-use Rattle.verdicts.specs.Judging.{rowsBelowLimit, solved, atEnd, afterHead, contents, judging, countsOf, verdictOn, verdict}
+use Rattle.verdicts.specs.Judging.{rowsBelowLimit, solved, atEnd, afterHead, contents, judging, countsOf, verdictOn, verdict, tableOn, tableAfter}
 use Rattle.verdicts.specs.declared.Counts.{Counts}
 use Rattle.verdicts.specs.declared.Verdict.the-variants as verdicts
 
@@ -189,6 +191,13 @@ module _ (tableSize : ℕ) (long : TABLE ≤ tableSize) (b : List ℕ) (bytes : 
   -- DEMAND 2: accepted with counts c exactly when there are contents with these very bytes that are so
   pub accepted-exactly : (verdict tableSize b ≡ verdicts.Accepted c) ↔ ((d : Contents) × AcceptedAs b c d)
   accepted-exactly = (verdict→, λ r. →verdict (r .0) (r .1))
+
+-- an accepted bundle leaves its log's rows in the table, zeros up to number 3,327, and the rest as it was
+pub accepted-table : (b t : List ℕ) → Bytes b → TABLE ≤ length t → (c : Counts) (d : Contents) → AcceptedAs b c d → tableAfter b t ≡ withRows (logRows (d .head .log)) (cleared TABLE t)
+unfolding tableAfter tableOn bytesOf
+accepted-table b t bytes long c d a =
+    let size : T (sizeFits b) = →size b (d .head) (flatMap certificateBytes (d .certificates)) (a .layout) (subst (λ (l : List ℕ). length l ≤ 64512) (sym (a .layout)) (a .limits .size)) in
+    rw (yes-true (sizeFits b) size, le-leb TABLE (length t) long, →judging b bytes d (acceptable a) (a .layout))
 
 -- a bundle has its fields once
 pub accepted-unique : (b : List ℕ) → Bytes b → (c₁ c₂ : Counts) (d₁ d₂ : Contents) → AcceptedAs b c₁ d₁ → AcceptedAs b c₂ d₂ → d₁ ≡ d₂

@@ -14,6 +14,7 @@
 //! - [`judging`], [`screening`]: judging and screening, by the definitions.
 //! - [`samples`]: the files in `samples/`.
 //! - [`vectors`]: cases with their answers, from a file.
+//! - [`programs`]: the programs, run as a person or a script runs them.
 //! - [`guarded`]: lent buffers with guards on both sides.
 //! - [`run`]: makes each call on both sides, compares, and counts.
 //!
@@ -22,7 +23,7 @@
 //! - `HOVMEKHAR_SEED`: the seed. Without it each test takes a fresh one from the
 //!   clock. A test prints its seed, and every failed comparison names it.
 //! - `HOVMEKHAR_CASES`: a multiplier for the number of cases, for long runs.
-//! - `HOVMEKHAR_BIN_DIR`: the directory of the program `judge`, an absolute path.
+//! - `HOVMEKHAR_BIN_DIR`: the directory of the programs, an absolute path.
 //!   Without it that is `target/bin` beside the Rust workspace.
 
 #![forbid(unsafe_code)]
@@ -39,6 +40,7 @@ pub mod limits;
 pub mod logs;
 pub mod nets;
 pub mod places;
+pub mod programs;
 pub mod rng;
 pub mod run;
 pub mod samples;

@@ -1,5 +1,6 @@
 //! The header and the static library, from C.
 
+use differential::samples::directory;
 use hovmekhar::Refusal;
 use std::path::{Path, PathBuf};
 use std::process::Command;
@@ -10,8 +11,8 @@ fn include_directory() -> PathBuf {
 }
 
 /// Compiles a program of `tests/c` with the C compiler that also links Rust
-/// programs, runs it, and returns what it printed.
-fn run(name: &str) -> String {
+/// programs.
+fn compile(name: &str) -> PathBuf {
     let source = Path::new(env!("CARGO_MANIFEST_DIR"))
         .join("tests/c")
         .join(name)
@@ -41,9 +42,21 @@ fn run(name: &str) -> String {
         String::from_utf8_lossy(&compiled.stderr)
     );
 
-    let done = Command::new(program).output().expect("the program runs");
-    assert!(done.status.success(), "{name} ended with {}", done.status);
-    String::from_utf8(done.stdout).expect("the program prints text")
+    program
+}
+
+/// Compiles a program, runs it, and returns what it printed.
+fn run(name: &str) -> String {
+    let (status, printed) = answer(Command::new(compile(name)));
+    assert_eq!(status, Some(0), "{name}");
+    printed
+}
+
+/// How a program ended, and what it printed to standard output.
+fn answer(mut program: Command) -> (Option<i32>, String) {
+    let done = program.output().expect("the program runs");
+    let printed = String::from_utf8(done.stdout).expect("the program prints text");
+    (done.status.code(), printed)
 }
 
 #[test]
@@ -183,4 +196,30 @@ fn header_and_crate_agree() {
     ] {
         assert!(has(&["#define", name, &size.to_string()]), "{name} {size}");
     }
+}
+
+/// The complete example that README.md names, on the sample files.
+#[test]
+fn gate() {
+    let program = compile("gate");
+    let ask = |file: &str, events: &[&str]| {
+        let mut gate = Command::new(&program);
+        gate.arg(directory().join(file)).args(events);
+        answer(gate)
+    };
+    let answers = |lines: &str| (Some(0), format!("accepted 5 4 5 1\n{lines}\n"));
+    assert_eq!(ask("a.sealed", &["0", "1"]), answers("permitted"));
+    assert_eq!(ask("a.sealed", &[]), answers("permitted"));
+    assert_eq!(ask("a.sealed", &["1", "0"]), answers("stopped 1 0"));
+    assert_eq!(ask("a.sealed", &["0", "0", "0"]), answers("stopped 2 1"));
+    let (status, printed) = ask("a.sealed", &["0", "2"]);
+    assert_eq!(status, Some(1));
+    assert_eq!(printed, "accepted 5 4 5 1\nrefused 15 1\n");
+    let refused = |line: &str| (Some(1), format!("{line}\n"));
+    assert_eq!(ask("damaged.sealed", &["0"]), refused("refused 2 0"));
+    assert_eq!(ask("f.sealed", &["0"]), refused("refused 6 3"));
+    for wrong in ["256", "-1", "x", ""] {
+        assert_eq!(ask("a.sealed", &[wrong]), (Some(2), String::new()));
+    }
+    assert_eq!(ask("missing", &[]), (Some(2), String::new()));
 }

@@ -1,62 +1,21 @@
 //! The program `judge`: what it prints for what it reads.
-//!
-//! It is taken from the directory that the environment variable
-//! `HOVMEKHAR_BIN_DIR` names, else from `target/bin` beside the Rust workspace.
 
 use differential::bundles::{SAMPLE_A, SAMPLE_E, SAMPLE_F, SAMPLE_G, SAMPLE_H};
 use differential::faults::BlockFault;
 use differential::files::build;
 use differential::limits::{LARGEST, MOST_WORDS};
 use differential::nets::small_certified;
+use differential::programs::{command, path, run_in_pieces, MAX_FILE};
 use differential::rng::Rng;
 use differential::run::{refusal, Run};
 use differential::{samples, vectors};
-use std::env;
 use std::fs::File;
-use std::io::{ErrorKind, Write};
-use std::path::{Path, PathBuf};
-use std::process::{Command, Stdio};
-
-const VARIABLE: &str = "HOVMEKHAR_BIN_DIR";
-
-/// The largest length of a sealed file.
-const MAX_FILE: usize = 65_536;
-
-fn program() -> PathBuf {
-    let directory = match env::var_os(VARIABLE) {
-        Some(directory) => PathBuf::from(directory),
-        None => Path::new(env!("CARGO_MANIFEST_DIR")).join("../../target/bin"),
-    };
-    let program = directory.join("judge");
-    assert!(
-        program.is_file(),
-        "The program {} is missing: build it with `rt check`, \
-         or set {VARIABLE} to the absolute path of the directory that holds judge.",
-        program.display()
-    );
-    program
-}
 
 /// Runs the program with this standard input, in pieces of this many bytes, and
 /// returns all that it printed.
 fn printed(input: &[u8], piece: usize) -> String {
-    let mut running = Command::new(program())
-        .stdin(Stdio::piped())
-        .stdout(Stdio::piped())
-        .spawn()
-        .expect("the program starts");
-    let mut pipe = running.stdin.take().expect("a pipe");
-    for piece in input.chunks(piece) {
-        match pipe.write_all(piece) {
-            // It need not read more than the longest file and a byte.
-            Err(error) if error.kind() == ErrorKind::BrokenPipe => break,
-            result => result.expect("the program reads"),
-        }
-    }
-    drop(pipe);
-    let done = running.wait_with_output().expect("the program ends");
-    assert!(done.status.code().is_some(), "ended by {}", done.status);
-    String::from_utf8(done.stdout).expect("the program prints text")
+    let done = run_in_pieces::<&str>("judge", &[], input, piece);
+    String::from_utf8(done.output).expect("the program prints text")
 }
 
 /// Checks that the program prints exactly this line.
@@ -66,7 +25,7 @@ fn expect(input: &[u8], line: &str) {
 
 #[test]
 fn the_program_is_there() {
-    program();
+    path("judge");
 }
 
 #[test]
@@ -125,7 +84,7 @@ fn longer_than_the_longest_file() {
 #[test]
 fn failed_read() {
     let directory = File::open(env!("CARGO_MANIFEST_DIR")).expect("the directory opens");
-    let done = Command::new(program())
+    let done = command::<&str>("judge", &[])
         .stdin(directory)
         .output()
         .expect("the program ends");

@@ -6,10 +6,12 @@ use borrow.Author.Needs.{needs}
 use denote.Ref.{now}
 use lib.ListN.{length, take}
 use lib.Seq.{length-take-le}
-use Rattle.refusals.specs.Laws.{answer-within}
+use Rattle.refusals.specs.Laws.{answer-within, answer-taken}
+use Rattle.block.specs.File.{opened}
+use Rattle.block.specs.Rooms.{open-refused}
 use Rattle.logs.specs.Answers.{TABLE}
 use Rattle.verdicts.specs.Judging.{verdict}
-use Rattle.judge.specs.Inputs.{file-refused, file-judged}
+use Rattle.judge.specs.Files.{fileVerdict}
 use Rattle.judge.proofs.judge_file.Statement.{statement}
 use Rattle.judge.proofs.judge_file.Tie as tie
 
@@ -30,19 +32,20 @@ room : (c : tie.After-open) → 64512 ≤ length (c .before .before .large-buffe
 room c = let size : length (c .before .before .large-buffer .result) ≡ 65536 = search needs in omega arith
 
 returns : tie.Need-returns
+unfolding fileVerdict
 returns c =
     let told = c .before in
     let call = told .before .before .before in
-    sym (file-refused (now (call .before .before .before .before .args .file)) (call .before .before .large-buffer .result) (room call) (told .refusal .given .0 .0) (sym (call .«open» .ensures .0) ∙ told .refusal .given .1))
+    sym (ap fileVerdict (open-refused (now (call .before .before .before .before .args .file)) _ (room call) (told .refusal .given .0 .0) (sym (call .«open» .ensures .0) ∙ told .refusal .given .1)))
 
 returns-2 : tie.Need-returns-2
+unfolding fileVerdict
 returns-2 c =
     let told = c .before .before .before .before .before in
     let call = told .before .before .before in
     let n = told .n .given .0 .0 in
-    c .before .judge .ensures .0
-    ∙ ap (verdict TABLE) (ap (take n) (call .«open» .ensures .1))
-    ∙ sym (file-judged (now (call .before .before .before .before .args .file)) (call .before .before .large-buffer .result) (room call) n (sym (call .«open» .ensures .0) ∙ told .n .given .1))
+    let got = answer-taken (opened (now (call .before .before .before .before .args .file))) (call .before .before .large-buffer .result) n (sym (call .«open» .ensures .0) ∙ told .n .given .1) in
+    c .before .judge .ensures .0 ∙ ap (verdict TABLE) (ap (take n) (call .«open» .ensures .1)) ∙ sym (ap fileVerdict got)
 
 pub judge-file-spec : {M : Type 1} → statement M
 judge-file-spec =
