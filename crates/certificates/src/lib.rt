@@ -9,17 +9,24 @@ use logs::rows::ROW;
 use nets::COUNTS;
 use nets::has_bit;
 use refusals::Refusal;
+use slices::byte_at;
+use slices::number_at;
 ghost use mathlib.Core.Path.{_≡_};
+ghost use mathlib.Core.Bool.{cond};
 ghost use Prim.Native.Nat.{ℕ, _+_, _*_, _≤_, _<_};
 ghost use lib.ListN.{length, drop};
 ghost use Rattle.nets.specs.Nets.{at, same};
 ghost use Rattle.nets.specs.Machine.{COUNTS};
 ghost use Rattle.bundles.specs.Reading.{times};
 ghost use Rattle.bundles.specs.Readers.{term, weights};
+ghost use Rattle.bundles.specs.TermSteps.{termReadOf};
 ghost use Rattle.logs.specs.Rows.{ROW, rowAt, rowsOf};
 ghost use Rattle.certificates.specs.Terms.{rowOf, holdsRows, weighedBy};
-ghost use Rattle.certificates.specs.TermSums.{TermsAre, judgedAs};
-ghost use Rattle.certificates.specs.Totals.{MOST, NUMBER, added, noSums, withTerm, Small, sumsHold};
+ghost use Rattle.certificates.specs.TermSums.{weighedTerms};
+ghost use Rattle.certificates.specs.Totals.{NUMBER, addedWeight, added, sumsHold};
+
+// The largest two-byte number.
+const NUMBER: u32 = 65535;
 
 // Weights that were read: they hold or fail, with the offset behind them; or a refusal.
 pub enum Weighed {
@@ -28,23 +35,15 @@ pub enum Weighed {
     Refused(Refusal),
 }
 
-// Sums over terms: of the weights g; for each event i, of g × u(i) and of g × (u(i) + [f = i]); and whether each step (u, f) is allowed.
-struct Sums {
-    total: u64,
-    before: [u64; 12],
-    after: [u64; 12],
-    allowed: bool,
-}
-
 // A two-byte number, widened.
-fn wide(number: u16) -> u64
+fn wide(number: u16) -> u32
     ensures { λ r. ⌜ (r ≡ number) × (r ≤ NUMBER) ⌝ }
 {
-    number as u64
+    number as u32
 }
 
 // [a = b]: 1 if true, else 0.
-fn one_if_same(a: usize, b: usize) -> u64
+fn one_if_same(a: usize, b: usize) -> u32
     ensures { λ r. ⌜ (r ≡ same a b) × (r ≤ 1) ⌝ }
 {
     if a == b {
@@ -53,8 +52,8 @@ fn one_if_same(a: usize, b: usize) -> u64
     0
 }
 
-// The counts of a row.
-fn counts_of(table: &[u16], row: usize) -> &[u16]
+// The counts of a row. (Inner function.)
+pub fn counts_of(table: &[u16], row: usize) -> &[u16]
     requires { ⌜ ROW * row + ROW ≤ length (now table) ⌝ }
     ensures { λ r. ⌜ (now r ≡ rowAt (drop (ROW * row) (now (table .entry))) .counts) × (length (now r) ≡ COUNTS) ⌝ }
 {
@@ -63,130 +62,110 @@ fn counts_of(table: &[u16], row: usize) -> &[u16]
     &table[start..end]
 }
 
-// The sums with weight × count added at each event.
-fn with_counts(sums: [u64; 12], counts: &[u16], weight: u64) -> [u64; 12]
-    requires { ⌜ (COUNTS ≤ length (now counts)) × (weight ≤ NUMBER) × ((i : ℕ) → at sums i ≤ MOST) ⌝ }
-    ensures { λ r. ⌜ r ≡ added weight (at (now (counts .entry))) sums ⌝ }
+// A weight as it is added to the sums: 0 once all weights sum up to more than two bytes. The certificate fails then, and the sums stay in 32 bits.
+fn added_weight(total: u32, weight: u32) -> u32
+    ensures { λ r. ⌜ r ≡ addedWeight total weight ⌝ }
 {
-    let mut next = sums;
+    if total <= NUMBER {
+        return weight;
+    }
+    0
+}
+
+// Adds weight × count at each event.
+fn add_counts(sums: &mut [u32], counts: &[u16], weight: u32)
+    requires { ⌜ (length (now sums) ≡ COUNTS) × (COUNTS ≤ length (now counts)) × ((i : ℕ) → at (now sums) i + weight * at (now counts) i ≤ NUMBER * NUMBER) ⌝ }
+    ensures { λ _. ⌜ now (sums .exit) ≡ added weight (at (now (counts .entry))) (now (sums .entry)) ⌝ }
+{
     let mut i = 0;
     while i < COUNTS {
-        next[i] = sums[i] + weight * wide(counts[i]);
+        sums[i] = sums[i] + weight * wide(counts[i]);
         i += 1;
     }
-    next
 }
 
-// The sums of no terms.
-fn no_sums() -> Sums
-    ensures { λ r. ⌜ r ≡ noSums ⌝ }
+// Whether the last two inequalities hold for the event after the counts. At each event i, `before` sums g × u(i), and `of_event` g where f = i.
+// One chain of tests for both: then the compiler keeps the sums in vectors, also while terms are added.
+fn sums_hold(before: &[u32; 12], of_event: &[u32; 12], k: u32, counts: &[u16], event: usize) -> bool
+    requires { ⌜ (COUNTS ≤ length (now counts)) × (k ≤ NUMBER) × ((i : ℕ) → at (now before) i ≤ NUMBER * NUMBER) × ((i : ℕ) → at (now «of_event») i ≤ NUMBER) ⌝ }
+    ensures { λ r. ⌜ r ≡ sumsHold (now (before .entry)) (now («of_event» .entry)) (now (counts .entry)) event k ⌝ }
 {
-    let none = [0u64; 12];
-    Sums {
-        total: 0,
-        before: none,
-        after: none,
-        allowed: true,
-    }
-}
-
-// The sums with one term more.
-fn with_term(sums: Sums, table: &[u16], term: Term) -> Sums
-    requires { ⌜ (ROW * term .row + ROW ≤ length (now table)) × (term .event < COUNTS) × (term .weight ≤ NUMBER) × Small sums ⌝ }
-    ensures { λ r. ⌜ r ≡ withTerm (rowAt (drop (ROW * term .row) (now (table .entry)))) (term .event) (term .weight) sums ⌝ }
-{
-    let row = term.row;
-    let event = term.event;
-    let weight = term.weight as u64;
-    let counts = counts_of(table, row);
-    let old_before = sums.before;
-    let old_after = sums.after;
-    let before = with_counts(old_before, counts, weight);
-    let mut after = with_counts(old_after, counts, weight);
-    after[event] = after[event] + weight;
-    let mask = table[ROW * row + COUNTS];
-    Sums {
-        total: sums.total + weight,
-        before,
-        after,
-        allowed: sums.allowed & has_bit(mask, event),
-    }
-}
-
-// Whether the sums hold for the event after the counts.
-fn sums_hold(sums: Sums, k: u64, counts: &[u16], event: usize) -> bool
-    requires { ⌜ (COUNTS ≤ length (now counts)) × (k ≤ NUMBER) ⌝ }
-    ensures { λ r. ⌜ r ≡ sumsHold sums (now (counts .entry)) event k ⌝ }
-{
-    let sum_before = sums.before;
-    let sum_after = sums.after;
-    let mut before = true;
-    let mut after = true;
+    let mut hold = true;
     let mut i = 0;
     while i < COUNTS {
         let count = wide(counts[i]);
-        before = before & (sum_before[i] <= k * count);
-        after = after & (k * (count + one_if_same(event, i)) <= sum_after[i]);
+        let sum = before[i];
+        hold = hold
+            & ((sum <= k * count) & (k * (count + one_if_same(event, i)) <= sum + of_event[i]));
         i += 1;
     }
-    sums.allowed & (sums.total <= k) & before & after
+    hold
 }
 
-// What reading the terms of a certificate gives: how many they are and the offset behind them, or a refusal; and their sums.
-struct TermsRead {
-    status: Field,
-    sums: Sums,
+// The term at an offset, as `read_term` reads it, but faster where it is there and in range: its five bytes are tested for at once.
+fn next_term(bundle: &[u8], at: usize, n: usize, rows: usize) -> TermRead
+    ensures { λ r. ⌜ termReadOf r ≡ term n rows (now (bundle .entry)) at ⌝ }
+{
+    if 5 <= bundle.len() && at <= bundle.len() - 5 {
+        let row = number_at(bundle, at);
+        let event = byte_at(bundle, at + 2);
+        let weight = number_at(bundle, at + 3);
+        if row < rows && event < n {
+            return TermRead::Read(Term { row, event, weight }, at + 5);
+        }
+    }
+    read_term(bundle, at, n, rows)
 }
 
-// Reads so many terms at an offset and adds them up.
-fn read_terms(
+// Weights that were read up to an offset, by whether they hold.
+fn judged(holds: bool, next: usize) -> Weighed
+    ensures { λ r. ⌜ r ≡ cond holds (Weighed.Holds next) (Weighed.Fails next) ⌝ }
+{
+    if holds {
+        return Weighed::Holds(next);
+    }
+    Weighed::Fails(next)
+}
+
+// Reads so many terms at an offset, adds them up, and says whether they hold with k for the event after the counts of a row.
+fn weigh_terms(
     bundle: &[u8],
     at: usize,
     count: usize,
     n: usize,
     table: &[u16],
     rows: usize,
-) -> TermsRead
-    requires { ⌜ (count ≤ 64) × (n ≤ COUNTS) × (rows ≤ 256) × (ROW * rows ≤ length (now table)) ⌝ }
-    ensures { λ r. ⌜ TermsAre (rowsOf rows (now (table .entry))) (times count (term n rows) (now (bundle .entry)) at) (r .status) (r .sums) ⌝ }
+    row: usize,
+    event: usize,
+    k: u32,
+) -> Weighed
+    requires { ⌜ (count ≤ 64) × (n ≤ COUNTS) × (rows ≤ 256) × (ROW * rows ≤ length (now table)) × (row < rows) × (k ≤ NUMBER) ⌝ }
+    ensures { λ r. ⌜ r ≡ weighedTerms (holdsRows (rowsOf rows (now (table .entry))) (rowOf (rowsOf rows (now (table .entry))) row .counts) event k) (times count (term n rows) (now (bundle .entry)) at) ⌝ }
 {
-    let mut sums = no_sums();
+    let mut before = [0u32; 12];
+    let mut of_event = [0u32; 12];
+    let mut total = 0u32;
+    let mut allowed = true;
     let mut next = at;
     let mut left = count;
     while 0 < left {
-        match read_term(bundle, next, n, rows) {
-            TermRead::Refused(refusal) => {
-                let status = Field::Refused(refusal);
-                return TermsRead { status, sums };
-            }
+        match next_term(bundle, next, n, rows) {
+            TermRead::Refused(refusal) => return Weighed::Refused(refusal),
             TermRead::Read(term, after) => {
-                let more = with_term(sums, table, term);
-                sums = more;
+                let from = term.row;
+                let by = term.event;
+                total += term.weight as u32;
+                let weight = added_weight(total, term.weight as u32);
+                add_counts(&mut before, counts_of(table, from), weight);
+                of_event[by] = of_event[by] + weight;
+                allowed = allowed & has_bit(table[ROW * from + COUNTS], by);
                 next = after;
                 left -= 1;
             }
         }
     }
-    let status = Field::Value(count, next);
-    TermsRead { status, sums }
-}
-
-// Whether terms that were read hold with k, for the event after the counts.
-fn judged(read: TermsRead, k: u64, counts: &[u16], event: usize) -> Weighed
-    requires { ⌜ (COUNTS ≤ length (now counts)) × (k ≤ NUMBER) ⌝ }
-    ensures { λ r. ⌜ r ≡ judgedAs (read .status) (sumsHold (read .sums) (now (counts .entry)) event k) ⌝ }
-{
-    let status = read.status;
-    match status {
-        Field::Refused(refusal) => Weighed::Refused(refusal),
-        Field::Value(_, next) => {
-            let sums = read.sums;
-            if sums_hold(sums, k, counts, event) {
-                return Weighed::Holds(next);
-            }
-            Weighed::Fails(next)
-        }
-    }
+    let holds = sums_hold(&before, &of_event, k, counts_of(table, row), event);
+    judged(allowed & (total <= k) & holds, next)
 }
 
 // Reads k, the term count and the terms of a certificate, and says whether its weights hold for the event after the counts of a row.
@@ -208,8 +187,7 @@ pub fn read_weights(
         Field::Value(k, second) => match byte_up_to(bundle, second, 64) {
             Field::Refused(refusal) => Weighed::Refused(refusal),
             Field::Value(count, third) => {
-                let read = read_terms(bundle, third, count, n, table, rows);
-                judged(read, k as u64, counts_of(table, row), event)
+                weigh_terms(bundle, third, count, n, table, rows, row, event, k as u32)
             }
         },
     }

@@ -179,11 +179,11 @@ module _ {h : Head} {b : List ℕ} {at i e : ℕ} {s : Progress} (l : PassedTo h
       more f c = ap (λ (cs : List Certificate). length (keep f cs)) (map-append (toCertificate h) (l .before) (c ∷ [])) ∙ keep-last f (map (toCertificate h) (l .before)) (toCertificate h c)
 
       -- a wrong continuation has the next certificate
-      pub passed-place : {r : Checked} {after : ℕ} → r ≡ checked.ByPlace after → r ≡ checkedOf (solved h (stepOf h i e) (l .before) b (s .next))
+      passed-place : {after : ℕ} → checked.ByPlace after ≡ checkedOf (solved h (stepOf h i e) (l .before) b (s .next))
           → PassedTo h b at i (e + 1) (record { allowed = s .allowed; «by_place» = s .«by_place» + 1; «by_weights» = s .«by_weights»; next = after })
       unfolding keep toCertificate isByPlace
-      passed-place {r} {after} known q =
-          let c = checked-place _ after (sym known ∙ q) in
+      passed-place {after} q =
+          let c = checked-place _ after q in
           record {
             before = l .before ++ kind0 (c .0) ∷ [];
             left = left-next one-more (c .1);
@@ -193,11 +193,11 @@ module _ {h : Head} {b : List ℕ} {at i e : ℕ} {s : Progress} (l : PassedTo h
             size = omega (arith, l .size, length-append (l .before) (kind0 (c .0) ∷ []));
           }
 
-      pub passed-weights : {r : Checked} {after : ℕ} → r ≡ checked.ByWeights after → r ≡ checkedOf (solved h (stepOf h i e) (l .before) b (s .next))
+      passed-weights : {after : ℕ} → checked.ByWeights after ≡ checkedOf (solved h (stepOf h i e) (l .before) b (s .next))
           → PassedTo h b at i (e + 1) (record { allowed = s .allowed; «by_place» = s .«by_place»; «by_weights» = s .«by_weights» + 1; next = after })
       unfolding keep toCertificate isByPlace
-      passed-weights {r} {after} known q =
-          let c = checked-weights _ after (sym known ∙ q) in
+      passed-weights {after} q =
+          let c = checked-weights _ after q in
           record {
             before = l .before ++ kind1 (c .0) (c .1) ∷ [];
             left = left-next one-more (c .2);
@@ -207,11 +207,17 @@ module _ {h : Head} {b : List ℕ} {at i e : ℕ} {s : Progress} (l : PassedTo h
             size = omega (arith, l .size, length-append (l .before) (kind1 (c .0) (c .1) ∷ []));
           }
 
-      pub passed-refused : {r : Checked} {refused spot : ℕ} → r ≡ checked.Refused (refusal refused spot) → r ≡ checkedOf (solved h (stepOf h i e) (l .before) b (s .next))
+      passed-refused : {refused spot : ℕ} → checked.Refused (refusal refused spot) ≡ checkedOf (solved h (stepOf h i e) (l .before) b (s .next))
           → each (solved h) (wrongContinuations (h .events) (h .log)) [] b at ≡ failed refused spot
-      passed-refused {r} {refused} {spot} known q = left-failed one-more (checked-refused _ refused spot (sym known ∙ q))
+      passed-refused {refused} {spot} q = left-failed one-more (checked-refused _ refused spot q)
 
 -- ---- the answer of a step, and of a row
+
+-- the progress behind one more certificate, or its refusal
+unfoldable pub withCertificate : Progress → Checked → Advanced
+withCertificate s (checked.ByPlace after) = advanced.To (record { allowed = s .allowed; «by_place» = s .«by_place» + 1; «by_weights» = s .«by_weights»; next = after })
+withCertificate s (checked.ByWeights after) = advanced.To (record { allowed = s .allowed; «by_place» = s .«by_place»; «by_weights» = s .«by_weights» + 1; next = after })
+withCertificate s (checked.Refused r) = advanced.Refused r
 
 -- passing the steps from event e after row i to event e′ after row i′, for every head that b and t hold
 unfoldable pub Passes : List ℕ → List ℕ → ℕ → Places → ℕ → ℕ → ℕ → ℕ → ℕ → Progress → Advanced → Type 0
@@ -229,6 +235,19 @@ module _ {b t : List ℕ} {n : ℕ} {ps : Places} {rowCount : ℕ} where
   pub outcome-start : {i e : ℕ} {s : Progress} → counted s ≤ 12 * i + e → Outcome b t n ps rowCount i e i e s (advanced.To s)
   unfolding Passes
   outcome-start few = record { told = (few, λ h held at l. l) }
+
+  -- the step of a wrong continuation, by the answer for its certificate
+  pub outcome-certificate : {i e : ℕ} {s : Progress} → counted s ≤ 12 * i + e → (r : Checked)
+      → ((h : Head) → HeadHeld b t n ps rowCount h → (i < length (rows (h .events) (h .log))) × (e < h .events) × (allowed (h .events) (h .log) (stepOf h i e) ≡ false)
+      × ((before : List CertificateFields) → length before ≡ s .«by_place» + s .«by_weights» → r ≡ checkedOf (solved h (stepOf h i e) before b (s .next))))
+      → Outcome b t n ps rowCount i e i (e + 1) s (withCertificate s r)
+  unfolding Passes withCertificate
+  outcome-certificate few (checked.ByPlace after) facts =
+      record { told = (omega (arith, few), λ h held at l. let f = facts h held in passed-place l (f .0) (f .1) (f .2) (f .3 (l .before) (l .size))) }
+  outcome-certificate few (checked.ByWeights after) facts =
+      record { told = (omega (arith, few), λ h held at l. let f = facts h held in passed-weights l (f .0) (f .1) (f .2) (f .3 (l .before) (l .size))) }
+  outcome-certificate few (checked.Refused r) facts =
+      record { told = λ h held at l. let f = facts h held in passed-refused l (f .0) (f .1) (f .2) (f .3 (l .before) (l .size)) }
 
   -- one answer after another
   pub outcome-then : {i e i₁ e₁ i₂ e₂ : ℕ} {s s₁ : Progress} (r : Advanced) → Outcome b t n ps rowCount i e i₁ e₁ s (advanced.To s₁) → Outcome b t n ps rowCount i₁ e₁ i₂ e₂ s₁ r → Outcome b t n ps rowCount i e i₂ e₂ s r

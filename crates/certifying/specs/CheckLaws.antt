@@ -6,19 +6,20 @@ use Prim.Native.Nat.{ℕ, zero, suc, _+_, _-_, _*_, _≤_, _<_}
 use native.Mathlib.Nat.{not-suc-le-zero, le-of-suc-le-suc}
 use native.Mathlib.Omega.{arith}
 use borrow.Author.Tests.{ltb-true}
+use lib.IntN.{ℤ, pos, _-ℤ_}
 use lib.ListN.{length, getD, drop}
 use lib.Seq.{getD-drop}
-use Rattle.laws.specs.Lists.{getD-member}
+use lib.Signed.{nonNeg}
+use Rattle.laws.specs.Parts.{getD-padded}
 use Rattle.laws.specs.Bits.{bit}
 use Rattle.laws.specs.Numbers.{Bytes}
 use Rattle.refusals.specs.Table.{PLACE-PERMITS, WEIGHTS}
 use Rattle.refusals.specs.Answers.{refusal}
-use Rattle.nets.specs.Nets.{Place, Step, Counts, rows, allowed, placePermits, refusedBy, weightsHold, solves}
-use Rattle.nets.specs.CountLaws.{length-counts}
+use Rattle.nets.specs.Nets.{Place, Step, Counts, rows, allowed, surplus, placePermits, refusedBy, weightsHold, solves}
 use Rattle.nets.specs.Fits.{LogBelow}
-use Rattle.nets.specs.Machine.{COUNTS, placeOf}
-use Rattle.nets.specs.Rows.{row→}
-use Rattle.nets.specs.Wide.{wide, permits-wide}
+use Rattle.nets.specs.Machine.{COUNTS}
+use Rattle.nets.specs.Surplus.{tokens-row}
+use Rattle.nets.specs.Wide.{wide}
 use Rattle.bundles.specs.Reading.{Read, got, failed, andThen, give, require, byte, number}
 use Rattle.bundles.specs.Layout.{PlaceFields, TermFields, CertificateFields, kind0, kind1, Head, CertificateInLimits, toPlace, toNet, toTerm, toCertificate}
 use Rattle.bundles.specs.LayoutLaws.{law-certificate}
@@ -26,7 +27,7 @@ use Rattle.bundles.specs.Readers.{weights, ofKind, certificate}
 use Rattle.bundles.specs.FieldSteps.{upTo, below, byte-got}
 use Rattle.bundles.specs.ReadingLaws.{andThen-got}
 use Rattle.bundles.specs.NumberSteps.{items-length, getD-items}
-use Rattle.bundles.specs.PlaceSteps.{placeSize, fieldsAt, machinePlace, place-means}
+use Rattle.bundles.specs.PlaceSteps.{placeSize, fieldsAt}
 use Rattle.bundles.specs.declared.Places.{Places}
 use Rattle.logs.specs.Rows.{ROW, Row, rowAt, rowsOf, newRow, none}
 use Rattle.logs.specs.Flat.{rows-at}
@@ -36,7 +37,7 @@ use Rattle.certificates.specs.declared.Weighed.{Weighed}
 use Rattle.certificates.specs.declared.Weighed.the-variants as weighed
 use Rattle.certificates.specs.Terms.{rowOf, holdsRows, weighedBy}
 use Rattle.certificates.specs.TermLaws.{row-counts, row-mask, holds-is}
-use Rattle.certifying.specs.Certifying.{HeadHeld, stepOf, checkedOf, permitsAt, placeChecked, weightsChecked}
+use Rattle.certifying.specs.Certifying.{HeadHeld, stepOf, checkedOf, placeOn, permitsAt, placeChecked, weightsChecked}
 use Rattle.certifying.specs.declared.Checked.{Checked}
 use Rattle.certifying.specs.declared.Checked.the-variants as checked
 
@@ -95,11 +96,6 @@ module _ {b t : List ℕ} {n : ℕ} {ps : Places} {rowCount : ℕ} {h : Head} (h
     counts-held : rowAt (drop (ROW * i) t) .counts ≡ wide (COUNTS - h .events) (getD (rows (h .events) (h .log)) i [])
     counts-held = ap (λ (r : Row). r .counts) row-held ∙ row-counts (h .events) (COUNTS - h .events) (h .log) width log-below i (omega (arith, row-count))
 
-    counts-size : length (getD (rows (h .events) (h .log)) i []) ≡ h .events
-    counts-size =
-        let from = row→ (h .events) (h .log) (getD-member (rows (h .events) (h .log)) i [] (omega (arith, row-count))) in
-        ap length (sym (from .2)) ∙ length-counts (h .events) (from .0)
-
     module _ (e : ℕ) (event : e < n) where
       -- the bit of an event says whether the step is allowed
       pub mask-held : bit (getD t (ROW * i + COUNTS) 0) e ≡ allowed (h .events) (h .log) (stepOf h i e)
@@ -110,10 +106,12 @@ module _ {b t : List ℕ} {n : ℕ} {ps : Places} {rowCount : ℕ} {h : Head} (h
           ∙ row-mask (h .events) (COUNTS - h .events) (h .log) width log-below i (omega (arith, row-count)) e (omega (arith, held .events))
 
       -- a place permits the step exactly when it does with twelve counts
-      permits-held : (p : Place) → placePermits COUNTS p (record { row = rowAt (drop (ROW * i) t) .counts; event = e }) ≡ placePermits (h .events) p (stepOf h i e)
+      permits-held : (p : Place) → placePermits n p (record { row = rowAt (drop (ROW * i) t) .counts; event = e }) ≡ placePermits (h .events) p (stepOf h i e)
+      unfolding placePermits surplus
       permits-held p =
-          ap₂ (λ (c : ℕ) (v : Counts). placePermits c p (record { row = v; event = e })) (sym width) counts-held
-          ∙ permits-wide (h .events) (COUNTS - h .events) p (getD (rows (h .events) (h .log)) i []) e counts-size
+          ap₂ (λ (c : ℕ) (v : Counts). placePermits c p (record { row = v; event = e })) (sym (held .events)) counts-held
+          ∙ ap (λ (z : ℤ). nonNeg (z -ℤ pos (p .consumed e)))
+          (tokens-row (h .events) p (wide (COUNTS - h .events) (getD (rows (h .events) (h .log)) i [])) (getD (rows (h .events) (h .log)) i []) (λ j _. getD-padded (getD (rows (h .events) (h .log)) i []) (COUNTS - h .events) j 0))
 
       -- place j, read from its bytes, decides whether place j of the net refuses the step
       place-refuses : (j : ℕ) → j < ps .count → refusedBy (h .events) (toNet h) j (stepOf h i e) ≡ not (permitsAt n b (ps .first) (rowAt (drop (ROW * i) t) .counts) e j)
@@ -121,9 +119,7 @@ module _ {b t : List ℕ} {n : ℕ} {ps : Places} {rowCount : ℕ} {h : Head} (h
       place-refuses j listed =
           refused-fields (h .events) (h .places) j (stepOf h i e) (omega (arith, place-count)) (fieldsAt n b (ps .first + 2 * (j * placeSize n)))
           (λ d. ap (λ (l : List PlaceFields). getD l j d) (held .places) ∙ getD-items (placeSize n) (fieldsAt n) (ps .count) b (ps .first) j d listed)
-          ∙ ap not
-          (ap (λ (p : Place). placePermits (h .events) p (stepOf h i e)) (sym (place-means (fieldsAt n b (ps .first + 2 * (j * placeSize n)))))
-          ∙ sym (permits-held (placeOf (machinePlace (fieldsAt n b (ps .first + 2 * (j * placeSize n)))))))
+          ∙ ap not (sym (permits-held (placeOn n b (ps .first + 2 * (j * placeSize n)))))
 
       module _ (before : List CertificateFields) (number : ℕ) (size : length before ≡ number) (at : ℕ) where
         -- no kind

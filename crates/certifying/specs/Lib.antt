@@ -1,4 +1,5 @@
 pub mod Certifying
+pub mod PlaceTests
 pub mod CheckLaws
 pub mod Continuations
 pub mod CertificateSteps

@@ -3,30 +3,31 @@ use bundles::Field;
 use bundles::Places;
 use bundles::byte_below;
 use bundles::byte_up_to;
-use bundles::place_at;
 use certificates::Weighed;
+use certificates::counts_of;
 use certificates::read_weights;
 use logs::rows::ROW;
 use nets::COUNTS;
+use nets::covers;
 use nets::has_bit;
-use nets::permits;
 use refusals::PLACE_PERMITS;
 use refusals::Refusal;
 use refusals::WEIGHTS;
+use slices::number_at;
 use verdicts::Counts;
 ghost use mathlib.Core.Path.{_≡_};
 ghost use mathlib.Core.List.{List, []};
 ghost use Prim.Native.Nat.{_+_, _*_, _≤_, _<_};
 ghost use lib.ListN.{length, drop};
-ghost use Rattle.nets.specs.Nets.{wrongContinuations};
+ghost use Rattle.nets.specs.Nets.{placePermits, wrongContinuations};
 ghost use Rattle.bundles.specs.Reading.{byte, each};
 ghost use Rattle.bundles.specs.Layout.{CertificateFields, Head};
 ghost use Rattle.bundles.specs.FieldSteps.{below};
 ghost use Rattle.bundles.specs.PlaceSteps.{placeSize};
 ghost use Rattle.logs.specs.Rows.{ROW, rowAt};
 ghost use Rattle.verdicts.specs.Judging.{solved};
-ghost use Rattle.certifying.specs.Certifying.{HeadHeld, certifiedOf, stepOf, checkedOf, permitsAt, placeChecked, weightsChecked};
-ghost use Rattle.certifying.specs.CertificateSteps.{counted, Outcome};
+ghost use Rattle.certifying.specs.Certifying.{HeadHeld, certifiedOf, stepOf, checkedOf, placeOn, permitsAt, placeChecked, weightsChecked};
+ghost use Rattle.certifying.specs.CertificateSteps.{counted, withCertificate, Outcome};
 
 // The certificates of a bundle: the four counts and the offset behind the last, or a refusal.
 pub enum Certified {
@@ -39,6 +40,34 @@ enum Checked {
     ByPlace(usize),
     ByWeights(usize),
     Refused(Refusal),
+}
+
+// A count, widened.
+fn wide(count: u16) -> usize
+    ensures { λ r. ⌜ (r ≡ count) × (r ≤ 65535) ⌝ }
+{
+    count as usize
+}
+
+// Whether the place at an offset permits the event after the counts. Straight from the bytes, since building a place costs more than this one
+// test of it.
+fn place_permits(bundle: &[u8], at: usize, n: usize, counts: &[u16], event: usize) -> bool
+    requires { ⌜ (n ≤ 12) × (event < n) × (at + 2 * placeSize n ≤ length (now bundle)) × (n ≤ length (now counts)) ⌝ }
+    ensures { λ r. ⌜ r ≡ placePermits n (placeOn n (now (bundle .entry)) at) (record { row = now (counts .entry); event = event }) ⌝ }
+{
+    let produced = at + 2;
+    let consumed = produced + 2 * n;
+    let mut given = number_at(bundle, at);
+    let mut taken = 0;
+    let mut i = 0;
+    while i < n {
+        let count = wide(counts[i]);
+        given += count * number_at(bundle, produced + 2 * i);
+        taken += count * number_at(bundle, consumed + 2 * i);
+        i += 1;
+    }
+    let tokens = given as i64 - taken as i64;
+    covers(tokens, number_at(bundle, consumed + 2 * event) as u16)
 }
 
 // Reads a place's number, and tests that the place refuses the event after the counts of a row.
@@ -58,10 +87,8 @@ fn check_place(
     match byte_below(bundle, at, places.count) {
         Field::Refused(refusal) => Checked::Refused(refusal),
         Field::Value(j, next) => {
-            let place = place_at(bundle, places.first + 2 * (j * (1 + 2 * n)), n);
-            let start = ROW * row;
-            let end = start + COUNTS;
-            if permits(place, &table[start..end], event) {
+            let place = places.first + 2 * (j * (1 + 2 * n));
+            if place_permits(bundle, place, n, counts_of(table, row), event) {
                 return Checked::Refused(Refusal {
                     number: PLACE_PERMITS,
                     spot: number,
@@ -126,6 +153,27 @@ enum Advanced {
     Refused(Refusal),
 }
 
+// The progress behind one more certificate, or its refusal.
+fn with_certificate(before: Progress, checked: Checked) -> Advanced
+    requires { ⌜ counted before ≤ 12 * 256 ⌝ }
+    ensures { λ r. ⌜ r ≡ withCertificate before checked ⌝ }
+{
+    let mut after = before;
+    match checked {
+        Checked::Refused(refusal) => Advanced::Refused(refusal),
+        Checked::ByPlace(next) => {
+            after.by_place += 1;
+            after.next = next;
+            Advanced::To(after)
+        }
+        Checked::ByWeights(next) => {
+            after.by_weights += 1;
+            after.next = next;
+            Advanced::To(after)
+        }
+    }
+}
+
 // Passes one step: an allowed one is counted, a wrong continuation has a certificate.
 fn certify_step(
     bundle: &[u8],
@@ -140,34 +188,15 @@ fn certify_step(
     requires { ⌜ (n ≤ 12) × (event < n) × (places .count ≤ 64) × (places .first + 2 * (places .count * placeSize n) ≤ length (now bundle)) × (rows ≤ 256) × (ROW * rows ≤ length (now table)) × (row < rows) × (counted before ≤ 12 * row + event) ⌝ }
     ensures { λ r. ⌜ Outcome (now (bundle .entry)) (now (table .entry)) n places rows row event row (event + 1) before r ⌝ }
 {
-    let allowed = before.allowed;
-    let by_place = before.by_place;
-    let by_weights = before.by_weights;
-    let next = before.next;
     if has_bit(table[ROW * row + COUNTS], event) {
-        return Advanced::To(Progress {
-            allowed: allowed + 1,
-            by_place,
-            by_weights,
-            next,
-        });
+        let mut after = before;
+        after.allowed += 1;
+        return Advanced::To(after);
     }
-    let number = by_place + by_weights;
-    match check_certificate(bundle, next, n, places, table, rows, row, event, number) {
-        Checked::Refused(refusal) => Advanced::Refused(refusal),
-        Checked::ByPlace(after) => Advanced::To(Progress {
-            allowed,
-            by_place: by_place + 1,
-            by_weights,
-            next: after,
-        }),
-        Checked::ByWeights(after) => Advanced::To(Progress {
-            allowed,
-            by_place,
-            by_weights: by_weights + 1,
-            next: after,
-        }),
-    }
+    let next = before.next;
+    let number = before.by_place + before.by_weights;
+    let checked = check_certificate(bundle, next, n, places, table, rows, row, event, number);
+    with_certificate(before, checked)
 }
 
 // Passes the steps of a row.

@@ -2,7 +2,7 @@
 use mathlib.Core.Path.{_≡_, refl, sym, ap, ap₂, _∙_, subst}
 use mathlib.Core.Bool.{Bool, true, false, not, _&&_, _||_, and-true, and-assoc}
 use mathlib.Core.List.{List, map, List·Memᴰ, Memᴰ·map, Memᴰ·of-map}
-use Prim.Native.Nat.{ℕ, _+_, _-_, _*_, _≤_, _<_}
+use Prim.Native.Nat.{ℕ, _+_, _*_, _≤_, _<_}
 use native.Mathlib.Omega.{arith}
 use lib.Dec.{T}
 use lib.IntN.{ℤ, pos, _-ℤ_}
@@ -55,12 +55,18 @@ module _ (t : ℤ) (consumed : List ℕ) (mask : ℕ) where
   events-end fit e h inv =
       inv ∙ rw (drop-of-length-le (tabulate COUNTS (λ e. e)) {i = e} (rw length-tabulate h)) (and-true fit)
 
+-- what stands behind the twelve counts of a row does not matter
+tokens-front : (p : Place) (t : List ℕ) → tokens COUNTS p t ≡ tokens COUNTS p (take COUNTS t)
+tokens-front p t = tokens-row COUNTS p t (take COUNTS t) (λ i b. sym (getD-take COUNTS t i 0 b))
+
+pub permits-front : (p : Place) (t : List ℕ) (e : ℕ) → placePermits COUNTS p (record { row = t; event = e }) ≡ placePermits COUNTS p (record { row = take COUNTS t; event = e })
+unfolding placePermits surplus
+permits-front p t e = ap (λ (z : ℤ). nonNeg (z -ℤ pos (p .consumed e))) (tokens-front p t)
+
 -- the tokens after the row's counts decide for its events
 pub row-fits : (p : Declared.Place) (t : List ℕ) → eventsFit (tokens COUNTS (placeOf p) t) (p .consumed) (getD t COUNTS 0) ≡ rowFits (placeOf p) (rowAt t)
 unfolding rowFits eventsFit eventFits rowAt placePermits surplus
-row-fits p t =
-    ap (λ (z : ℤ). eventsFit z (p .consumed) (getD t COUNTS 0))
-    (tokens-row COUNTS (placeOf p) t (take COUNTS t) (λ i b. sym (getD-take COUNTS t i 0 b)))
+row-fits p t = ap (λ (z : ℤ). eventsFit z (p .consumed) (getD t COUNTS 0)) (tokens-front (placeOf p) t)
 
 -- a row that nothing follows asks for nothing
 pub row-empty : (p : Place) (t : List ℕ) → getD t COUNTS 0 ≡ 0 → rowFits p (rowAt t) ≡ true

@@ -1,2 +1,4 @@
 pub mod Fitting
 pub mod FittingLaws
+pub mod Columns
+pub mod ColumnLaws

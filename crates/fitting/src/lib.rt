@@ -1,11 +1,19 @@
 // Whether the places of a bundle fit its log, from the rows of the log table.
+mod columns; // the places side by side
+
 use bundles::Places;
+use columns::MATRIX;
+use columns::WIDTH;
+use columns::columns_fit;
+use columns::start;
+use columns::write_columns;
 use logs::rows::ROW;
 use nets::COUNTS;
 use nets::Place;
 use nets::covers;
 use nets::has_bit;
 ghost use mathlib.Core.Path.{_≡_};
+ghost use mathlib.Core.Bool.{true};
 ghost use Prim.Native.Nat.{_+_, _*_, _≤_};
 ghost use lib.ListN.{length};
 ghost use Rattle.laws.specs.Scans.{firstFailing};
@@ -15,6 +23,7 @@ ghost use Rattle.bundles.specs.NumberSteps.{itemsAt};
 ghost use Rattle.bundles.specs.PlaceSteps.{placeSize, fieldsAt};
 ghost use Rattle.logs.specs.Rows.{ROW, rowAt, rowsOf};
 ghost use Rattle.fitting.specs.Fitting.{eventsFit, rowFits, fitsRows};
+ghost use Rattle.fitting.specs.Columns.{AllFit};
 
 // Whether the tokens cover what each event of the mask takes. All twelve are tested without a branch: which bits are set is hard to predict.
 fn events_fit(tokens: i64, consumed: [u16; 12], mask: u16) -> bool
@@ -44,7 +53,7 @@ fn row_fits(place: Place, row: &[u16]) -> bool
 }
 
 // Whether a place permits what the rows of a table allow.
-pub fn fits(place: Place, table: &[u16], rows: usize) -> bool
+fn fits(place: Place, table: &[u16], rows: usize) -> bool
     requires { ⌜ ROW * rows ≤ length (now table) ⌝ }
     ensures { λ r. ⌜ r ≡ fitsRows (placeOf place) (rowsOf rows (now (table .entry))) ⌝ }
 {
@@ -59,8 +68,29 @@ pub fn fits(place: Place, table: &[u16], rows: usize) -> bool
     true
 }
 
-// The first place of a bundle that does not fit, or the number of places.
-pub fn first_misfit(bundle: &[u8], n: usize, places: Places, table: &[u16], rows: usize) -> usize
+// Whether the places of a bundle all fit, tested side by side, eight at a time: the columns behind the last place are zero, and fit. False says
+// nothing: it is the answer also where there is so little to test that clearing the matrix would take longer.
+fn all_fit(bundle: &[u8], n: usize, places: Places, table: &[u16], rows: usize) -> bool
+    requires { ⌜ (n ≤ 12) × (places .first + 2 * (places .count * placeSize n) ≤ length (now bundle)) × (ROW * rows ≤ length (now table)) ⌝ }
+    ensures { λ r. ⌜ (r ≡ true → AllFit n (now (bundle .entry)) (places .first) (places .count) (rowsOf rows (now (table .entry)))) ⌝ }
+{
+    let count = places.count;
+    if WIDTH < count {
+        return false;
+    }
+    if (count < 8) & (rows < 8) {
+        return false;
+    }
+    let mut matrix = [0u32; MATRIX];
+    write_columns(bundle, n, places, &mut matrix);
+    let mut tokens = [0u32; WIDTH];
+    let width = (count + 7) / 8 * 8;
+    start(&mut tokens, width, &matrix);
+    columns_fit(&mut tokens, width, &matrix, table, rows)
+}
+
+// The first place of a bundle that does not fit, or the number of places, each tested on its own.
+fn search_misfit(bundle: &[u8], n: usize, places: Places, table: &[u16], rows: usize) -> usize
     requires { ⌜ (n ≤ 12) × (places .first + 2 * (places .count * placeSize n) ≤ length (now bundle)) × (ROW * rows ≤ length (now table)) ⌝ }
     ensures { λ r. ⌜ r ≡ firstFailing (λ (f : PlaceFields). fitsRows (toPlace f) (rowsOf rows (now (table .entry)))) (itemsAt (placeSize n) (fieldsAt n) (places .count) (now (bundle .entry)) (places .first)) ⌝ }
 {
@@ -77,4 +107,15 @@ pub fn first_misfit(bundle: &[u8], n: usize, places: Places, table: &[u16], rows
         j += 1;
     }
     count
+}
+
+// The first place of a bundle that does not fit, or the number of places. Mostly all fit, which is faster to find out.
+pub fn first_misfit(bundle: &[u8], n: usize, places: Places, table: &[u16], rows: usize) -> usize
+    requires { ⌜ (n ≤ 12) × (places .first + 2 * (places .count * placeSize n) ≤ length (now bundle)) × (ROW * rows ≤ length (now table)) ⌝ }
+    ensures { λ r. ⌜ r ≡ firstFailing (λ (f : PlaceFields). fitsRows (toPlace f) (rowsOf rows (now (table .entry)))) (itemsAt (placeSize n) (fieldsAt n) (places .count) (now (bundle .entry)) (places .first)) ⌝ }
+{
+    if all_fit(bundle, n, places, table, rows) {
+        return places.count;
+    }
+    search_misfit(bundle, n, places, table, rows)
 }

@@ -98,6 +98,12 @@ module _ {A : Type 0} where
       go true e below h zero b = e
       go true e below h (suc k) b = below (le-of-suc-le-suc h) k (le-of-suc-le-suc b)
 
+  -- where each passes, none fails
+  pub failing-never : (test : A → Bool) (d : A) (l : List A) → ((k : ℕ) → k < length l → test (getD l k d) ≡ true) → firstFailing test l ≡ length l
+  unfolding firstFailing
+  failing-never test d [] h = refl
+  failing-never test d (x ∷ l) h = rw (h 0 (zero-lt-suc (length l))) (ap suc (failing-never test d l (λ k b. h (suc k) (suc-le-suc b))))
+
   -- a loop over the elements that has passed i of them
   module _ (test : A → Bool) (d : A) (l : List A) (i : ℕ) (h : i < length l) (inv : firstFailing test l ≡ i + firstFailing test (drop i l)) where
     failing-step : firstFailing test (drop i l) ≡ cond (test (getD l i d)) (suc (firstFailing test (drop (i + 1) l))) 0

@@ -1,7 +1,7 @@
 -- The surplus in natural numbers: a place permits a step exactly when the tokens that the step needs are at most those that were put there.
 use mathlib.Core.Path.{_≡_, sym, ap, ap₂, _∙_, subst}
 use Prim.Native.Nat.{ℕ, _+_, _*_, _≤_, _<_}
-use native.Mathlib.Nat.{add-zero, zero-mul}
+use native.Mathlib.Nat.{add-zero, add-assoc, zero-mul}
 use native.Mathlib.Numerals.{add-one}
 use lib.Dec.{T}
 use lib.IntN.{ℤ, pos, subℕ, _+ℤ_, _-ℤ_, _*ℤ_, +ℤ-assoc}
@@ -24,6 +24,15 @@ unfolding tokens given taken
 tokens-is n p v =
     ap (λ (t : ℤ). pos (p .initial) +ℤ t) (difference-sum n (at v) (p .produced) (p .consumed))
     ∙ pos-difference (p .initial) (sum n (λ i. at v i * p .produced i)) (sum n (λ i. at v i * p .consumed i))
+
+-- with one event more
+pub given-next : (n : ℕ) (p : Place) (v : Counts) → given (n + 1) p v ≡ given n p v + at v n * p .produced n
+unfolding given sum
+given-next n p v = rw (add-one n) (sym (add-assoc (p .initial) (sum n (λ i. at v i * p .produced i)) (at v n * p .produced n)))
+
+pub taken-next : (n : ℕ) (p : Place) (v : Counts) → taken (n + 1) p v ≡ taken n p v + at v n * p .consumed n
+unfolding taken sum
+taken-next n p v = rw (add-one n)
 
 -- of no event, and of one event more
 pub tokens-first : (p : Place) (v : Counts) → tokens 0 p v ≡ pos (p .initial)

@@ -1,5 +1,6 @@
 //! What the documents show is what the programs do.
 
+use differential::programs::run;
 use differential::samples::{all, directory};
 use std::fs;
 use std::path::{Path, PathBuf};
@@ -109,4 +110,34 @@ fn refusals_are_described() {
         .collect();
     assert_eq!(numbers, (1..=16).collect::<Vec<u8>>());
     assert!(all().len() >= 5, "the walk-through uses the samples");
+}
+
+/// What samples/README.md says that the programs do with each file.
+#[test]
+fn sample_files() {
+    let table = document("samples/README.md");
+    for sample in all() {
+        let file = directory().join(sample.name);
+        let row = table
+            .lines()
+            .find(|line| line.starts_with(&format!("| `{}` |", sample.name)))
+            .unwrap_or_else(|| panic!("{} is not described", sample.name));
+        let cells: Vec<&str> = row.split('|').map(str::trim).collect();
+        let [_, _, _, judged, unsealed, screened, _] = cells[..] else {
+            panic!("{row}");
+        };
+        let line = |cell: &str| format!("{}\n", between_ticks(cell).expect("a line"));
+        let judge = run("judge", &[] as &[&str], &sample.file);
+        assert_eq!(judge.output, line(judged).into_bytes(), "{row}");
+        let unseal = run("unseal", &[] as &[&str], &sample.file);
+        let length = unsealed.split(',').next().map(str::parse);
+        assert_eq!(length, Some(Ok(unseal.output.len())), "{row}");
+        assert_eq!(
+            unsealed.contains("refusal"),
+            !unseal.errors.is_empty(),
+            "{row}"
+        );
+        let screen = run("screen", &[file.as_os_str(), "0".as_ref()], &[]);
+        assert_eq!(screen.output, line(screened).into_bytes(), "{row}");
+    }
 }

@@ -1,5 +1,6 @@
 -- `certificates::read_weights` meets its contract: its calls are those of `weights`, in the same order.
 use mathlib.Core.Path.{_≡_, sym, ap, _∙_}
+use Prim.Native.Nat.{_≤_}
 use native.Mathlib.Omega.{arith}
 use borrow.Author.Tests.{leb-true}
 use borrow.Author.Needs.{needs}
@@ -8,8 +9,8 @@ use Rattle.laws.specs.Numbers.{Bytes}
 use Rattle.bundles.specs.Reading.{got, byte, number}
 use Rattle.bundles.specs.ReadingLaws.{law-number}
 use Rattle.bundles.specs.FieldSteps.{readOf, upTo, byte-got}
-use Rattle.logs.specs.Rows.{newRow, none}
-use Rattle.logs.specs.Flat.{rows-at}
+use Rattle.certificates.specs.Terms.{holdsRows}
+use Rattle.certificates.specs.Totals.{NUMBER}
 use Rattle.certificates.specs.TermSums.{weights-no-factor, weights-no-count, weights-judged}
 use Rattle.certificates.proofs.read_weights.Statement.{statement}
 use Rattle.certificates.proofs.read_weights.Tie as tie
@@ -27,15 +28,16 @@ size c = sym (c .before .before .byte-up-to .ensures) ∙ ap readOf (c .count .g
 bytes : (c : tie.After-shared-slice-known) → Bytes (c .before .args .bundle .now)
 bytes c i = omega (arith, c .shared-slice-known .given i)
 
-read-terms-requires : tie.Need-read-terms-requires
-read-terms-requires c κs =
-    let pre = c .before .before .before .before .before .before .before .before .before .before .pre in
-    (leb-true _ _ (byte-got _ _ _ _ _ (size (c .before)) .0), pre .0, pre .1, pre .2)
+-- k has two bytes
+two-bytes : (c : tie.After-k) → c .k .given .0 .0 ≤ NUMBER
+two-bytes c = omega (arith, law-number _ (bytes (c .before .before .before .before)) (leb 1) .sound _ _ _ (factor c) .0 .1)
 
-judged-requires : tie.Need-judged-requires
-judged-requires c κs =
-    let k = c .before .before .before .before .before .before .before in
-    (omega (arith, c .counts-of .ensures .1), omega (arith, law-number _ (bytes (k .before .before .before .before)) (leb 1) .sound _ _ _ (factor k) .0 .1))
+weigh-terms-requires : tie.Need-weigh-terms-requires
+weigh-terms-requires c κs =
+    let count = c .before in
+    let k = count .before .before .before .before in
+    let pre = k .before .before .before .before .before .pre in
+    (leb-true _ _ (byte-got _ _ _ _ _ (size count) .0), pre .0, pre .1, pre .2, pre .3, two-bytes k)
 
 returns : tie.Need-returns
 unfolding readOf
@@ -49,13 +51,9 @@ returns-2 c =
 
 returns-3 : tie.Need-returns-3
 returns-3 c =
-    let counts = c .before in
-    let k = counts .before .before .before .before .before .before .before in
-    let entry = k .before .before .before .before .before in
-    let a = entry .args in
-    c .judged .ensures
-    ∙ rw (counts .counts-of .ensures .0, ← rows-at (a .rows) (a .table .now) (a .row) (newRow none) (entry .pre .3))
-    (sym (weights-judged _ _ _ _ (factor k) (size (counts .before .before .before)) _ _ _ _ _ (counts .before .read-terms .ensures)))
+    let count = c .before .before in
+    let k = count .before .before .before .before in
+    c .weigh-terms .ensures ∙ sym (weights-judged _ _ _ _ (factor k) (size count) (holdsRows _ _ _))
 
 pub read-weights-spec : {M : Type 1} → statement M
 read-weights-spec =
@@ -67,9 +65,8 @@ read-weights-spec =
     (λ c κs. search needs)
     (λ c. search needs)
     (λ c. search needs)
-    read-terms-requires
-    (λ c κs. search needs)
-    judged-requires
+    (λ c. omega (arith, two-bytes (c .before .before .before .before .before)))
+    weigh-terms-requires
     returns
     returns-2
     returns-3)

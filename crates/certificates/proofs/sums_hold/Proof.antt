@@ -1,5 +1,6 @@
 -- `certificates::sums_hold` meets its contract. The loop's invariant: the inequalities at the events below i are tested.
 use mathlib.Core.Path.{_≡_, sym}
+use mathlib.Core.Bool.{_&&_}
 use Prim.Native.Nat.{_+_, _-_, _*_, _≤_}
 use native.Mathlib.Nat.{mul-le-mul}
 use native.Mathlib.Omega.{arith}
@@ -13,42 +14,42 @@ use Rattle.certificates.proofs.sums_hold.Statement.{statement}
 use Rattle.certificates.proofs.sums_hold.Tie as tie
 
 abbrev Inv-loop : tie.InvT-loop
-Inv-loop sums k counts event sum-before sum-after before₀ after₀ i₀ before after i =
-    (i ≤ COUNTS)
-    × (before ≡ allBelow i (λ j. leb (at (sums .before) j) (k * at counts j)))
-    × (after ≡ allBelow i (λ j. leb (k * (at counts j + same event j)) (at (sums .after) j)))
+Inv-loop before of-event k counts event hold₀ i₀ hold i =
+    (i ≤ COUNTS) × (hold ≡ allBelow i (λ j. leb (at before j) (k * at counts j) && leb (k * (at counts j + same event j)) (at before j + at of-event j)))
 
 abbrev μ-loop : tie.MeasureT-loop
-μ-loop sums k counts event sum-before sum-after before₀ after₀ i₀ before after i = COUNTS - i
-
-k-small : (c : tie.At-loop Inv-loop μ-loop) → c .before .before .before .before .args .k ≤ NUMBER
-k-small c = c .before .before .before .before .pre .1
+μ-loop before of-event k counts event hold₀ i₀ hold i = COUNTS - i
 
 loop-holds : tie.Need-loop-holds Inv-loop μ-loop
-loop-holds c = (search needs, sym (allBelow-none _), sym (allBelow-none _))
+loop-holds c = (search needs, sym (allBelow-none _))
 
-mul-before-2 : tie.Need-mul-before-2 Inv-loop μ-loop
-mul-before-2 c = omega (arith, mul-le-mul (k-small (c .before .before .before)) (c .wide .ensures .1))
+mul-hold : tie.Need-mul-hold Inv-loop μ-loop
+mul-hold c = omega (arith, mul-le-mul (c .before .before .before .before .before .before .pre .1) (c .before .wide .ensures .1))
 
-mul-after : tie.Need-mul-after Inv-loop μ-loop
-mul-after c =
-    let count : c .before .wide .result + c .one-if-same .result ≤ NUMBER + 1 = omega arith in
-    omega (arith, mul-le-mul (k-small (c .before .before .before .before)) count)
+mul-hold-2 : tie.Need-mul-hold-2 Inv-loop μ-loop
+mul-hold-2 c =
+    let count : c .before .before .wide .result + c .one-if-same .result ≤ NUMBER + 1 = omega arith in
+    omega (arith, mul-le-mul (c .before .before .before .before .before .before .before .pre .1) count)
+
+add-hold-2 : tie.Need-add-hold-2 Inv-loop μ-loop
+add-hold-2 c =
+    let loop = c .before .before .before .before .before .before in
+    let start = loop .before .before in
+    omega (arith, start .pre .2 (loop .loop .i), start .pre .3 (loop .loop .i))
 
 loop-again : tie.Need-loop-again Inv-loop μ-loop
 loop-again c =
-    let l = c .before .before .before .before .loop in (
-      omega arith,
-      rw (l .inv .1, c .before .wide .ensures .0) (sym (allBelow-next _ _)),
-      rw (l .inv .2, c .before .wide .ensures .0, c .one-if-same .ensures .0) (sym (allBelow-next _ _)),
-    )
+    let same = c .before in
+    let wide = same .before .before in
+    let l = wide .before .before .before .loop in
+    (omega arith, rw (l .inv .1, wide .wide .ensures .0, same .one-if-same .ensures .0) (sym (allBelow-next _ _)))
 
 returns : tie.Need-returns Inv-loop μ-loop
 unfolding sumsHold
 returns c =
-    let l = c .before .before .before .loop in
+    let l = c .before .loop in
     let all : l .i ≡ COUNTS = omega arith in
-    rw (l .inv .1, l .inv .2, all)
+    rw (l .inv .1, all)
 
 pub sums-hold-spec : {M : Type 1} → statement M
 sums-hold-spec =
@@ -62,12 +63,13 @@ sums-hold-spec =
     (λ c κs. search needs)
     (λ c. search needs)
     (λ c. search needs)
-    mul-before-2
+    mul-hold
     (λ c κs. search needs)
     (λ c. search needs)
-    mul-after
+    mul-hold-2
     (λ c. search needs)
     (λ c. search needs)
+    add-hold-2
     (λ c. search needs)
     (λ c. search needs)
     loop-again

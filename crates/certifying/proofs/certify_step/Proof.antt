@@ -6,7 +6,7 @@ use Rattle.nets.specs.Nets.{allowed}
 use Rattle.bundles.specs.Layout.{Head}
 use Rattle.certifying.specs.Certifying.{HeadHeld, stepOf}
 use Rattle.certifying.specs.CheckLaws.{mask-held, row-count}
-use Rattle.certifying.specs.CertificateSteps.{Passes, passed-allowed, passed-place, passed-weights, passed-refused}
+use Rattle.certifying.specs.CertificateSteps.{Passes, passed-allowed, outcome-certificate}
 use Rattle.certifying.proofs.certify_step.Statement.{statement}
 use Rattle.certifying.proofs.certify_step.Tie as tie
 
@@ -20,56 +20,27 @@ tested c h held =
 returns : tie.Need-returns
 unfolding Passes
 returns c =
-    let start = c .before .before .before .before .before in
+    let start = c .before .before .before .before .before .before in
     record {
       told = (
         omega (arith, start .pre .7),
         λ h held at l.
-            passed-allowed l (omega (arith, start .pre .6, row-count held (start .pre .0))) (omega (arith, start .pre .1, held .events)) (tested (c .before) h held ∙ c .if1 .taken),
+            passed-allowed l (omega (arith, start .pre .6, row-count held (start .pre .0))) (omega (arith, start .pre .1, held .events)) (tested (c .before .before) h held ∙ c .before .if1 .taken),
       );
     }
 
 returns-2 : tie.Need-returns-2
-unfolding Passes
 returns-2 c =
-    let call = c .before .before .before in
-    let bit = call .before .before in
+    let call = c .before in
+    let wrong = call .before .before in
+    let bit = wrong .before in
     let start = bit .before .before .before .before in
-    record {
-      told = λ h held at l.
-          passed-refused l (omega (arith, start .pre .6, row-count held (start .pre .0))) (omega (arith, start .pre .1, held .events)) (tested bit h held ∙ call .before .if1 .left)
-          (c .before .refusal .given .1) (call .check-certificate .ensures h held (l .before) (l .size));
-    }
-
-returns-3 : tie.Need-returns-3
-unfolding Passes
-returns-3 c =
-    let call = c .before .before .before in
-    let bit = call .before .before in
-    let start = bit .before .before .before .before in
-    record {
-      told = (
-        omega (arith, start .pre .7),
-        λ h held at l.
-            passed-place l (omega (arith, start .pre .6, row-count held (start .pre .0))) (omega (arith, start .pre .1, held .events)) (tested bit h held ∙ call .before .if1 .left)
-            (c .before .after .given .1) (call .check-certificate .ensures h held (l .before) (l .size)),
-      );
-    }
-
-returns-4 : tie.Need-returns-4
-unfolding Passes
-returns-4 c =
-    let call = c .before .before .before in
-    let bit = call .before .before in
-    let start = bit .before .before .before .before in
-    record {
-      told = (
-        omega (arith, start .pre .7),
-        λ h held at l.
-            passed-weights l (omega (arith, start .pre .6, row-count held (start .pre .0))) (omega (arith, start .pre .1, held .events)) (tested bit h held ∙ call .before .if1 .left)
-            (c .before .after2 .given .1) (call .check-certificate .ensures h held (l .before) (l .size)),
-      );
-    }
+    rw (c .with-certificate .ensures) (outcome-certificate (start .pre .7) _ (λ h held. (
+      omega (arith, start .pre .6, row-count held (start .pre .0)),
+      omega (arith, start .pre .1, held .events),
+      tested bit h held ∙ wrong .if1 .left,
+      call .check-certificate .ensures h held,
+    )))
 
 pub certify-step-spec : {M : Type 1} → statement M
 certify-step-spec =
@@ -84,11 +55,5 @@ certify-step-spec =
     returns
     (λ c. search needs)
     (λ c κs. search needs)
-    (λ c. search needs)
-    (λ c. search needs)
-    (λ c. search needs)
-    (λ c. search needs)
-    (λ c. search needs)
-    returns-2
-    returns-3
-    returns-4)
+    (λ c κs. omega arith)
+    returns-2)

@@ -1,7 +1,6 @@
 -- `certifying::check_place` meets its contract: the place is read from its bytes and tested with the counts of the row.
 use mathlib.Core.Path.{_≡_, sym, ap, _∙_}
 use Prim.Native.Nat.{_+_, _*_, _≤_}
-use native.Mathlib.Nat.{add-sub-cancel-left}
 use native.Mathlib.Omega.{arith}
 use borrow.Author.Needs.{needs}
 use borrow.Author.Tests.{ltb-true}
@@ -27,28 +26,28 @@ inside c =
     let start = c .before .before .before .before .before in
     place-inside (start .args .n) (start .args .places .first) (start .args .places .count) (c .j .given .0 .0) (length (start .args .bundle .now)) (ltb-true _ _ (byte-got _ _ _ _ _ (number c) .0)) (start .pre .2)
 
-mul-place-at-2 : tie.Need-mul-place-at-2
-mul-place-at-2 c = omega (arith, inside (c .before))
+mul-place-2 : tie.Need-mul-place-2
+mul-place-2 c = omega (arith, inside (c .before))
 
-mul-place-at-3 : tie.Need-mul-place-at-3
-mul-place-at-3 c = omega (arith, inside (c .before))
+mul-place-3 : tie.Need-mul-place-3
+mul-place-3 c = omega (arith, inside (c .before))
 
-add-place-at-2 : tie.Need-add-place-at-2
-add-place-at-2 c = omega (arith, inside (c .before .before))
+add-place-2 : tie.Need-add-place-2
+add-place-2 c = omega (arith, inside (c .before .before))
 
-place-at-requires : tie.Need-place-at-requires
-place-at-requires c κs =
-    let known = c .before .before in
-    (known .before .before .before .before .before .pre .0, inside known)
+place-permits-requires : tie.Need-place-permits-requires
+place-permits-requires c κs =
+    let known = c .before .before .before in
+    let start = known .before .before .before .before .before in
+    (start .pre .0, start .pre .1, inside known, omega (arith, c .counts-of .ensures .1, start .pre .0))
 
 -- the place is tested with the counts of the row
-tested : (c : tie.After-permits) → let known = c .before .before .before .before .before in let a = known .before .before .before .before .before .args in
-    permitsAt (a .n) (a .bundle .now) (a .places .first) (rowAt (drop (ROW * a .row) (a .table .now)) .counts) (a .event) (known .j .given .0 .0) ≡ c .permits .result
-unfolding rowAt
-tested c = sym (c .permits .ensures ∙ rw (add-sub-cancel-left, c .before .before .place-at .ensures))
+tested : (c : tie.After-place-permits) → let known = c .before .before .before .before in let a = known .before .before .before .before .before .args in
+    permitsAt (a .n) (a .bundle .now) (a .places .first) (rowAt (drop (ROW * a .row) (a .table .now)) .counts) (a .event) (known .j .given .0 .0) ≡ c .place-permits .result
+tested c = sym (c .place-permits .ensures ∙ rw (c .before .counts-of .ensures .0))
 
 returns : tie.Need-returns
-returns c = place-permitted _ _ (number (c .before .before .before .before .before .before)) (tested (c .before) ∙ c .if1 .taken)
+returns c = place-permitted _ _ (number (c .before .before .before .before .before)) (tested (c .before) ∙ c .if1 .taken)
 
 returns-2 : tie.Need-returns-2
 unfolding readOf
@@ -57,7 +56,7 @@ returns-2 c =
     place-unread _ _ (sym (call .byte-below .ensures) ∙ ap readOf (c .before .refusal .given .1))
 
 returns-3 : tie.Need-returns-3
-returns-3 c = place-refused _ _ (number (c .before .before .before .before .before .before)) (tested (c .before) ∙ c .if1 .left)
+returns-3 c = place-refused _ _ (number (c .before .before .before .before .before)) (tested (c .before) ∙ c .if1 .left)
 
 pub check-place-spec : {M : Type 1} → statement M
 check-place-spec =
@@ -68,17 +67,11 @@ check-place-spec =
     (λ c. search needs)
     (λ c. search needs)
     (λ c. search needs)
-    mul-place-at-2
-    mul-place-at-3
-    add-place-at-2
-    place-at-requires
-    (λ c. search needs)
-    (λ c. search needs)
-    (λ c. search needs)
-    (λ c. search needs)
-    (λ c. search needs)
-    (λ c. search needs)
+    mul-place-2
+    mul-place-3
+    add-place-2
     (λ c κs. search needs)
+    place-permits-requires
     returns
     returns-2
     returns-3)

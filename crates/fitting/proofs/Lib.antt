@@ -1,0 +1,2 @@
+-- Laws that several proofs of `fitting` cite.
+pub mod Moderate

@@ -1,0 +1,58 @@
+-- `fitting::columns::advance` meets its contract. The invariant: the counts below i are those of the row.
+use mathlib.Core.Path.{_≡_, refl, _∙_}
+use Prim.Native.Nat.{_-_, _≤_}
+use native.Mathlib.Omega.{arith}
+use borrow.Author.Needs.{needs}
+use lib.ListN.{length}
+use Rattle.nets.specs.Machine.{COUNTS}
+use Rattle.fitting.specs.Columns.{Between}
+use Rattle.fitting.specs.ColumnLaws.{between-start, between-next, between-end}
+use Rattle.fitting.proofs.Moderate.{between-moderate}
+use Rattle.fitting.proofs.columns.advance.Statement.{statement}
+use Rattle.fitting.proofs.columns.advance.Tie as tie
+
+abbrev Inv-loop : tie.InvT-loop
+Inv-loop tokens₀ count matrix row before i₀ tokens i = (i ≤ COUNTS) × (length tokens ≡ length tokens₀) × Between count matrix tokens before row i
+
+abbrev μ-loop : tie.MeasureT-loop
+μ-loop tokens₀ count matrix row before i₀ tokens i = COUNTS - i
+
+loop-holds : tie.Need-loop-holds Inv-loop μ-loop
+loop-holds c =
+    let start = c .before .before .before in
+    (omega arith, refl, between-start (start .pre .7))
+
+recount-requires : tie.Need-recount-requires Inv-loop μ-loop
+recount-requires c κs =
+    let loop = c .before .before .before .loop in
+    let start = c .before .before .before .before .before .before .before in
+    (start .pre .0, search needs, start .pre .2, omega arith, start .pre .5 (loop .i) (omega arith), start .pre .6 (loop .i) (omega arith), start .pre .4, between-moderate (start .pre .4) (start .pre .5) (start .pre .6) (loop .inv .0) (loop .inv .2))
+
+loop-again : tie.Need-loop-again Inv-loop μ-loop
+loop-again c =
+    let loop = c .before .before .before .before .before .before .loop in
+    (omega arith, c .before .before .recount .kept .0 ∙ loop .inv .1, between-next (loop .inv .2) (c .before .before .recount .ensures))
+
+same-length : tie.Need-same-length Inv-loop μ-loop
+same-length c = c .before .loop .inv .1
+
+returns : tie.Need-returns Inv-loop μ-loop
+returns c = between-end (omega arith) (c .before .loop .inv .2)
+
+pub advance-spec : {M : Type 1} → statement M
+advance-spec =
+    tie.close
+    (tie.spec
+    Inv-loop
+    μ-loop
+    loop-holds
+    (λ c. search needs)
+    (λ c. search needs)
+    (λ c. search needs)
+    (λ c. search needs)
+    recount-requires
+    (λ c. search needs)
+    (λ c. search needs)
+    loop-again
+    same-length
+    returns)

@@ -1,0 +1,225 @@
+-- The steps of the code that tests places side by side, as laws of the definitions in Columns.
+use mathlib.Core.Path.{_≡_, refl, sym, ap, ap₂, _∙_, subst}
+use mathlib.Core.Logic.{⊎-elim}
+use mathlib.Core.Bool.{Bool, true, false}
+use mathlib.Core.List.{List}
+use Prim.Native.Nat.{ℕ, zero, suc, _+_, _*_, _≤_, _<_}
+use native.Mathlib.Nat.{zero-mul, add-mul, eq-or-lt-of-le}
+use native.Mathlib.Omega.{arith}
+use borrow.Author.Tests.{eqb-true, eqb-false}
+use lib.Dec.{T, eqb}
+use lib.ListN.{length, getD, set, take, replicate, length-set, getD-replicate}
+use lib.Seq.{getD-set-same, getD-set-other}
+use Rattle.laws.specs.Booleans.{yes-true, implied, implies}
+use Rattle.laws.specs.Bits.{bit}
+use Rattle.laws.specs.Lists.{all-member, all-intro, tabulate, tabulate-inverse}
+use Rattle.laws.specs.Scans.{firstFailing, failing-never}
+use Rattle.laws.specs.Sums.{sum, sum-same, sum-zero}
+use Rattle.nets.specs.declared.Place as Declared
+use Rattle.nets.specs.Nets.{Place, Step, Counts, at, placePermits}
+use Rattle.nets.specs.Machine.{COUNTS, placeOf}
+use Rattle.nets.specs.Surplus.{given, taken, given-next, taken-next, permits→le, le→permits}
+use Rattle.bundles.specs.Layout.{PlaceFields, toPlace}
+use Rattle.bundles.specs.NumberSteps.{itemsAt, items-length, getD-items}
+use Rattle.bundles.specs.PlaceSteps.{placeSize, fieldsAt, machinePlace, place-means}
+use Rattle.logs.specs.Rows.{Row, none, rowAt}
+use Rattle.fitting.specs.Fitting.{rowFits, fitsRows}
+use Rattle.fitting.specs.FittingLaws.{permits-front}
+use Rattle.fitting.specs.Columns.{WIDTH, MATRIX, inRow, outRow, column, Short, SamePlace, BASE, Marking, Covered, Recounted, Beside, Written, Between, AllFit}
+
+-- ---- The tokens
+
+-- one count after another
+module _ {count : ℕ} {m t : List ℕ} {before row : Counts} where
+  pub between-start : Marking count m t before → Between count m t before row 0
+  unfolding given taken sum
+  between-start h = record { tokens = λ j b. omega (arith, h .tokens j b) }
+
+  pub between-next : {t′ : List ℕ} {i : ℕ} → Between count m t before row i → Recounted count m t t′ i (at before i) (at row i) → Between count m t′ before row (i + 1)
+  between-next {t′} {i} h new = record {
+    tokens = λ j b.
+        let p = column m j in
+        omega (arith, h .tokens j b, new j b, given-next i p before, given-next i p row, taken-next i p before, taken-next i p row);
+  }
+
+  pub between-end : {i : ℕ} → i ≡ COUNTS → Between count m t before row i → Marking count m t row
+  between-end {i} e h = record { tokens = λ j b. omega (arith, subst (Between count m t before row) e h .tokens j b) }
+
+-- at first the initial tokens
+pub marking-start : {count : ℕ} {m t : List ℕ} → ((j : ℕ) → j < count → getD t j 0 ≡ BASE + getD m j 0) → Marking count m t none
+unfolding given taken
+marking-start {count} {m} {t} h = record { tokens = λ j b. omega (arith, h j b, over-none (column m j .produced), over-none (column m j .consumed)) }
+  where
+    over-none : (f : ℕ → ℕ) → sum COUNTS (λ i. at none i * f i) ≡ 0
+    over-none f = sum-same COUNTS _ (λ i. 0) (λ i k. ap (λ (n : ℕ). n * f i) (getD-replicate COUNTS i 0 0 k) ∙ zero-mul (f i)) ∙ sum-zero COUNTS
+
+-- only the counts below twelve matter
+pub marking-row : {count : ℕ} {m t : List ℕ} {u v : Counts} → ((i : ℕ) → i < COUNTS → at u i ≡ at v i) → Marking count m t u → Marking count m t v
+unfolding given taken
+marking-row {count} {m} {t} {u} {v} h marking = record {
+  tokens = λ j b. omega (arith, marking .tokens j b, over (column m j .produced), over (column m j .consumed));
+}
+  where
+    over : (f : ℕ → ℕ) → sum COUNTS (λ i. at u i * f i) ≡ sum COUNTS (λ i. at v i * f i)
+    over f = sum-same COUNTS _ _ (λ i k. ap (λ (n : ℕ). n * f i) (h i k))
+
+-- a row whose events' tokens are covered fits each column
+pub row-covered : {count : ℕ} {m t l : List ℕ} → Marking count m t l → ((e : ℕ) → e < COUNTS → T (bit (at l COUNTS) e) → Covered count m t e)
+    → (j : ℕ) → j < count → rowFits (column m j) (rowAt l) ≡ true
+unfolding rowFits rowAt
+row-covered {count} {m} {t} {l} marking covered j b = yes-true _ (all-intro _ (tabulate COUNTS (λ e. e)) (λ e k.
+    let i = tabulate-inverse COUNTS (λ e. e) k in
+    let h : e < COUNTS = omega (arith, i .1, i .2) in
+    implies (bit (at l COUNTS) e) (placePermits COUNTS (column m j) (record { row = take COUNTS l; event = e })) (λ set.
+    subst T (permits-front (column m j) l e) (le→permits COUNTS (column m j) (record { row = l; event = e }) (omega (arith, marking .tokens j b, covered e h set j b))))))
+
+-- a count that goes from x to x + d
+pub recounted : (t t′ p q x d y : ℕ) → x + d ≡ y → t′ + d * q ≡ t + d * p → t′ + y * q + x * p ≡ t + x * q + y * p
+recounted t t′ p q x d y sum e =
+    let more : (f : ℕ) → x * f + d * f ≡ y * f = λ f. sym (add-mul x d f) ∙ ap (λ (n : ℕ). n * f) sum in
+    omega (arith, e, more p, more q)
+
+-- ---- Places with the same numbers
+
+module _ {p q : Place} (s : SamePlace p q) where
+  same-given : (v : Counts) → given COUNTS p v ≡ given COUNTS q v
+  unfolding given
+  same-given v = ap₂ _+_ (s .initial) (sum-same COUNTS _ _ (λ i b. ap (λ (n : ℕ). at v i * n) (s .produced i b)))
+
+  same-taken : (v : Counts) → taken COUNTS p v ≡ taken COUNTS q v
+  unfolding taken
+  same-taken v = sum-same COUNTS _ _ (λ i b. ap (λ (n : ℕ). at v i * n) (s .consumed i b))
+
+  same-row : (r : Row) → T (rowFits p r) → T (rowFits q r)
+  unfolding rowFits
+  same-row r t = all-intro _ (tabulate COUNTS (λ e. e)) (λ e k.
+      let i = tabulate-inverse COUNTS (λ e. e) k in
+      let h : e < COUNTS = omega (arith, i .1, i .2) in
+      let step : Step = record { row = r .counts; event = e } in
+      implies (bit (r .mask) e) (placePermits COUNTS q step) (λ set.
+      let permitted = implied (bit (r .mask) e) (placePermits COUNTS p step) (all-member _ (tabulate COUNTS (λ e. e)) t k) set in
+      le→permits COUNTS q step (omega (arith, permits→le COUNTS p step permitted, same-given (r .counts), same-taken (r .counts), s .consumed e h))))
+
+  pub same-fits : (rs : List Row) → fitsRows p rs ≡ true → fitsRows q rs ≡ true
+  unfolding fitsRows
+  same-fits rs e = yes-true _ (all-intro (rowFits q) rs (λ r k. same-row r (all-member (rowFits p) rs (rw e tt) k)))
+
+-- ---- Lists written one number after another
+
+-- what is so below k and at k is so below k + 1
+pub each-next : (P : ℕ → Type 0) (k : ℕ) → ((i : ℕ) → i < k → P i) → P k → (i : ℕ) → i < k + 1 → P i
+each-next P k below here i b = ⊎-elim (λ e. subst P (sym e) here) (below i) (eq-or-lt-of-le {n = i} {m = k} (omega arith))
+
+-- the same of a list's elements, once element k is written
+pub each-set : (P : ℕ → ℕ → Type 0) (l : List ℕ) (k x : ℕ) → k < length l → ((i : ℕ) → i < k → P i (getD l i 0)) → P k x
+    → (i : ℕ) → i < k + 1 → P i (getD (set l k x) i 0)
+each-set P l k x h below here =
+    each-next (λ (i : ℕ). P i (getD (set l k x) i 0)) k
+    (λ i b. subst (P i) (sym (getD-set-other l k i x 0 (λ e. omega arith))) (below i b))
+    (subst (P k) (sym (getD-set-same l k x 0 h)) here)
+
+pub short-set : (l : List ℕ) (k x : ℕ) → k < length l → x < 65536 → Short l → Short (set l k x)
+short-set l k x h small short i = go (eqb i k) refl
+  where
+    go : (b : Bool) → eqb i k ≡ b → getD (set l k x) i 0 < 65536
+    go true e = rw (eqb-true i k e) (rw (getD-set-same l k x 0 h) small)
+    go false e = rw (getD-set-other l k i x 0 (eqb-false i k e)) (short i)
+
+pub short-zeros : (n : ℕ) → Short (replicate n 0)
+short-zeros zero k = omega arith
+short-zeros (suc n) zero = omega arith
+short-zeros (suc n) (suc k) = short-zeros n k
+
+-- ---- A place written into a column
+
+-- m is m₀ with what the place p has for the events below e in column j
+pub record Storing (m₀ m : List ℕ) (j : ℕ) (p : Place) (e : ℕ) : Type 0 where
+  pub size : length m ≡ length m₀
+  pub short : Short m
+  pub produced : (i : ℕ) → i < e → getD m (inRow i + j) 0 ≡ p .produced i
+  pub consumed : (i : ℕ) → i < e → getD m (outRow i + j) 0 ≡ p .consumed i
+  pub beside : Beside m₀ m j
+
+module _ {m₀ : List ℕ} {j : ℕ} {p : Place} where
+  pub storing-start : Short m₀ → Storing m₀ m₀ j p 0
+  storing-start short = record { size = refl; short = short; produced = λ i b. absurd (omega arith); consumed = λ i b. absurd (omega arith); beside = λ x k b ne. refl }
+
+  module _ (column-there : j < WIDTH) (long : MATRIX ≤ length m₀) where
+    pub storing-next : {m : List ℕ} {e : ℕ} → e < COUNTS → Storing m₀ m j p e → p .produced e < 65536 → p .consumed e < 65536
+        → Storing m₀ (set (set m (inRow e + j) (p .produced e)) (outRow e + j) (p .consumed e)) j p (e + 1)
+    storing-next {m} {e} h s small₁ small₂ =
+        let x = p .produced e in
+        let y = p .consumed e in
+        let a = inRow e + j in
+        let b = outRow e + j in
+        let first = set m a x in
+        let here : a < length m = omega (arith, s .size) in
+        let there : b < length first = rw (length-set m a x) (omega (arith, s .size)) in
+        let kept : (k : ℕ) → (k ≡ a → ⊥) → (k ≡ b → ⊥) → getD (set first b y) k 0 ≡ getD m k 0 = λ k na nb. getD-set-other first b k y 0 nb ∙ getD-set-other m a k x 0 na in
+        record {
+          size = length-set first b y ∙ length-set m a x ∙ s .size;
+          short = short-set first b y there small₂ (short-set m a x here small₁ (s .short));
+          produced = each-next (λ (i : ℕ). getD (set first b y) (inRow i + j) 0 ≡ p .produced i) e
+              (λ i l. kept (inRow i + j) (λ q. omega arith) (λ q. omega arith) ∙ s .produced i l)
+              (getD-set-other first b a y 0 (λ q. omega arith) ∙ getD-set-same m a x 0 here);
+          consumed = each-next (λ (i : ℕ). getD (set first b y) (outRow i + j) 0 ≡ p .consumed i) e
+              (λ i l. kept (outRow i + j) (λ q. omega arith) (λ q. omega arith) ∙ s .consumed i l)
+              (getD-set-same first b y 0 there);
+          beside = λ r k few ne. kept (WIDTH * r + k) (λ q. ne (omega arith)) (λ q. ne (omega arith)) ∙ s .beside r k few ne;
+        }
+
+    -- the initial tokens last
+    pub stored : {m : List ℕ} {e : ℕ} → COUNTS ≤ e → Storing m₀ m j p e → p .initial < 65536
+        → let m′ = set m j (p .initial) in Short m′ × SamePlace (column m′ j) p × Beside m₀ m′ j
+    stored {m} h s small =
+        let x = p .initial in
+        let here : j < length m = omega (arith, s .size) in (
+          short-set m j x here small (s .short),
+          record {
+            initial = getD-set-same m j x 0 here;
+            produced = λ i b. getD-set-other m j (inRow i + j) x 0 (λ q. omega arith) ∙ s .produced i (omega arith);
+            consumed = λ i b. getD-set-other m j (outRow i + j) x 0 (λ q. omega arith) ∙ s .consumed i (omega arith);
+          },
+          λ r k few ne. getD-set-other m j (WIDTH * r + k) x 0 (λ q. ne (omega arith)) ∙ s .beside r k few ne,
+        )
+
+-- ---- The places of a bundle written into the columns
+
+-- the code's place at the offset of place j
+pub place-is : (n : ℕ) (b : List ℕ) (spot first j : ℕ) (q : Declared.Place) → q ≡ machinePlace (fieldsAt n b spot) → spot ≡ first + 2 * (j * placeSize n)
+    → placeOf q ≡ toPlace (fieldsAt n b (first + 2 * (j * placeSize n)))
+place-is n b spot first j q e is = ap placeOf e ∙ place-means (fieldsAt n b spot) ∙ ap (λ (x : ℕ). toPlace (fieldsAt n b x)) is
+
+-- one column more, the others untouched
+pub written-next : {n : ℕ} {b : List ℕ} {first : ℕ} {m m′ : List ℕ} {j : ℕ} → j < WIDTH → Written n b first m j → Beside m m′ j
+    → SamePlace (column m′ j) (toPlace (fieldsAt n b (first + 2 * (j * placeSize n)))) → Written n b first m′ (j + 1)
+written-next {n} {b} {first} {m} {m′} {j} few below beside here = record {
+  places = each-next (λ (i : ℕ). SamePlace (column m′ i) (toPlace (fieldsAt n b (first + 2 * (i * placeSize n))))) j
+      (λ i l.
+      let there = below .places i l in
+      let kept : (x : ℕ) → getD m′ (WIDTH * x + i) 0 ≡ getD m (WIDTH * x + i) 0 = λ x. beside x i (omega arith) (λ e. omega arith) in
+      let top : WIDTH * 0 + i ≡ i = omega arith in
+      record {
+        initial = sym (ap (λ (k : ℕ). getD m′ k 0) top) ∙ kept 0 ∙ ap (λ (k : ℕ). getD m k 0) top ∙ there .initial;
+        produced = λ e k. kept (1 + e) ∙ there .produced e k;
+        consumed = λ e k. kept (13 + e) ∙ there .consumed e k;
+      })
+      here;
+}
+
+-- ---- The places of a bundle that all fit
+
+pub all-fit : {n : ℕ} {b : List ℕ} {first : ℕ} {m : List ℕ} {count : ℕ} {rs : List Row} → Written n b first m count
+    → ((j : ℕ) → j < count → fitsRows (column m j) rs ≡ true) → AllFit n b first count rs
+all-fit {rs = rs} written fit = record { places = λ j h. same-fits (written .places j h) rs (fit j h) }
+
+-- so none is the first that does not
+pub none-failing : {n : ℕ} {b : List ℕ} {first count : ℕ} {rs : List Row} → AllFit n b first count rs
+    → firstFailing (λ (f : PlaceFields). fitsRows (toPlace f) rs) (itemsAt (placeSize n) (fieldsAt n) count b first) ≡ count
+none-failing {n} {b} {first} {count} {rs} h =
+    let size = items-length (placeSize n) (fieldsAt n) count b first in
+    let d = fieldsAt n b first in
+    failing-never (λ (f : PlaceFields). fitsRows (toPlace f) rs) d (itemsAt (placeSize n) (fieldsAt n) count b first) (λ j l.
+    let few : j < count = omega (arith, size, l) in
+    rw (getD-items (placeSize n) (fieldsAt n) count b first j d few) (h .places j few))
+    ∙ size

@@ -1,0 +1,220 @@
+// The places of a bundle side by side, so that the compiler takes several at a time. The contracts cite specs/Columns.antt.
+use bundles::Places;
+use logs::rows::ROW;
+use nets::COUNTS;
+use nets::Place;
+use nets::has_bit;
+ghost use mathlib.Core.Path.{_≡_};
+ghost use mathlib.Core.Bool.{true};
+ghost use Prim.Native.Nat.{ℕ, _+_, _*_, _≤_, _<_};
+ghost use lib.Dec.{T};
+ghost use lib.ListN.{length, getD};
+ghost use Rattle.laws.specs.Bits.{bit};
+ghost use Rattle.nets.specs.Machine.{COUNTS, placeOf};
+ghost use Rattle.bundles.specs.PlaceSteps.{placeSize};
+ghost use Rattle.logs.specs.Rows.{ROW, none, rowsOf};
+ghost use Rattle.fitting.specs.Fitting.{fitsRows};
+ghost use Rattle.fitting.specs.Columns.{WIDTH, MATRIX, BASE, column, Short, SamePlace, Few, Moderate, Marking, Covered, Recounted, Beside, Written};
+
+// The columns of a matrix: as many as a bundle may have places.
+pub const WIDTH: usize = 64;
+
+// The numbers of a matrix: a row for each number of a place.
+pub const MATRIX: usize = 1600;
+
+// What the tokens of a place are counted from, so that they are a natural number also where they are negative.
+const BASE: u32 = 2147483648;
+
+// Adds `times` the row at `plus` to the tokens, and takes off `times` the row at `minus`.
+fn shift(tokens: &mut [u32], count: usize, matrix: &[u32], plus: usize, minus: usize, times: u32)
+    requires { ⌜ (count ≤ length (now tokens)) × (plus + count ≤ length (now matrix)) × (minus + count ≤ length (now matrix)) × (times < 256) × Short (now matrix) × Moderate count (now tokens) ⌝ }
+    ensures { λ u. ⌜ ((j : ℕ) → j < count → getD (now (tokens .exit)) j 0 + times * getD (now (matrix .entry)) (minus + j) 0 ≡ getD (now (tokens .entry)) j 0 + times * getD (now (matrix .entry)) (plus + j) 0) ⌝ }
+{
+    let mut j = 0;
+    while j < count {
+        tokens[j] = tokens[j] + times * matrix[plus + j] - times * matrix[minus + j];
+        j += 1;
+    }
+}
+
+// Whether the tokens cover what the row at an offset says, in each column. A bit of `left` says so for all, without a branch.
+fn covers_row(tokens: &[u32], count: usize, matrix: &[u32], at: usize) -> bool
+    requires { ⌜ (count ≤ length (now tokens)) × (at + count ≤ length (now matrix)) × Short (now matrix) × Moderate count (now tokens) ⌝ }
+    ensures { λ r. ⌜ (r ≡ true → (j : ℕ) → j < count → BASE + getD (now (matrix .entry)) (at + j) 0 ≤ getD (now (tokens .entry)) j 0) ⌝ }
+{
+    let mut left = BASE;
+    let mut j = 0;
+    while j < count {
+        left = left & (tokens[j] - matrix[at + j]);
+        j += 1;
+    }
+    BASE <= left
+}
+
+// The tokens where event i goes from `before` to `after` occurrences. Mostly to one more, which needs no product.
+fn recount(tokens: &mut [u32], count: usize, matrix: &[u32], i: usize, before: u16, after: u16)
+    requires { ⌜ (count ≤ WIDTH) × (count ≤ length (now tokens)) × (MATRIX ≤ length (now matrix)) × (i < COUNTS) × (before < 256) × (after < 256) × Short (now matrix) × Moderate count (now tokens) ⌝ }
+    ensures { λ u. ⌜ Recounted count (now (matrix .entry)) (now (tokens .entry)) (now (tokens .exit)) i before after ⌝ }
+{
+    let produced = WIDTH * (1 + i);
+    let consumed = WIDTH * (1 + COUNTS + i);
+    if before < after {
+        let more = after - before;
+        if more == 1 {
+            shift(tokens, count, matrix, produced, consumed, 1);
+            return;
+        }
+        shift(tokens, count, matrix, produced, consumed, more as u32);
+        return;
+    }
+    if after < before {
+        shift(
+            tokens,
+            count,
+            matrix,
+            consumed,
+            produced,
+            (before - after) as u32,
+        );
+    }
+}
+
+// The tokens after the counts of a row, from those after the counts `before`.
+fn advance(tokens: &mut [u32], count: usize, matrix: &[u32], before: [u16; 12], row: &[u16])
+    requires { ⌜ (count ≤ WIDTH) × (count ≤ length (now tokens)) × (MATRIX ≤ length (now matrix)) × (COUNTS ≤ length (now row)) × Short (now matrix) × Few before × Few (now row) × Marking count (now matrix) (now tokens) before ⌝ }
+    ensures { λ u. ⌜ Marking count (now (matrix .entry)) (now (tokens .exit)) (now (row .entry)) ⌝ }
+{
+    let mut i = 0;
+    while i < COUNTS {
+        recount(tokens, count, matrix, i, before[i], row[i]);
+        i += 1;
+    }
+}
+
+// Whether the tokens cover what event e takes, in each column, if its bit is set in the mask.
+fn covers_event(tokens: &[u32], count: usize, matrix: &[u32], mask: u16, e: usize) -> bool
+    requires { ⌜ (count ≤ WIDTH) × (count ≤ length (now tokens)) × (MATRIX ≤ length (now matrix)) × (e < COUNTS) × Short (now matrix) × Moderate count (now tokens) ⌝ }
+    ensures { λ r. ⌜ (r ≡ true → T (bit mask e) → Covered count (now (matrix .entry)) (now (tokens .entry)) e) ⌝ }
+{
+    if !has_bit(mask, e) {
+        return true;
+    }
+    let at = WIDTH * (1 + COUNTS + e);
+    covers_row(tokens, count, matrix, at)
+}
+
+// Whether the tokens cover what each event of the mask takes, in each column.
+fn covers_mask(tokens: &[u32], count: usize, matrix: &[u32], mask: u16) -> bool
+    requires { ⌜ (count ≤ WIDTH) × (count ≤ length (now tokens)) × (MATRIX ≤ length (now matrix)) × Short (now matrix) × Moderate count (now tokens) ⌝ }
+    ensures { λ r. ⌜ (r ≡ true → (e : ℕ) → e < COUNTS → T (bit mask e) → Covered count (now (matrix .entry)) (now (tokens .entry)) e) ⌝ }
+{
+    let mut e = 0;
+    while e < COUNTS {
+        if !covers_event(tokens, count, matrix, mask, e) {
+            return false;
+        }
+        e += 1;
+    }
+    true
+}
+
+// Whether the counts of the row at the front of a slice are below 256, as those of a log are.
+fn counts_few(row: &[u16]) -> bool
+    requires { ⌜ COUNTS ≤ length (now row) ⌝ }
+    ensures { λ r. ⌜ (r ≡ true → Few (now (row .entry))) ⌝ }
+{
+    let mut few = true;
+    let mut i = 0;
+    while i < COUNTS {
+        few = few & (row[i] < 256);
+        i += 1;
+    }
+    few
+}
+
+// The counts of the row at the front of a slice.
+fn counts_of(row: &[u16]) -> [u16; 12]
+    requires { ⌜ COUNTS ≤ length (now row) ⌝ }
+    ensures { λ r. ⌜ ((i : ℕ) → i < COUNTS → getD r i 0 ≡ getD (now (row .entry)) i 0) ⌝ }
+{
+    let mut counts = [0u16; 12];
+    let mut i = 0;
+    while i < COUNTS {
+        counts[i] = row[i];
+        i += 1;
+    }
+    counts
+}
+
+// Whether the places of the first `count` columns permit what the rows of a table allow, and its counts are few. The tokens are the initial
+// ones at first.
+pub fn columns_fit(
+    tokens: &mut [u32],
+    count: usize,
+    matrix: &[u32],
+    table: &[u16],
+    rows: usize,
+) -> bool
+    requires { ⌜ (count ≤ WIDTH) × (count ≤ length (now tokens)) × (MATRIX ≤ length (now matrix)) × (ROW * rows ≤ length (now table)) × Short (now matrix) × Marking count (now matrix) (now tokens) none ⌝ }
+    ensures { λ r. ⌜ (r ≡ true → (j : ℕ) → j < count → fitsRows (column (now (matrix .entry)) j) (rowsOf rows (now (table .entry))) ≡ true) ⌝ }
+{
+    let mut before = [0u16; 12];
+    let mut r = 0;
+    while r < rows {
+        let at = ROW * r;
+        if !counts_few(&table[at..]) {
+            return false;
+        }
+        advance(tokens, count, matrix, before, &table[at..]);
+        if !covers_mask(tokens, count, matrix, table[at + COUNTS]) {
+            return false;
+        }
+        let counts = counts_of(&table[at..]);
+        before = counts;
+        r += 1;
+    }
+    true
+}
+
+// The tokens of the first `count` columns at first.
+pub fn start(tokens: &mut [u32], count: usize, matrix: &[u32])
+    requires { ⌜ (count ≤ length (now tokens)) × (count ≤ length (now matrix)) × Short (now matrix) ⌝ }
+    ensures { λ u. ⌜ Marking count (now (matrix .entry)) (now (tokens .exit)) none ⌝ }
+{
+    let mut j = 0;
+    while j < count {
+        tokens[j] = BASE + matrix[j];
+        j += 1;
+    }
+}
+
+// Writes the numbers of a place into column j.
+fn write_column(matrix: &mut [u32], j: usize, place: Place)
+    requires { ⌜ (j < WIDTH) × (MATRIX ≤ length (now matrix)) × Short (now matrix) ⌝ }
+    ensures { λ u. ⌜ Short (now (matrix .exit)) × SamePlace (column (now (matrix .exit)) j) (placeOf place) × Beside (now (matrix .entry)) (now (matrix .exit)) j ⌝ }
+{
+    let mut e = 0;
+    while e < COUNTS {
+        matrix[WIDTH * (1 + e) + j] = place.produced[e] as u32;
+        matrix[WIDTH * (1 + COUNTS + e) + j] = place.consumed[e] as u32;
+        e += 1;
+    }
+    matrix[j] = place.initial as u32;
+}
+
+// Writes the places of a bundle into the columns of a matrix.
+pub fn write_columns(bundle: &[u8], n: usize, places: Places, matrix: &mut [u32])
+    requires { ⌜ (n ≤ 12) × (places .first + 2 * (places .count * placeSize n) ≤ length (now bundle)) × (places .count ≤ WIDTH) × (MATRIX ≤ length (now matrix)) × Short (now matrix) ⌝ }
+    ensures { λ u. ⌜ Short (now (matrix .exit)) × Written n (now (bundle .entry)) (places .first) (now (matrix .exit)) (places .count) ⌝ }
+{
+    let size = 2 * (1 + 2 * n);
+    let count = places.count;
+    let mut at = places.first;
+    let mut j = 0;
+    while j < count {
+        let place = bundles::place_at(bundle, at, n);
+        write_column(matrix, j, place);
+        at += size;
+        j += 1;
+    }
+}
