@@ -45,6 +45,7 @@ blank = replicate 512 0
 unfoldable pub usedCount : List ℕ → ℕ
 usedCount b = numberAt b 2
 
+-- so many contents, from byte 4 on
 unfoldable pub usedContents : List ℕ → List ℕ
 usedContents b = take (usedCount b) (drop 4 b)
 

@@ -7,7 +7,7 @@ use lib.ListN.{length, take, drop}
 use lib.Dec.{eqb, leb}
 use Rattle.laws.specs.Pieces.{joined}
 use Rattle.laws.specs.Scans.{firstFalse}
-use Rattle.refusals.specs.Table.{FILE-LENGTH, BUNDLE-LENGTH}
+use Rattle.refusals.specs.Table.{FILE-LENGTH, BUNDLE-LENGTH, rightSize}
 use Rattle.refusals.specs.Answers.{refusal, Result}
 use Rattle.refusals.specs.Answers.Result.{bytes, refused}
 use Rattle.refusals.specs.declared.Refusal.{Refusal}
@@ -15,6 +15,7 @@ use Rattle.block.specs.Block.{isZero, block, fault, usedContents}
 
 -- ---- Opening
 
+-- how many whole blocks a file has, and block k
 unfoldable pub blockCount : List ℕ → ℕ
 blockCount file = length file / 512
 
@@ -34,6 +35,7 @@ unfoldable pub firstFault : List ℕ → Refusal
 firstFault file =
     cond (eqb (firstFaulty file) (blockCount file)) (refusal 0 (blockCount file)) (refusal (faultAt file (firstFaulty file)) (firstFaulty file))
 
+-- the contents that block k uses
 unfoldable pub contentsAt : List ℕ → ℕ → List ℕ
 contentsAt file k = usedContents (blockAt file k)
 
@@ -45,6 +47,7 @@ bundleOf file = joined (contentsAt file) (blockCount file)
 unfoldable pub rightLength : ℕ → Bool
 rightLength n = leb 1 n && (eqb (n % 512) 0 && leb n 65536)
 
+-- what opening gives: refusal 1, then that of the lowest faulty block, else the bundle
 unfoldable pub opened : List ℕ → Result
 opened file =
     cond (rightLength (length file))
@@ -64,6 +67,7 @@ pub record Sound (file : List ℕ) : Type 0 where
 unfoldable pub partAt : List ℕ → ℕ → List ℕ
 partAt bundle k = take 504 (drop (504 * k) bundle)
 
+-- block k of the sealed file
 unfoldable pub sealedBlockAt : List ℕ → ℕ → List ℕ
 sealedBlockAt bundle k = block k (partAt bundle k)
 
@@ -71,12 +75,10 @@ sealedBlockAt bundle k = block k (partAt bundle k)
 unfoldable pub blocksFor : ℕ → ℕ
 blocksFor n = (n + 503) / 504
 
+-- the blocks joined
 unfoldable pub sealedFile : List ℕ → List ℕ
 sealedFile bundle = joined (sealedBlockAt bundle) (blocksFor (length bundle))
 
--- 1 to 64,512 bytes
-unfoldable pub rightSize : ℕ → Bool
-rightSize n = leb 1 n && leb n 64512
-
+-- what sealing gives: refusal 4, else the file
 unfoldable pub sealed : List ℕ → Result
 sealed bundle = cond (rightSize (length bundle)) (bytes (sealedFile bundle)) (refused (refusal BUNDLE-LENGTH 0))

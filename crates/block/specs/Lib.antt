@@ -4,5 +4,6 @@ pub mod BlockLaws
 pub mod OpenLaws
 pub mod SealLaws
 pub mod RoundTrip
-pub mod Order
+pub mod RefusalNumbers
 pub mod Rooms
+pub mod Whole

@@ -12,7 +12,8 @@ use Rattle.refusals.specs.Laws.{answer-within}
 use Rattle.refusals.specs.declared.Refusal.{Refusal}
 use Rattle.refusals.specs.declared.Written.{Written}
 use Rattle.refusals.specs.declared.Written.the-variants.{Length, Refused}
-use Rattle.block.specs.File.{opened, blocksFor, rightSize, sealed, sealedFile}
+use Rattle.refusals.specs.Table.{rightSize}
+use Rattle.block.specs.File.{opened, blocksFor, sealed, sealedFile}
 use Rattle.block.specs.SealLaws.{rightSize-bounds, length-sealedFile, sealed-length, sealed-file}
 use Rattle.block.specs.RoundTrip.{opened-size}
 

@@ -13,13 +13,13 @@ use borrow.Author.Tests.{eqb-true, eqb-false, eq-eqb, le-leb}
 use Rattle.laws.specs.Parts.{front, take-min}
 use Rattle.laws.specs.Pieces.{joined-same, joined-parts, part-joined}
 use Rattle.laws.specs.Numbers.{Bytes, bytes-take, bytes-drop, bytes-append, bytes-joined, bytes-zeros, le16, bytes-le16}
-use Rattle.refusals.specs.Table.{FILE-LENGTH, BUNDLE-LENGTH}
+use Rattle.refusals.specs.Table.{FILE-LENGTH, BUNDLE-LENGTH, rightSize}
 use Rattle.refusals.specs.Answers.{refusal, Result, answer, written}
 use Rattle.refusals.specs.Answers.Result.{bytes, refused}
 use Rattle.refusals.specs.Laws.{Ends, ends-written, answer-taken}
 use Rattle.refusals.specs.declared.Written.the-variants.{Length}
 use Rattle.block.specs.Block.{plainSum, positionSum, padded, summedBytes, withSums, block, isZero, rightCount, usedCount, usedContents}
-use Rattle.block.specs.File.{blockCount, blockAt, faultAt, firstFault, contentsAt, bundleOf, rightLength, opened, Sound, partAt, sealedBlockAt, blocksFor, sealedFile, rightSize, sealed}
+use Rattle.block.specs.File.{blockCount, blockAt, faultAt, firstFault, contentsAt, bundleOf, rightLength, opened, Sound, partAt, sealedBlockAt, blocksFor, sealedFile, sealed}
 use Rattle.block.specs.BlockLaws.{rightCount-some, rightCount-intro, block-contents, block-sound, block-unique}
 use Rattle.block.specs.OpenLaws.{length-blockAt, keeps, used-most, used-full, length-contentsAt, length-before, length-bundle, firstFault-none, opened-bundle, opened-sound}
 use Rattle.block.specs.SealLaws.{rightSize-bounds, rightSize-intro, length-partAt, length-sealedBlockAt, length-blocksBefore, length-sealedFile, sealed-file}
@@ -199,6 +199,14 @@ undone : (f g : List ℕ → Result) (x : List ℕ) → ((y : List ℕ) → f x 
     → (first second : List ℕ) (n : ℕ) → answer (f x) (length first) ≡ Length n → length x ≤ length second
     → Ends (g (take n (written (f x) first))) second (Length (length x)) (front x second)
 undone f g x back first second n e room = ends-written _ second x (back _ (answer-taken (f x) first n e)) room
+
+-- a bundle of 1 to 64,512 bytes is sealed into a long enough output
+pub seals : (bundle output : List ℕ) → 1 ≤ length bundle → length bundle ≤ 64512 → 512 * blocksFor (length bundle) ≤ length output
+    → answer (sealed bundle) (length output) ≡ Length (512 * blocksFor (length bundle))
+seals bundle output some most room =
+    let size = length-sealedFile bundle in
+    let ends = ends-written (sealed bundle) output (sealedFile bundle) (sealed-file bundle (rightSize-intro (length bundle) some most)) (omega (arith, size)) in
+    sym (ends .0) ∙ ap Length size
 
 -- a bundle sealed into one output, and the file opened into another
 pub seal-then-open : (bundle first second : List ℕ) (n : ℕ) → answer (sealed bundle) (length first) ≡ Length n → length bundle ≤ length second

@@ -9,11 +9,11 @@ use lib.Dec.{leb}
 use borrow.Author.Tests.{leb-true, le-leb}
 use Rattle.laws.specs.Booleans.{and-left, and-right}
 use Rattle.laws.specs.Pieces.{joined, length-joined}
-use Rattle.refusals.specs.Table.{BUNDLE-LENGTH}
+use Rattle.refusals.specs.Table.{BUNDLE-LENGTH, rightSize}
 use Rattle.refusals.specs.Answers.{refusal}
 use Rattle.refusals.specs.Answers.Result.{bytes, refused}
 use Rattle.block.specs.Block.{block, withSums}
-use Rattle.block.specs.File.{partAt, sealedBlockAt, blocksFor, sealedFile, rightSize, sealed}
+use Rattle.block.specs.File.{partAt, sealedBlockAt, blocksFor, sealedFile, sealed}
 use Rattle.block.specs.BlockLaws.{length-summedBytes}
 
 -- 1 to 64,512 bytes

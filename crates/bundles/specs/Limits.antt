@@ -11,6 +11,7 @@ use Rattle.laws.specs.Every.{Every, every-member}
 use Rattle.nets.specs.Nets.{Log, eventCount}
 use Rattle.nets.specs.LogLaws.{eventCount-append, eventCount-snoc}
 use Rattle.nets.specs.Fits.{LogBelow}
+use Rattle.refusals.specs.Table.{rightSize}
 use Rattle.bundles.specs.Layout.{Head, WordInLimits, HeadInLimits, headBytes, sizeFits}
 use Rattle.bundles.specs.ReadingLaws.{Following}
 use Rattle.bundles.specs.LayoutLaws.{WordValid, HeadValid}
@@ -21,11 +22,11 @@ words-below n log words w m e k = every-member (λ x. x < n) w (every-member (Wo
 
 -- a bundle of at least one and at most 64,512 bytes
 pub size→ : (b : List ℕ) → T (sizeFits b) → length b ≤ 64512
-unfolding sizeFits
+unfolding sizeFits rightSize
 size→ b t = leb→le (length b) 64512 (and-r (leb 1 (length b)) (leb (length b) 64512) t)
 
 pub →size : (b : List ℕ) (h : Head) (rest : List ℕ) → b ≡ headBytes h ++ rest → length b ≤ 64512 → T (sizeFits b)
-unfolding sizeFits headBytes
+unfolding sizeFits rightSize headBytes
 →size b h rest e most = and-i (leb 1 (length b)) (leb (length b) 64512) (le→leb 1 (length b) (omega (arith, ap length e))) (le→leb (length b) 64512 most)
 
 module _ (n : ℕ) (rowsFit : Log → Bool) (fewer : (log more : Log) → T (rowsFit (log ++ more)) → T (rowsFit log)) where

@@ -11,6 +11,7 @@ use borrow.Author.Tests.{leb-true}
 use lib.ListN.{length, replicate, set, length-append}
 use lib.Seq.{set-append-seam}
 use Rattle.laws.specs.Parts.{getD-padded}
+use Rattle.nets.specs.Nets as theory
 use Rattle.nets.specs.declared.Place.{Place}
 use Rattle.nets.specs.Machine.{placeOf}
 use Rattle.refusals.specs.Table.{BUNDLE-END}
@@ -36,6 +37,10 @@ numbersAt n b at = itemsAt 1 numberAt n b at
 
 abbrev pub fieldsAt : ℕ → List ℕ → ℕ → PlaceFields
 fieldsAt n b at = record { initial = numberAt b at; produced = numbersAt n b (at + 2); consumed = numbersAt n b (at + 2 + 2 * n) }
+
+-- the place of n events at an offset
+abbrev pub placeOn : ℕ → List ℕ → ℕ → theory.Place
+placeOn n b at = toPlace (fieldsAt n b at)
 
 pub spans-place : (n : ℕ) → Spans (place n) (placeSize n) (fieldsAt n)
 unfolding place
@@ -81,22 +86,6 @@ module _ (b : List ℕ) (at : ℕ) where
       ap (λ (k : ℕ). set (padded (numbersAt i b at)) k (numberAt b (at + 2 * i))) (sym size)
       ∙ padded-set (numbersAt i b at) (numberAt b (at + 2 * i)) (omega arith)
       ∙ ap padded (sym (rw add-one (items-snoc 1 numberAt i b at ∙ rw (mul-one i))))
-
--- a place of zeros
-abbrev pub noPlace : Place
-noPlace = record { initial = 0; produced = replicate 12 0; consumed = replicate 12 0 }
-
--- the place that was read, or one of zeros
-unfoldable pub placeIn : Read PlaceFields → Place
-placeIn (got f next) = machinePlace f
-placeIn (failed number spot) = noPlace
-
-module _ (n : ℕ) (b : List ℕ) (at : ℕ) where
-  pub place-missing : numbersLeft b at < placeSize n → place n b at ≡ failed BUNDLE-END (at + 2 * numbersLeft b at)
-  place-missing h = spans-place n .missing b at h
-
-  pub place-there : placeSize n ≤ numbersLeft b at → place n b at ≡ got (fieldsAt n b at) (at + 2 * placeSize n)
-  place-there h = spans-place n .there b at h
 
 -- ---- the places of a bundle
 

@@ -52,29 +52,6 @@ head rowsFit = do
   ps ← places n
   give (record { events = n; log = log; places = ps })
 
--- screening does not count rows
-abbrev pub anyRows : ℕ → Log → Bool
-anyRows n log = true
-
--- the head that was read, or one without an event, a word and a place
-unfoldable pub headIn : Read Head → Head
-headIn (got h next) = h
-headIn (failed number spot) = record { events = 0; log = []; places = [] }
-
--- the head of a bundle, as screening reads it
-unfoldable pub headOf : List ℕ → Head
-headOf b = headIn (head anyRows b 0)
-
--- a bundle's event count, log and net
-abbrev pub eventsIn : List ℕ → ℕ
-eventsIn b = headOf b .events
-
-abbrev pub logIn : List ℕ → Log
-logIn b = headOf b .log
-
-abbrev pub netIn : List ℕ → Net
-netIn b = toNet (headOf b)
-
 -- a term: a row, an event, a weight
 unfoldable pub term : ℕ → ℕ → Reader TermFields
 term n rowCount = do
@@ -98,7 +75,33 @@ ofKind h zero = do
   give (kind0 j)
 ofKind h (suc _) = weights (h .events) (length (rows (h .events) (h .log)))
 
+-- a certificate: its kind, then what follows it
 unfoldable pub certificate : Head → Reader CertificateFields
 certificate h = do
   kind ← byte (λ kind. leb kind 1)
   ofKind h kind
+
+-- ---- A bundle's head
+
+-- screening does not count rows
+abbrev pub anyRows : ℕ → Log → Bool
+anyRows n log = true
+
+-- the head that was read, or one without an event, a word and a place
+unfoldable pub headIn : Read Head → Head
+headIn (got h next) = h
+headIn (failed number spot) = record { events = 0; log = []; places = [] }
+
+-- the head of a bundle, as screening reads it
+unfoldable pub headOf : List ℕ → Head
+headOf b = headIn (head anyRows b 0)
+
+-- a bundle's event count, log and net
+abbrev pub eventsIn : List ℕ → ℕ
+eventsIn b = headOf b .events
+
+abbrev pub logIn : List ℕ → Log
+logIn b = headOf b .log
+
+abbrev pub netIn : List ℕ → Net
+netIn b = toNet (headOf b)

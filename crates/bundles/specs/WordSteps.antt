@@ -180,11 +180,6 @@ word-part n count b at w next e =
     let r = each-byte (below n) b (m .0) [] (m .1) w next (f .3) (t .1) in
     subst (λ (k : ℕ). BytesAt b (at + 1) k w next) (f .1) (subst (λ (k : ℕ). BytesAt b k (m .0) w next) (f .2) (subst (λ (x : List ℕ). BytesAt b (m .1) (m .0) x next) (sym (r .1)) (r .2)))
 
--- a word's events, or none where it is refused
-unfoldable pub wordIn : Read Word → Word
-wordIn (got w next) = w
-wordIn (failed number spot) = []
-
 -- a word and the test behind it, for judging
 pub word-tested : (fits : Log → Bool) (n : ℕ) (log : Log) (b : List ℕ) (at : ℕ) (w : Word) (next : ℕ) → wordAfter n (eventCount log) b at ≡ got w next
     → word fits n log b at ≡ cond (fits (log ++ w ∷ [])) (got w next) (failed ROWS at)

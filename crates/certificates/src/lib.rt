@@ -2,10 +2,11 @@
 use bundles::Field;
 use bundles::Term;
 use bundles::TermRead;
-use bundles::byte_up_to;
-use bundles::number_from;
-use bundles::read_term;
+use bundles::fields::byte_up_to;
+use bundles::fields::number_from;
+use bundles::terms::read_term;
 use logs::rows::ROW;
+use logs::rows::counts_of;
 use nets::COUNTS;
 use nets::has_bit;
 use refusals::Refusal;
@@ -14,13 +15,13 @@ use slices::number_at;
 ghost use mathlib.Core.Path.{_≡_};
 ghost use mathlib.Core.Bool.{cond};
 ghost use Prim.Native.Nat.{ℕ, _+_, _*_, _≤_, _<_};
-ghost use lib.ListN.{length, drop};
+ghost use lib.ListN.{length};
 ghost use Rattle.nets.specs.Nets.{at, same};
 ghost use Rattle.nets.specs.Machine.{COUNTS};
 ghost use Rattle.bundles.specs.Reading.{times};
 ghost use Rattle.bundles.specs.Readers.{term, weights};
 ghost use Rattle.bundles.specs.TermSteps.{termReadOf};
-ghost use Rattle.logs.specs.Rows.{ROW, rowAt, rowsOf};
+ghost use Rattle.logs.specs.Rows.{ROW, rowsOf};
 ghost use Rattle.certificates.specs.Terms.{rowOf, holdsRows, weighedBy};
 ghost use Rattle.certificates.specs.TermSums.{weighedTerms};
 ghost use Rattle.certificates.specs.Totals.{NUMBER, addedWeight, added, sumsHold};
@@ -50,16 +51,6 @@ fn one_if_same(a: usize, b: usize) -> u32
         return 1;
     }
     0
-}
-
-// The counts of a row. (Inner function.)
-pub fn counts_of(table: &[u16], row: usize) -> &[u16]
-    requires { ⌜ ROW * row + ROW ≤ length (now table) ⌝ }
-    ensures { λ r. ⌜ (now r ≡ rowAt (drop (ROW * row) (now (table .entry))) .counts) × (length (now r) ≡ COUNTS) ⌝ }
-{
-    let start = ROW * row;
-    let end = start + COUNTS;
-    &table[start..end]
 }
 
 // A weight as it is added to the sums: 0 once all weights sum up to more than two bytes. The certificate fails then, and the sums stay in 32 bits.

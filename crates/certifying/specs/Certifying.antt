@@ -6,14 +6,14 @@ use Prim.Native.Nat.{ℕ, _+_, _*_}
 use lib.ListN.{length, getD}
 use Rattle.refusals.specs.Table.{PLACE-PERMITS, WEIGHTS}
 use Rattle.refusals.specs.Answers.{refusal}
-use Rattle.nets.specs.Nets.{Counts, Place, Step, rows, tally, placePermits}
+use Rattle.nets.specs.Nets.{Counts, Step, rows, tally, placePermits}
 use Rattle.nets.specs.Fits.{LogBelow}
 use Rattle.logs.specs.Rows.{rowsOf}
 use Rattle.logs.specs.Log.{logRows}
 use Rattle.bundles.specs.Reading.{Read, got, failed}
-use Rattle.bundles.specs.Layout.{CertificateFields, kind0, kind1, Head, toPlace, toBundle}
+use Rattle.bundles.specs.Layout.{CertificateFields, kind0, kind1, Head, toBundle}
 use Rattle.bundles.specs.NumberSteps.{itemsAt}
-use Rattle.bundles.specs.PlaceSteps.{placeSize, fieldsAt}
+use Rattle.bundles.specs.PlaceSteps.{placeSize, fieldsAt, placeOn}
 use Rattle.bundles.specs.declared.Places.{Places}
 use Rattle.verdicts.specs.Judging.{countsOf}
 use Rattle.certificates.specs.declared.Weighed.{Weighed}
@@ -47,10 +47,6 @@ unfoldable pub checkedOf : Read CertificateFields → Checked
 checkedOf (got (kind0 j) next) = checked.ByPlace next
 checkedOf (got (kind1 k ts) next) = checked.ByWeights next
 checkedOf (failed number spot) = checked.Refused (refusal number spot)
-
--- the place of n events at an offset
-abbrev pub placeOn : ℕ → List ℕ → ℕ → Place
-placeOn n b at = toPlace (fieldsAt n b at)
 
 -- place j of a bundle's places, the first at this offset, permits the event e after the counts v
 abbrev pub permitsAt : ℕ → List ℕ → ℕ → Counts → ℕ → ℕ → Bool

@@ -27,7 +27,7 @@ use Rattle.bundles.specs.Readers.{weights, ofKind, certificate}
 use Rattle.bundles.specs.FieldSteps.{upTo, below, byte-got}
 use Rattle.bundles.specs.ReadingLaws.{andThen-got}
 use Rattle.bundles.specs.NumberSteps.{items-length, getD-items}
-use Rattle.bundles.specs.PlaceSteps.{placeSize, fieldsAt}
+use Rattle.bundles.specs.PlaceSteps.{placeSize, fieldsAt, placeOn}
 use Rattle.bundles.specs.declared.Places.{Places}
 use Rattle.logs.specs.Rows.{ROW, Row, rowAt, rowsOf, newRow, none}
 use Rattle.logs.specs.Flat.{rows-at}
@@ -37,7 +37,7 @@ use Rattle.certificates.specs.declared.Weighed.{Weighed}
 use Rattle.certificates.specs.declared.Weighed.the-variants as weighed
 use Rattle.certificates.specs.Terms.{rowOf, holdsRows, weighedBy}
 use Rattle.certificates.specs.TermLaws.{row-counts, row-mask, holds-is}
-use Rattle.certifying.specs.Certifying.{HeadHeld, stepOf, checkedOf, placeOn, permitsAt, placeChecked, weightsChecked}
+use Rattle.certifying.specs.Certifying.{HeadHeld, stepOf, checkedOf, permitsAt, placeChecked, weightsChecked}
 use Rattle.certifying.specs.declared.Checked.{Checked}
 use Rattle.certifying.specs.declared.Checked.the-variants as checked
 

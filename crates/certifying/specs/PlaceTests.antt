@@ -11,9 +11,9 @@ use Rattle.laws.specs.Numbers.{numberAt}
 use Rattle.laws.specs.Sums.{sum}
 use Rattle.nets.specs.Nets.{Counts, at, surplus, placePermits}
 use Rattle.nets.specs.Surplus.{given, taken, tokens-is}
+use Rattle.bundles.specs.PlaceSteps.{placeOn}
 use Rattle.bundles.specs.Layout.{toPlace}
 use Rattle.bundles.specs.NumberSteps.{getD-items}
-use Rattle.certifying.specs.Certifying.{placeOn}
 
 module _ (n : ℕ) (b : List ℕ) (from : ℕ) where
   -- the numbers of the place at an offset

@@ -1,12 +1,12 @@
 // Reading the certificates of a bundle: one for each wrong continuation, checked while it is read.
 use bundles::Field;
 use bundles::Places;
-use bundles::byte_below;
-use bundles::byte_up_to;
+use bundles::fields::byte_below;
+use bundles::fields::byte_up_to;
 use certificates::Weighed;
-use certificates::counts_of;
 use certificates::read_weights;
 use logs::rows::ROW;
+use logs::rows::counts_of;
 use nets::COUNTS;
 use nets::covers;
 use nets::has_bit;
@@ -23,10 +23,10 @@ ghost use Rattle.nets.specs.Nets.{placePermits, wrongContinuations};
 ghost use Rattle.bundles.specs.Reading.{byte, each};
 ghost use Rattle.bundles.specs.Layout.{CertificateFields, Head};
 ghost use Rattle.bundles.specs.FieldSteps.{below};
-ghost use Rattle.bundles.specs.PlaceSteps.{placeSize};
+ghost use Rattle.bundles.specs.PlaceSteps.{placeSize, placeOn};
 ghost use Rattle.logs.specs.Rows.{ROW, rowAt};
 ghost use Rattle.verdicts.specs.Judging.{solved};
-ghost use Rattle.certifying.specs.Certifying.{HeadHeld, certifiedOf, stepOf, checkedOf, placeOn, permitsAt, placeChecked, weightsChecked};
+ghost use Rattle.certifying.specs.Certifying.{HeadHeld, certifiedOf, stepOf, checkedOf, permitsAt, placeChecked, weightsChecked};
 ghost use Rattle.certifying.specs.CertificateSteps.{counted, withCertificate, Outcome};
 
 // The certificates of a bundle: the four counts and the offset behind the last, or a refusal.

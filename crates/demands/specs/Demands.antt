@@ -4,7 +4,7 @@ use mathlib.Core.Path.{_≡_}
 use mathlib.Core.Bool.{true, false, not}
 use mathlib.Core.Logic.{_↔_}
 use mathlib.Core.List.{List, [], _∷_, _++_}
-use Prim.Native.Nat.{ℕ, _≤_, _<_}
+use Prim.Native.Nat.{ℕ, _*_, _≤_, _<_}
 use lib.Dec.{T}
 use lib.ListN.{length, take}
 use Rattle.laws.specs.Lists.{among}
@@ -14,14 +14,14 @@ use Rattle.refusals.specs.Answers.{Result, answer, written, numberOf}
 use Rattle.refusals.specs.Laws.{Ends}
 use Rattle.refusals.specs.declared.Refusal.{Refusal}
 use Rattle.refusals.specs.declared.Written.the-variants as writing
-use Rattle.block.specs.File.{opened, sealed}
-use Rattle.nets.specs.Nets.{Word, Net, permits}
+use Rattle.block.specs.File.{opened, sealed, blocksFor}
+use Rattle.nets.specs.Nets.{Word, Log, Net, permits, rows, eventCount}
 use Rattle.nets.specs.Words.{Prefix, PermitsLog}
 use Rattle.nets.specs.Comparison.{PrefixesIn}
 use Rattle.nets.specs.Screening.{FirstRefused}
 use Rattle.logs.specs.Rows.{withRows, cleared}
 use Rattle.logs.specs.Answers.{TABLE, freshAnswer, freshTable, takenAnswer, takenTable, takenNumber}
-use Rattle.logs.specs.Log.{logRows}
+use Rattle.logs.specs.Log.{logRows, Takes}
 use Rattle.logs.specs.declared.Summary.{Summary}
 use Rattle.logs.specs.declared.Taken.the-variants as taking
 use Rattle.bundles.specs.Layout.{Head, Contents}
@@ -38,8 +38,8 @@ use Rattle.screening.specs.declared.Screened.the-variants as screening
 -- ---- DEMAND 1: 'every call on every input ends in a result or in a refusal from the numbered table, touches no memory but the buffers
 -- lent to it, and leaves in each of them exactly what the table says.'
 -- That a call ends, and touches nothing else, is part of its being proved. Its contract gives the answer and each buffer at exit by the
--- definitions below, for every input. Of these it is stated here that a refusal's number is one of the call's line in the order of
--- refusals (0 is a result, 256 a stop), and what is left in the buffers.
+-- definitions below, for every input; the spots, and which refusal comes first, are in these. Of them it is stated here that a refusal's number
+-- is one of the call's line in the order of refusals (0 is a result, 256 a stop), and what is left in the buffers.
 
 pub record Demand1 : Type 0 where
   pub refusals-of-open : (file : List ℕ) (room : ℕ) → among (numberOf (answer (opened file) room)) (0 ∷ 1 ∷ 2 ∷ 3 ∷ []) ≡ true
@@ -52,6 +52,12 @@ pub record Demand1 : Type 0 where
   pub refused-output : (result : Result) (output : List ℕ) (r : Refusal) → answer result (length output) ≡ writing.Refused r → written result output ≡ output
   pub result-output : (result : Result) (output : List ℕ) (n : ℕ) → answer result (length output) ≡ writing.Length n
       → (new : List ℕ) × (result ≡ Result.bytes new) × (n ≡ length new) × (written result output ≡ front new output)
+  -- a fresh summary leaves zeros up to number 3,327, and the rest; from there on the words that are taken leave the rows of their log, each
+  -- with its mask, zeros up to number 3,327, and the rest
+  pub fresh-table : (n : ℕ) (table : List ℕ) (s : Summary) → freshAnswer n table ≡ taking.Next s → freshTable (freshAnswer n table) table ≡ cleared TABLE table
+  pub log-table : (n : ℕ) (table : List ℕ) (log : Log) (s s′ : Summary) (table′ : List ℕ)
+      → freshAnswer n table ≡ taking.Next s → Takes s (freshTable (freshAnswer n table) table) log s′ table′
+      → (s′ ≡ record { n = n; rows = length (rows n log); events = eventCount log }) × (table′ ≡ withRows (logRows log) (cleared TABLE table))
   -- the summary and fresh, refusing, leave the table
   pub refused-fresh : (n : ℕ) (table : List ℕ) (r : Refusal) → freshAnswer n table ≡ taking.Refused r → freshTable (freshAnswer n table) table ≡ table
   pub refused-take : (s : Summary) (table : List ℕ) (w : Word) (r : Refusal) → takenAnswer s table w ≡ taking.Refused r → takenTable (takenAnswer s table w) s table w ≡ table
@@ -75,6 +81,8 @@ pub record Demand2 : Type 0 where
   pub permitted : (b : List ℕ) (w : Word) → Readable b w → (screened b w ≡ screening.Permitted) ↔ T (permits (eventsIn b) (netIn b) w)
   pub stopped : (b : List ℕ) (w : Word) → Readable b w → (i j : ℕ) → (screened b w ≡ screening.Stopped (record { position = i; place = j })) ↔ FirstRefused (eventsIn b) (netIn b) w i j
   pub readable : (b : List ℕ) → Bytes b → (w : Word) → Readable b w ↔ ((h : Head) × (rest : List ℕ) × Screenable b w h rest)
+  -- every bundle of 1 to 64,512 bytes is sealed
+  pub seals : (b output : List ℕ) → 1 ≤ length b → length b ≤ 64512 → 512 * blocksFor (length b) ≤ length output → answer (sealed b) (length output) ≡ writing.Length (512 * blocksFor (length b))
   pub seal-then-open : (b first second : List ℕ) (n : ℕ) → answer (sealed b) (length first) ≡ writing.Length n → length b ≤ length second
       → Ends (opened (take n (written (sealed b) first))) second (writing.Length (length b)) (front b second)
   pub open-then-seal : (file first second : List ℕ) (n : ℕ) → Bytes file → answer (opened file) (length first) ≡ writing.Length n → length file ≤ length second
@@ -109,12 +117,14 @@ pub record Longer (b₁ b₂ : List ℕ) (w : Word) (e : ℕ) : Type 0 where
   pub screened₁ : ScreenedAtEnd (screened b₁ (w ++ e ∷ [])) (eventsIn b₁) (netIn b₁) w e
   pub screened₂ : ScreenedAtEnd (screened b₂ (w ++ e ∷ [])) (eventsIn b₂) (netIn b₂) w e
 
+-- the whole of demand 3 for two bundles
 pub record Compared (b₁ b₂ : List ℕ) (c₁ c₂ : Counts) : Type 0 where
   pub longer : (w : Word) → Prefix (logIn b₁) w → (e : ℕ) → e < eventsIn b₁ → Longer b₁ b₂ w e
   -- '.. and the four counts in the first verdict equal those in the second, one by one.'
   pub counts : PrefixesIn (logIn b₂) (logIn b₁)
       → (c₁ .rows ≡ c₂ .rows) × (c₁ .allowed ≡ c₂ .allowed) × (c₁ .«by_place» ≡ c₂ .«by_place») × (c₁ .«by_weights» ≡ c₂ .«by_weights»)
 
+-- for any two files that open and are accepted, whatever the outputs and tables held before
 abbrev pub Demand3 : Type 0
 Demand3 =
     (file₁ file₂ output₁ output₂ table₁ table₂ b₁ b₂ : List ℕ) (c₁ c₂ : Counts) → Bytes file₁ → Bytes file₂

@@ -15,10 +15,11 @@ use Rattle.laws.specs.Numbers.{numberAt}
 use Rattle.laws.specs.Differences.{sumℤ}
 use Rattle.laws.specs.Scans.{firstFailing}
 use Rattle.laws.specs.Numbers.{Bytes}
+use Rattle.refusals.specs.Table.{rightSize}
 use Rattle.refusals.specs.Answers.{provided}
 use Rattle.refusals.specs.Answers.Result.{bytes}
 use Rattle.refusals.specs.Laws.{ends-written}
-use Rattle.block.specs.File.{opened, sealedFile, rightSize}
+use Rattle.block.specs.File.{opened, sealedFile}
 use Rattle.block.specs.SealLaws.{sealed-file}
 use Rattle.block.specs.RoundTrip.{opened-sealed, sealed-small}
 use Rattle.nets.specs.Words.{Prefix, PermitsLog}
@@ -38,27 +39,27 @@ use Rattle.demands.specs.Proved.{demand-3}
 use Rattle.demands.specs.Samples.{bytesA}
 
 -- case A with a further word 0, and twice the numbers of its second place
-pub bytesB : List ℕ
-bytesB =
+pub bytesA′ : List ℕ
+bytesA′ =
     2 ∷ 3 ∷ 1 ∷ 1 ∷ 3 ∷ 0 ∷ 0 ∷ 1 ∷ 1 ∷ 0 ∷ 2
     ∷ 1 ∷ 0 ∷ 1 ∷ 0 ∷ 0 ∷ 0 ∷ 1 ∷ 0 ∷ 1 ∷ 0
     ∷ 4 ∷ 0 ∷ 0 ∷ 0 ∷ 0 ∷ 0 ∷ 2 ∷ 0 ∷ 0 ∷ 0
     ∷ 0 ∷ 0 ∷ 0 ∷ 0 ∷ 1 ∷ 2 ∷ 0 ∷ 2 ∷ 0 ∷ 0 ∷ 1 ∷ 1 ∷ 0 ∷ 3 ∷ 0 ∷ 1 ∷ 1 ∷ 0 ∷ 0 ∷ 1 ∷ 0 ∷ 0 ∷ 0 ∷ 0 ∷ []
 
 -- 5 rows, 4 allowed steps, 5 certificates of kind 0 and 1 of kind 1
-pub five : Counts
-five = record { rows = 5; allowed = 4; «by_place» = 5; «by_weights» = 1 }
+pub countsA : Counts
+countsA = record { rows = 5; allowed = 4; «by_place» = 5; «by_weights» = 1 }
 
 -- what computing gives
 record Computed : Type 0 where
-  acceptedA : verdict TABLE bytesA ≡ verdicts.Accepted five
-  acceptedB : verdict TABLE bytesB ≡ verdicts.Accepted five
-  events : eventsIn bytesA ≡ eventsIn bytesB
+  acceptedA : verdict TABLE bytesA ≡ verdicts.Accepted countsA
+  acceptedA′ : verdict TABLE bytesA′ ≡ verdicts.Accepted countsA
+  events : eventsIn bytesA ≡ eventsIn bytesA′
   two : eventsIn bytesA ≡ 2
-  to : all (λ w. member w (prefixes (logIn bytesB))) (prefixes (logIn bytesA)) ≡ true
-  from : all (λ w. member w (prefixes (logIn bytesA))) (prefixes (logIn bytesB)) ≡ true
+  to : all (λ w. member w (prefixes (logIn bytesA′))) (prefixes (logIn bytesA)) ≡ true
+  from : all (λ w. member w (prefixes (logIn bytesA))) (prefixes (logIn bytesA′)) ≡ true
   bytesOfA : all (λ x. ltb x 256) bytesA ≡ true
-  bytesOfB : all (λ x. ltb x 256) bytesB ≡ true
+  bytesOfA′ : all (λ x. ltb x 256) bytesA′ ≡ true
   -- after 0 the event 1 is not allowed, and permitted; after 1 the event 0 is not allowed, and refused
   prefix0 : member (0 ∷ []) (prefixes (logIn bytesA)) ≡ true
   wrong01 : allowed (eventsIn bytesA) (logIn bytesA) (stepAfter (eventsIn bytesA) (0 ∷ []) 1) ≡ false
@@ -68,16 +69,16 @@ record Computed : Type 0 where
   refuses10 : permits (eventsIn bytesA) (netIn bytesA) (1 ∷ 0 ∷ []) ≡ false
 
 computed : Computed
-unfolding bytesA bytesB five headOf headIn permits permitsAfter all any keep tabulate equal numberAt firstFailing provided sumℤ same occurrences eventCount weighed beginnings prefixes addRow counts tokens surplus placePermits netPermits firstRefusing screenAfter screen rows allowed rowSteps continuations allowedSteps wrongContinuations fits refusedBy weighsBefore weighsAfter weightsHold solves isByPlace tally firstBad flatMap andThen require field byte number each toPlace toNet toTerm toCertificate toBundle sizeFits wordAfter word place places head term weights ofKind certificate unsolved solved atEnd afterHead contents judging verdictOn verdict replayed screenedOn screened
+unfolding bytesA bytesA′ countsA headOf headIn permits permitsAfter all any keep tabulate equal numberAt firstFailing provided sumℤ same occurrences eventCount weighed beginnings prefixes addRow counts tokens surplus placePermits netPermits firstRefusing screenAfter screen rows allowed rowSteps continuations allowedSteps wrongContinuations fits refusedBy weighsBefore weighsAfter weightsHold solves isByPlace tally firstBad flatMap andThen require field byte number each toPlace toNet toTerm toCertificate toBundle rightSize sizeFits wordAfter word place places head term weights ofKind certificate unsolved solved atEnd afterHead contents judging verdictOn verdict replayed screenedOn screened
 computed = record {
   acceptedA = refl;
-  acceptedB = refl;
+  acceptedA′ = refl;
   events = refl;
   two = refl;
   to = refl;
   from = refl;
   bytesOfA = refl;
-  bytesOfB = refl;
+  bytesOfA′ = refl;
   prefix0 = refl;
   wrong01 = refl;
   permits01 = refl;
@@ -111,26 +112,26 @@ accepted-sealed b c size accepted output table room long =
       accepted = rw (le-leb TABLE (length table) long) accepted;
     }
 
-module _ (output₁ output₂ table₁ table₂ : List ℕ) (room₁ : length bytesA ≤ length output₁) (room₂ : length bytesB ≤ length output₂) (long₁ : TABLE ≤ length table₁) (long₂ : TABLE ≤ length table₂) where
-  pub first-accepted : FileAccepted (sealedFile bytesA) output₁ table₁ bytesA five
+module _ (output₁ output₂ table₁ table₂ : List ℕ) (room₁ : length bytesA ≤ length output₁) (room₂ : length bytesA′ ≤ length output₂) (long₁ : TABLE ≤ length table₁) (long₂ : TABLE ≤ length table₂) where
+  pub first-accepted : FileAccepted (sealedFile bytesA) output₁ table₁ bytesA countsA
   unfolding bytesA rightSize
-  first-accepted = accepted-sealed bytesA five refl (computed .acceptedA) output₁ table₁ room₁ long₁
+  first-accepted = accepted-sealed bytesA countsA refl (computed .acceptedA) output₁ table₁ room₁ long₁
 
-  pub second-accepted : FileAccepted (sealedFile bytesB) output₂ table₂ bytesB five
-  unfolding bytesB rightSize
-  second-accepted = accepted-sealed bytesB five refl (computed .acceptedB) output₂ table₂ room₂ long₂
+  pub second-accepted : FileAccepted (sealedFile bytesA′) output₂ table₂ bytesA′ countsA
+  unfolding bytesA′ rightSize
+  second-accepted = accepted-sealed bytesA′ countsA refl (computed .acceptedA′) output₂ table₂ room₂ long₂
 
-pub files-of-bytes : Bytes (sealedFile bytesA) × Bytes (sealedFile bytesB)
-files-of-bytes = (sealed-small bytesA (all-bytes bytesA (computed .bytesOfA)), sealed-small bytesB (all-bytes bytesB (computed .bytesOfB)))
+pub files-of-bytes : Bytes (sealedFile bytesA) × Bytes (sealedFile bytesA′)
+files-of-bytes = (sealed-small bytesA (all-bytes bytesA (computed .bytesOfA)), sealed-small bytesA′ (all-bytes bytesA′ (computed .bytesOfA′)))
 
-pub same-events : eventsIn bytesA ≡ eventsIn bytesB
+pub same-events : eventsIn bytesA ≡ eventsIn bytesA′
 same-events = computed .events
 
-pub same-prefixes : PrefixesIn (logIn bytesA) (logIn bytesB) × PrefixesIn (logIn bytesB) (logIn bytesA)
-same-prefixes = (prefixes-in (logIn bytesA) (logIn bytesB) (computed .to), prefixes-in (logIn bytesB) (logIn bytesA) (computed .from))
+pub same-prefixes : PrefixesIn (logIn bytesA) (logIn bytesA′) × PrefixesIn (logIn bytesA′) (logIn bytesA)
+same-prefixes = (prefixes-in (logIn bytesA) (logIn bytesA′) (computed .to), prefixes-in (logIn bytesA′) (logIn bytesA) (computed .from))
 
-pub different : bytesA ≡ bytesB → ⊥
-unfolding bytesA bytesB
+pub different : bytesA ≡ bytesA′ → ⊥
+unfolding bytesA bytesA′
 different e = let z : _≡_ {A = ℕ} 53 55 = ap length e in omega arith
 
 -- ---- what demand 3 says of them
@@ -143,11 +144,11 @@ unfolding zeros
 zeros-long n = omega (arith, length-replicate {A = ℕ} n 0)
 
 -- the comparison, here with outputs and tables of zeros
-pub compares : Compared bytesA bytesB five five
+pub compares : Compared bytesA bytesA′ countsA countsA
 compares =
-    let first = first-accepted (zeros (length bytesA)) (zeros (length bytesB)) (zeros TABLE) (zeros TABLE) (zeros-long _) (zeros-long _) (zeros-long TABLE) (zeros-long TABLE) in
-    let second = second-accepted (zeros (length bytesA)) (zeros (length bytesB)) (zeros TABLE) (zeros TABLE) (zeros-long _) (zeros-long _) (zeros-long TABLE) (zeros-long TABLE) in
-    demand-3 (sealedFile bytesA) (sealedFile bytesB) _ _ _ _ bytesA bytesB five five (files-of-bytes .0) (files-of-bytes .1) first second same-events (same-prefixes .0)
+    let first = first-accepted (zeros (length bytesA)) (zeros (length bytesA′)) (zeros TABLE) (zeros TABLE) (zeros-long _) (zeros-long _) (zeros-long TABLE) (zeros-long TABLE) in
+    let second = second-accepted (zeros (length bytesA)) (zeros (length bytesA′)) (zeros TABLE) (zeros TABLE) (zeros-long _) (zeros-long _) (zeros-long TABLE) (zeros-long TABLE) in
+    demand-3 (sealedFile bytesA) (sealedFile bytesA′) _ _ _ _ bytesA bytesA′ countsA countsA (files-of-bytes .0) (files-of-bytes .1) first second same-events (same-prefixes .0)
 
 prefix-of : (w : Word) → member w (prefixes (logIn bytesA)) ≡ true → Prefix (logIn bytesA) w
 prefix-of w e = member→ w (prefixes (logIn bytesA)) (rw e tt)

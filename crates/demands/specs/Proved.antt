@@ -6,15 +6,16 @@ use lib.ListN.{length}
 use Rattle.refusals.specs.Answers.Result.{bytes}
 use Rattle.refusals.specs.Laws.{answer-length, answer-taken, refused-writes-nothing}
 use Rattle.block.specs.File.{opened}
-use Rattle.block.specs.Order.{open-numbers, seal-numbers}
-use Rattle.block.specs.RoundTrip.{opened-small, seal-then-open, open-then-seal}
+use Rattle.block.specs.RefusalNumbers.{open-numbers, seal-numbers}
+use Rattle.block.specs.RoundTrip.{opened-small, seals, seal-then-open, open-then-seal}
 use Rattle.logs.specs.Answers.{freshTable}
-use Rattle.logs.specs.Order.{fresh-numbers, take-numbers}
+use Rattle.logs.specs.RefusalNumbers.{fresh-numbers, take-numbers}
 use Rattle.logs.specs.AnswerLaws.{refused-table}
+use Rattle.logs.specs.LogTable.{log-table}
 use Rattle.verdicts.specs.Acceptance.{accepted-exactly}
-use Rattle.verdicts.specs.Order.{judge-numbers, refused-judge}
+use Rattle.verdicts.specs.RefusalNumbers.{judge-numbers, refused-judge}
 use Rattle.verdicts.specs.declared.Counts.{Counts}
-use Rattle.screening.specs.Order.{screen-numbers}
+use Rattle.screening.specs.RefusalNumbers.{screen-numbers}
 use Rattle.screening.specs.Screens.{permitted-exactly, stopped-exactly, readable-exactly}
 use Rattle.demands.specs.Demands.{Demand1, Demand2, Demand3, FileAccepted}
 use Rattle.demands.specs.Comparing.{accepted-head, table-left, compared}
@@ -30,6 +31,8 @@ demand-1 = record {
   refusals-of-screen = screen-numbers;
   refused-output = refused-writes-nothing;
   result-output = λ result output n e. let a = answer-length result output n e in (a .0, a .1, a .2 .0, a .2 .1);
+  fresh-table = λ n table s e. rw e;
+  log-table = log-table;
   refused-fresh = λ n table r e. rw e;
   refused-take = λ s table w r e. sym (refused-table s table w r e);
   refused-judge = refused-judge;
@@ -43,6 +46,7 @@ demand-2 = record {
   permitted = permitted-exactly;
   stopped = stopped-exactly;
   readable = readable-exactly;
+  seals = seals;
   seal-then-open = seal-then-open;
   open-then-seal = open-then-seal;
 }

@@ -8,6 +8,7 @@ use Rattle.laws.specs.Lists.{all, any, keep, tabulate, equal}
 use Rattle.laws.specs.Numbers.{numberAt}
 use Rattle.laws.specs.Differences.{sumℤ}
 use Rattle.laws.specs.Scans.{firstFailing}
+use Rattle.refusals.specs.Table.{rightSize}
 use Rattle.refusals.specs.Answers.{provided}
 use Rattle.nets.specs.Nets.{Log, same, occurrences, eventCount, weighed, beginnings, prefixes, addRow, counts, stepAfter, tokens, surplus, placePermits, netPermits, firstRefusing, screenAfter, screen, rows, allowed, rowSteps, continuations, allowedSteps, wrongContinuations, fits, refusedBy, weighsBefore, weighsAfter, weightsHold, solves, isByPlace, tally}
 use Rattle.nets.specs.Events.{firstBad}
@@ -93,5 +94,5 @@ samples =
 
 -- one result over the list
 pub samples-hold : all (λ c. equal (c .0) (c .1)) samples ≡ true
-unfolding ofVerdict ofScreened bytesA logI samples all any keep tabulate equal numberAt firstFailing provided sumℤ same occurrences eventCount weighed beginnings prefixes addRow counts tokens surplus placePermits netPermits firstRefusing screenAfter screen rows allowed rowSteps continuations allowedSteps wrongContinuations fits refusedBy weighsBefore weighsAfter weightsHold solves isByPlace tally firstBad flatMap andThen require field byte number each toPlace toNet toTerm toCertificate toBundle sizeFits wordAfter word place places head term weights ofKind certificate unsolved solved atEnd afterHead contents judging verdictOn verdict replayed screenedOn screened
+unfolding ofVerdict ofScreened bytesA logI samples all any keep tabulate equal numberAt firstFailing provided sumℤ same occurrences eventCount weighed beginnings prefixes addRow counts tokens surplus placePermits netPermits firstRefusing screenAfter screen rows allowed rowSteps continuations allowedSteps wrongContinuations fits refusedBy weighsBefore weighsAfter weightsHold solves isByPlace tally firstBad flatMap andThen require field byte number each toPlace toNet toTerm toCertificate toBundle rightSize sizeFits wordAfter word place places head term weights ofKind certificate unsolved solved atEnd afterHead contents judging verdictOn verdict replayed screenedOn screened
 samples-hold = refl

@@ -1,2 +1,3 @@
 -- Laws that several proofs of `fitting` cite.
 pub mod Moderate
+pub mod Places

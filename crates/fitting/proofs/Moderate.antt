@@ -1,40 +1,38 @@
--- The tokens after few events stay far from the bounds of a `u32`.
+-- The tokens of the columns stay far from the bounds of an `i64`.
+use mathlib.Core.Path.{sym, subst}
 use mathlib.Core.List.{List}
-use Prim.Native.Nat.{ℕ, _+_, _*_, _≤_, _<_}
-use native.Mathlib.Nat.{mul-le-mul}
+use Prim.Native.Nat.{ℕ, _+_, _≤_, _<_}
 use native.Mathlib.Omega.{arith}
-use Rattle.laws.specs.Sums.{sum-bound}
-use Rattle.nets.specs.Nets.{Counts, at}
-use Rattle.nets.specs.Machine.{COUNTS}
-use Rattle.nets.specs.Surplus.{given, taken}
-use Rattle.fitting.specs.Columns.{column, Short, Few, Moderate, Marking, Between}
-use Rattle.fitting.specs.ColumnLaws.{between-start}
+use lib.IntN.{ℤ}
+use lib.ListN.{getD}
+use Rattle.nets.specs.Nets.{Counts}
+use Rattle.nets.specs.Machine.{COUNTS, Held}
+use Rattle.nets.proofs.Bounds.{Small, given-bound, taken-bound, tokens-held}
+use Rattle.fitting.specs.Columns.{inRow, outRow, column, Moderate, Marking, putBetween, tookBetween, Between}
 
--- a number of a place so many times
-pub product : (x y : ℕ) → x < 256 → y < 65536 → x * y ≤ 255 * 65535
-product x y hx hy = mul-le-mul {n₁ = x} {m₁ = y} {n₂ = 255} {m₂ = 65535} (omega arith) (omega arith)
+-- every number is a `u16`
+abbrev pub Short : List ℕ → Type 0
+Short l = (k : ℕ) → getD l k 0 < 65536
 
-module _ (m : List ℕ) (v : Counts) (short : Short m) (few : Few v) (n : ℕ) (h : n ≤ COUNTS) (j : ℕ) where
-  given-most : given n (column m j) v ≤ 65535 + 12 * (255 * 65535)
-  unfolding given
-  given-most = omega (arith, short j, sum-bound n (255 * 65535) (λ i. at v i * column m j .produced i) (λ i b. product _ _ (few i (omega arith)) (short _)))
+small : (m : List ℕ) → Short m → (v : Counts) → Short v → (j : ℕ) → Small (column m j) v
+small m short v few j = record { initial = short j; produced = λ i. short (inRow i + j); consumed = λ i. short (outRow i + j); counts = few }
 
-  taken-most : taken n (column m j) v ≤ 12 * (255 * 65535)
-  unfolding taken
-  taken-most = omega (arith, sum-bound n (255 * 65535) (λ i. at v i * column m j .consumed i) (λ i b. product _ _ (few i (omega arith)) (short _)))
-
-module _ {count : ℕ} {m t : List ℕ} (short : Short m) where
-  pub between-moderate : {before row : Counts} {i : ℕ} → Few before → Few row → i ≤ COUNTS → Between count m t before row i → Moderate count t
+module _ {count : ℕ} {m : List ℕ} {t : List ℤ} (short : Short m) where
+  pub between-moderate : {before row : Counts} {i : ℕ} → Short before → Short row → i ≤ COUNTS → Between count m t before row i → Moderate count t
   between-moderate {before} {row} {i} hb hr few h j b =
+      let p = column m j in
       let whole : COUNTS ≤ COUNTS = omega arith in
-      let is = h .tokens j b in
-      let g₁ = given-most m row short hr i few j in
-      let t₁ = taken-most m row short hr i few j in
-      let g₂ = given-most m before short hb i few j in
-      let t₂ = taken-most m before short hb i few j in
-      let g₃ = given-most m before short hb COUNTS whole j in
-      let t₃ = taken-most m before short hb COUNTS whole j in
-      (omega (arith, is, g₁, t₁, g₂, t₂, g₃, t₃), omega (arith, is, g₁, t₁, g₂, t₂, g₃, t₃))
+      let s = small m short row hr j in
+      let s₀ = small m short before hb j in
+      record {
+        plus = putBetween p before row i;
+        minus = tookBetween p before row i;
+        is = h .tokens j b;
+        far = (
+          omega (arith, given-bound p row s i few, given-bound p before s₀ COUNTS whole, taken-bound p before s₀ i few),
+          omega (arith, taken-bound p row s i few, taken-bound p before s₀ COUNTS whole, given-bound p before s₀ i few),
+        );
+      }
 
-  pub marking-moderate : {v : Counts} → Few v → Marking count m t v → Moderate count t
-  marking-moderate {v} h marking = between-moderate {row = v} h h (omega arith) (between-start marking)
+  pub marking-moderate : {v : Counts} → Short v → Marking count m t v → Moderate count t
+  marking-moderate {v} few h j b = subst Held (sym (h .tokens j b)) (tokens-held (column m j) v (small m short v few j) COUNTS (omega arith))

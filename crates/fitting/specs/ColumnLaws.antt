@@ -1,83 +1,131 @@
 -- The steps of the code that tests places side by side, as laws of the definitions in Columns.
 use mathlib.Core.Path.{_≡_, refl, sym, ap, ap₂, _∙_, subst}
 use mathlib.Core.Logic.{⊎-elim}
-use mathlib.Core.Bool.{Bool, true, false}
+use mathlib.Core.Bool.{true}
 use mathlib.Core.List.{List}
-use Prim.Native.Nat.{ℕ, zero, suc, _+_, _*_, _≤_, _<_}
+use Prim.Native.Nat.{ℕ, _+_, _*_, _≤_, _<_}
 use native.Mathlib.Nat.{zero-mul, add-mul, eq-or-lt-of-le}
 use native.Mathlib.Omega.{arith}
-use borrow.Author.Tests.{eqb-true, eqb-false}
-use lib.Dec.{T, eqb}
-use lib.ListN.{length, getD, set, take, replicate, length-set, getD-replicate}
+use lib.Dec.{T}
+use lib.IntN.{ℤ, pos, subℕ, _+ℤ_, _-ℤ_, _*ℤ_, +ℤ-idr}
+use lib.ListN.{length, getD, set, take, length-set, getD-replicate}
 use lib.Seq.{getD-set-same, getD-set-other}
+use lib.Signed.{nonNeg}
 use Rattle.laws.specs.Booleans.{yes-true, implied, implies}
 use Rattle.laws.specs.Bits.{bit}
+use Rattle.laws.specs.Differences.{difference, difference-add, difference-mul, difference-same, pos-of-difference}
 use Rattle.laws.specs.Lists.{all-member, all-intro, tabulate, tabulate-inverse}
 use Rattle.laws.specs.Scans.{firstFailing, failing-never}
 use Rattle.laws.specs.Sums.{sum, sum-same, sum-zero}
-use Rattle.nets.specs.declared.Place as Declared
-use Rattle.nets.specs.Nets.{Place, Step, Counts, at, placePermits}
-use Rattle.nets.specs.Machine.{COUNTS, placeOf}
-use Rattle.nets.specs.Surplus.{given, taken, given-next, taken-next, permits→le, le→permits}
+use Rattle.nets.specs.Nets.{Place, Step, Counts, at, tokens, surplus, placePermits}
+use Rattle.nets.specs.Machine.{COUNTS}
+use Rattle.nets.specs.Surplus.{given, taken, tokens-is, given-next, taken-next, tokens-row, permits→le, le→permits}
 use Rattle.bundles.specs.Layout.{PlaceFields, toPlace}
 use Rattle.bundles.specs.NumberSteps.{itemsAt, items-length, getD-items}
-use Rattle.bundles.specs.PlaceSteps.{placeSize, fieldsAt, machinePlace, place-means}
+use Rattle.bundles.specs.PlaceSteps.{placeSize, fieldsAt}
 use Rattle.logs.specs.Rows.{Row, none, rowAt}
 use Rattle.fitting.specs.Fitting.{rowFits, fitsRows}
 use Rattle.fitting.specs.FittingLaws.{permits-front}
-use Rattle.fitting.specs.Columns.{WIDTH, MATRIX, inRow, outRow, column, Short, SamePlace, BASE, Marking, Covered, Recounted, Beside, Written, Between, AllFit}
+use Rattle.fitting.specs.Columns.{WIDTH, MATRIX, inRow, outRow, column, SamePlace, Marking, Covered, Shifted, Recounted, Beside, Written, putBetween, tookBetween, Between, AllFit}
 
 -- ---- The tokens
 
 -- one count after another
-module _ {count : ℕ} {m t : List ℕ} {before row : Counts} where
+module _ {count : ℕ} {m : List ℕ} {t : List ℤ} {before row : Counts} where
   pub between-start : Marking count m t before → Between count m t before row 0
   unfolding given taken sum
-  between-start h = record { tokens = λ j b. omega (arith, h .tokens j b) }
+  between-start h = record {
+    tokens = λ j b.
+        let p = column m j in
+        h .tokens j b
+        ∙ tokens-is COUNTS p before
+        ∙ difference-same (given COUNTS p before) (taken COUNTS p before) (putBetween p before row 0) (tookBetween p before row 0) (omega arith);
+  }
 
-  pub between-next : {t′ : List ℕ} {i : ℕ} → Between count m t before row i → Recounted count m t t′ i (at before i) (at row i) → Between count m t′ before row (i + 1)
+  pub between-next : {t′ : List ℤ} {i : ℕ} → Between count m t before row i → Recounted count m t t′ i (at before i) (at row i) → Between count m t′ before row (i + 1)
   between-next {t′} {i} h new = record {
     tokens = λ j b.
         let p = column m j in
-        omega (arith, h .tokens j b, new j b, given-next i p before, given-next i p row, taken-next i p before, taken-next i p row);
+        let more = at row i * p .produced i + at before i * p .consumed i in
+        let less = at row i * p .consumed i + at before i * p .produced i in
+        let put = putBetween p before row i in
+        let took = tookBetween p before row i in
+        new j b
+        ∙ ap (λ (z : ℤ). z +ℤ subℕ more less) (h .tokens j b)
+        ∙ difference-add put took more less
+        ∙ difference-same (put + more) (took + less) (putBetween p before row (i + 1)) (tookBetween p before row (i + 1))
+        (omega (arith, given-next i p before, given-next i p row, taken-next i p before, taken-next i p row));
   }
 
   pub between-end : {i : ℕ} → i ≡ COUNTS → Between count m t before row i → Marking count m t row
-  between-end {i} e h = record { tokens = λ j b. omega (arith, subst (Between count m t before row) e h .tokens j b) }
+  between-end {i} e h = record {
+    tokens = λ j b.
+        let p = column m j in
+        subst (Between count m t before row) e h .tokens j b
+        ∙ difference-same (putBetween p before row COUNTS) (tookBetween p before row COUNTS) (given COUNTS p row) (taken COUNTS p row) (omega arith)
+        ∙ sym (tokens-is COUNTS p row);
+  }
 
 -- at first the initial tokens
-pub marking-start : {count : ℕ} {m t : List ℕ} → ((j : ℕ) → j < count → getD t j 0 ≡ BASE + getD m j 0) → Marking count m t none
+pub marking-start : {count : ℕ} {m : List ℕ} {t : List ℤ} → ((j : ℕ) → j < count → getD t j (pos 0) ≡ pos (getD m j 0)) → Marking count m t none
 unfolding given taken
-marking-start {count} {m} {t} h = record { tokens = λ j b. omega (arith, h j b, over-none (column m j .produced), over-none (column m j .consumed)) }
+marking-start {count} {m} {t} h = record {
+  tokens = λ j b.
+      let p = column m j in
+      let put = over-none (p .produced) in
+      let took = over-none (p .consumed) in
+      h j b ∙ sym (tokens-is COUNTS p none ∙ pos-of-difference (given COUNTS p none) (taken COUNTS p none) (omega (arith, took)) ∙ ap pos (omega (arith, put, took)));
+}
   where
     over-none : (f : ℕ → ℕ) → sum COUNTS (λ i. at none i * f i) ≡ 0
     over-none f = sum-same COUNTS _ (λ i. 0) (λ i k. ap (λ (n : ℕ). n * f i) (getD-replicate COUNTS i 0 0 k) ∙ zero-mul (f i)) ∙ sum-zero COUNTS
 
 -- only the counts below twelve matter
-pub marking-row : {count : ℕ} {m t : List ℕ} {u v : Counts} → ((i : ℕ) → i < COUNTS → at u i ≡ at v i) → Marking count m t u → Marking count m t v
-unfolding given taken
-marking-row {count} {m} {t} {u} {v} h marking = record {
-  tokens = λ j b. omega (arith, marking .tokens j b, over (column m j .produced), over (column m j .consumed));
-}
-  where
-    over : (f : ℕ → ℕ) → sum COUNTS (λ i. at u i * f i) ≡ sum COUNTS (λ i. at v i * f i)
-    over f = sum-same COUNTS _ _ (λ i k. ap (λ (n : ℕ). n * f i) (h i k))
+pub marking-row : {count : ℕ} {m : List ℕ} {t : List ℤ} {u v : Counts} → ((i : ℕ) → i < COUNTS → at u i ≡ at v i) → Marking count m t u → Marking count m t v
+marking-row {m = m} {u = u} {v = v} h marking = record { tokens = λ j b. marking .tokens j b ∙ tokens-row COUNTS (column m j) u v h }
+
+-- where these are the tokens, a surplus of 0 or more permits the event
+tokens→permits : (p : Place) (v : Counts) (e : ℕ) {t : ℤ} → t ≡ tokens COUNTS p v → T (nonNeg (t -ℤ pos (p .consumed e))) → T (placePermits COUNTS p (record { row = v; event = e }))
+unfolding placePermits surplus
+tokens→permits p v e is h = subst (λ (z : ℤ). T (nonNeg (z -ℤ pos (p .consumed e)))) is h
 
 -- a row whose events' tokens are covered fits each column
-pub row-covered : {count : ℕ} {m t l : List ℕ} → Marking count m t l → ((e : ℕ) → e < COUNTS → T (bit (at l COUNTS) e) → Covered count m t e)
+pub row-covered : {count : ℕ} {m : List ℕ} {t : List ℤ} {l : List ℕ} → Marking count m t l → ((e : ℕ) → e < COUNTS → T (bit (at l COUNTS) e) → Covered count m t e)
     → (j : ℕ) → j < count → rowFits (column m j) (rowAt l) ≡ true
 unfolding rowFits rowAt
 row-covered {count} {m} {t} {l} marking covered j b = yes-true _ (all-intro _ (tabulate COUNTS (λ e. e)) (λ e k.
     let i = tabulate-inverse COUNTS (λ e. e) k in
     let h : e < COUNTS = omega (arith, i .1, i .2) in
     implies (bit (at l COUNTS) e) (placePermits COUNTS (column m j) (record { row = take COUNTS l; event = e })) (λ set.
-    subst T (permits-front (column m j) l e) (le→permits COUNTS (column m j) (record { row = l; event = e }) (omega (arith, marking .tokens j b, covered e h set j b))))))
+    subst T (permits-front (column m j) l e) (tokens→permits (column m j) l e (marking .tokens j b) (covered e h set j b)))))
 
--- a count that goes from x to x + d
-pub recounted : (t t′ p q x d y : ℕ) → x + d ≡ y → t′ + d * q ≡ t + d * p → t′ + y * q + x * p ≡ t + x * q + y * p
-recounted t t′ p q x d y sum e =
-    let more : (f : ℕ) → x * f + d * f ≡ y * f = λ f. sym (add-mul x d f) ∙ ap (λ (n : ℕ). n * f) sum in
-    omega (arith, e, more p, more q)
+-- a count that goes from x to x + d, one that goes back, and one that stays
+module _ (count : ℕ) (m : List ℕ) (t : List ℤ) (i : ℕ) where
+  module _ (t′ : List ℤ) (x d y : ℕ) (is : x + d ≡ y) where
+    products : (f : ℕ) → x * f + d * f ≡ y * f
+    products f = sym (add-mul x d f) ∙ ap (λ (n : ℕ). n * f) is
+
+    -- d times a difference
+    change : (p q plus minus : ℕ) → d * p + minus ≡ plus + d * q → pos d *ℤ (pos p -ℤ pos q) ≡ subℕ plus minus
+    change p q plus minus e = ap (λ (z : ℤ). pos d *ℤ z) (difference p q) ∙ difference-mul d p q ∙ difference-same (d * p) (d * q) plus minus e
+
+    pub recounted : Shifted count m t t′ (inRow i) (outRow i) d → Recounted count m t t′ i x y
+    recounted h j b =
+        let p = getD m (inRow i + j) 0 in
+        let q = getD m (outRow i + j) 0 in
+        h j b ∙ ap (λ (z : ℤ). getD t j (pos 0) +ℤ z) (change p q (y * p + x * q) (y * q + x * p) (omega (arith, products p, products q)))
+
+    pub recounted-back : Shifted count m t t′ (outRow i) (inRow i) d → Recounted count m t t′ i y x
+    recounted-back h j b =
+        let p = getD m (inRow i + j) 0 in
+        let q = getD m (outRow i + j) 0 in
+        h j b ∙ ap (λ (z : ℤ). getD t j (pos 0) +ℤ z) (change q p (x * p + y * q) (x * q + y * p) (omega (arith, products p, products q)))
+
+  pub recounted-same : (x y : ℕ) → y ≡ x → Recounted count m t t i x y
+  recounted-same x y e j b =
+      let p = getD m (inRow i + j) 0 in
+      let q = getD m (outRow i + j) 0 in
+      rw e (sym (ap (λ (z : ℤ). getD t j (pos 0) +ℤ z) (difference-same (x * p + x * q) (x * q + x * p) 0 0 (omega arith)) ∙ +ℤ-idr (getD t j (pos 0))))
 
 -- ---- Places with the same numbers
 
@@ -111,43 +159,30 @@ pub each-next : (P : ℕ → Type 0) (k : ℕ) → ((i : ℕ) → i < k → P i)
 each-next P k below here i b = ⊎-elim (λ e. subst P (sym e) here) (below i) (eq-or-lt-of-le {n = i} {m = k} (omega arith))
 
 -- the same of a list's elements, once element k is written
-pub each-set : (P : ℕ → ℕ → Type 0) (l : List ℕ) (k x : ℕ) → k < length l → ((i : ℕ) → i < k → P i (getD l i 0)) → P k x
-    → (i : ℕ) → i < k + 1 → P i (getD (set l k x) i 0)
-each-set P l k x h below here =
-    each-next (λ (i : ℕ). P i (getD (set l k x) i 0)) k
-    (λ i b. subst (P i) (sym (getD-set-other l k i x 0 (λ e. omega arith))) (below i b))
-    (subst (P k) (sym (getD-set-same l k x 0 h)) here)
-
-pub short-set : (l : List ℕ) (k x : ℕ) → k < length l → x < 65536 → Short l → Short (set l k x)
-short-set l k x h small short i = go (eqb i k) refl
-  where
-    go : (b : Bool) → eqb i k ≡ b → getD (set l k x) i 0 < 65536
-    go true e = rw (eqb-true i k e) (rw (getD-set-same l k x 0 h) small)
-    go false e = rw (getD-set-other l k i x 0 (eqb-false i k e)) (short i)
-
-pub short-zeros : (n : ℕ) → Short (replicate n 0)
-short-zeros zero k = omega arith
-short-zeros (suc n) zero = omega arith
-short-zeros (suc n) (suc k) = short-zeros n k
+pub each-set : {A : Type 0} (d : A) (P : ℕ → A → Type 0) (l : List A) (k : ℕ) (x : A) → k < length l → ((i : ℕ) → i < k → P i (getD l i d)) → P k x
+    → (i : ℕ) → i < k + 1 → P i (getD (set l k x) i d)
+each-set d P l k x h below here =
+    each-next (λ (i : ℕ). P i (getD (set l k x) i d)) k
+    (λ i b. subst (P i) (sym (getD-set-other l k i x d (λ e. omega arith))) (below i b))
+    (subst (P k) (sym (getD-set-same l k x d h)) here)
 
 -- ---- A place written into a column
 
 -- m is m₀ with what the place p has for the events below e in column j
 pub record Storing (m₀ m : List ℕ) (j : ℕ) (p : Place) (e : ℕ) : Type 0 where
   pub size : length m ≡ length m₀
-  pub short : Short m
   pub produced : (i : ℕ) → i < e → getD m (inRow i + j) 0 ≡ p .produced i
   pub consumed : (i : ℕ) → i < e → getD m (outRow i + j) 0 ≡ p .consumed i
   pub beside : Beside m₀ m j
 
 module _ {m₀ : List ℕ} {j : ℕ} {p : Place} where
-  pub storing-start : Short m₀ → Storing m₀ m₀ j p 0
-  storing-start short = record { size = refl; short = short; produced = λ i b. absurd (omega arith); consumed = λ i b. absurd (omega arith); beside = λ x k b ne. refl }
+  pub storing-start : Storing m₀ m₀ j p 0
+  storing-start = record { size = refl; produced = λ i b. absurd (omega arith); consumed = λ i b. absurd (omega arith); beside = λ x k b ne. refl }
 
   module _ (column-there : j < WIDTH) (long : MATRIX ≤ length m₀) where
-    pub storing-next : {m : List ℕ} {e : ℕ} → e < COUNTS → Storing m₀ m j p e → p .produced e < 65536 → p .consumed e < 65536
+    pub storing-next : {m : List ℕ} {e : ℕ} → e < COUNTS → Storing m₀ m j p e
         → Storing m₀ (set (set m (inRow e + j) (p .produced e)) (outRow e + j) (p .consumed e)) j p (e + 1)
-    storing-next {m} {e} h s small₁ small₂ =
+    storing-next {m} {e} h s =
         let x = p .produced e in
         let y = p .consumed e in
         let a = inRow e + j in
@@ -158,7 +193,6 @@ module _ {m₀ : List ℕ} {j : ℕ} {p : Place} where
         let kept : (k : ℕ) → (k ≡ a → ⊥) → (k ≡ b → ⊥) → getD (set first b y) k 0 ≡ getD m k 0 = λ k na nb. getD-set-other first b k y 0 nb ∙ getD-set-other m a k x 0 na in
         record {
           size = length-set first b y ∙ length-set m a x ∙ s .size;
-          short = short-set first b y there small₂ (short-set m a x here small₁ (s .short));
           produced = each-next (λ (i : ℕ). getD (set first b y) (inRow i + j) 0 ≡ p .produced i) e
               (λ i l. kept (inRow i + j) (λ q. omega arith) (λ q. omega arith) ∙ s .produced i l)
               (getD-set-other first b a y 0 (λ q. omega arith) ∙ getD-set-same m a x 0 here);
@@ -169,12 +203,11 @@ module _ {m₀ : List ℕ} {j : ℕ} {p : Place} where
         }
 
     -- the initial tokens last
-    pub stored : {m : List ℕ} {e : ℕ} → COUNTS ≤ e → Storing m₀ m j p e → p .initial < 65536
-        → let m′ = set m j (p .initial) in Short m′ × SamePlace (column m′ j) p × Beside m₀ m′ j
-    stored {m} h s small =
+    pub stored : {m : List ℕ} {e : ℕ} → COUNTS ≤ e → Storing m₀ m j p e
+        → let m′ = set m j (p .initial) in SamePlace (column m′ j) p × Beside m₀ m′ j
+    stored {m} h s =
         let x = p .initial in
         let here : j < length m = omega (arith, s .size) in (
-          short-set m j x here small (s .short),
           record {
             initial = getD-set-same m j x 0 here;
             produced = λ i b. getD-set-other m j (inRow i + j) x 0 (λ q. omega arith) ∙ s .produced i (omega arith);
@@ -184,11 +217,6 @@ module _ {m₀ : List ℕ} {j : ℕ} {p : Place} where
         )
 
 -- ---- The places of a bundle written into the columns
-
--- the code's place at the offset of place j
-pub place-is : (n : ℕ) (b : List ℕ) (spot first j : ℕ) (q : Declared.Place) → q ≡ machinePlace (fieldsAt n b spot) → spot ≡ first + 2 * (j * placeSize n)
-    → placeOf q ≡ toPlace (fieldsAt n b (first + 2 * (j * placeSize n)))
-place-is n b spot first j q e is = ap placeOf e ∙ place-means (fieldsAt n b spot) ∙ ap (λ (x : ℕ). toPlace (fieldsAt n b x)) is
 
 -- one column more, the others untouched
 pub written-next : {n : ℕ} {b : List ℕ} {first : ℕ} {m m′ : List ℕ} {j : ℕ} → j < WIDTH → Written n b first m j → Beside m m′ j

@@ -3,10 +3,13 @@
 use mathlib.Core.Path.{_≡_}
 use mathlib.Core.Bool.{true}
 use mathlib.Core.List.{List}
-use Prim.Native.Nat.{ℕ, _+_, _*_, _^_, _≤_, _<_}
+use Prim.Native.Nat.{ℕ, _+_, _*_, _<_}
+use lib.Dec.{T}
+use lib.IntN.{ℤ, pos, subℕ, _+ℤ_, _-ℤ_, _*ℤ_}
 use lib.ListN.{getD}
-use Rattle.nets.specs.Nets.{Place, Counts, at}
-use Rattle.nets.specs.Machine.{COUNTS}
+use lib.Signed.{nonNeg}
+use Rattle.nets.specs.Nets.{Place, Counts, tokens as tokensAfter}
+use Rattle.nets.specs.Machine.{COUNTS, Held}
 use Rattle.nets.specs.Surplus.{given, taken}
 use Rattle.bundles.specs.Layout.{toPlace}
 use Rattle.bundles.specs.PlaceSteps.{placeSize, fieldsAt}
@@ -34,10 +37,6 @@ outRow e = WIDTH * (13 + e)
 abbrev pub column : List ℕ → ℕ → Place
 column m j = record { initial = getD m j 0; produced = λ e. getD m (inRow e + j) 0; consumed = λ e. getD m (outRow e + j) 0 }
 
--- every number is a `u16`
-abbrev pub Short : List ℕ → Type 0
-Short l = (k : ℕ) → getD l k 0 < 65536
-
 -- two places have the same numbers for the events that a row counts
 pub record SamePlace (p q : Place) : Type 0 where
   pub initial : p .initial ≡ q .initial
@@ -46,30 +45,27 @@ pub record SamePlace (p q : Place) : Type 0 where
 
 -- ---- The tokens
 
--- each number of tokens stands above this base, 2 ^ 31, so that it is a natural number also where it is negative
-abbrev pub BASE : ℕ
-BASE = 2147483648
-
--- far from the bounds of a `u32`
-abbrev pub Moderate : ℕ → List ℕ → Type 0
-Moderate count t = (j : ℕ) → j < count → (2 ^ 30 ≤ getD t j 0) × (getD t j 0 < 2 ^ 31 + 2 ^ 30)
-
--- each event occurs so seldom that the tokens stay there
-abbrev pub Few : Counts → Type 0
-Few v = (i : ℕ) → i < COUNTS → at v i < 256
+-- so many as a place may hold, or lack
+abbrev pub Moderate : ℕ → List ℤ → Type 0
+Moderate count t = (j : ℕ) → j < count → Held (getD t j (pos 0))
 
 -- t has the tokens after the counts v of the first `count` columns
-pub record Marking (count : ℕ) (m t : List ℕ) (v : Counts) : Type 0 where
-  pub tokens : (j : ℕ) → j < count → getD t j 0 + taken COUNTS (column m j) v ≡ BASE + given COUNTS (column m j) v
+pub record Marking (count : ℕ) (m : List ℕ) (t : List ℤ) (v : Counts) : Type 0 where
+  pub tokens : (j : ℕ) → j < count → getD t j (pos 0) ≡ tokensAfter COUNTS (column m j) v
 
--- the tokens of each column cover what event e takes
-abbrev pub Covered : ℕ → List ℕ → List ℕ → ℕ → Type 0
-Covered count m t e = (j : ℕ) → j < count → BASE + getD m (outRow e + j) 0 ≤ getD t j 0
+-- the surplus of event e is 0 or more in each column
+abbrev pub Covered : ℕ → List ℕ → List ℤ → ℕ → Type 0
+Covered count m t e = (j : ℕ) → j < count → T (nonNeg (getD t j (pos 0) -ℤ pos (getD m (outRow e + j) 0)))
+
+-- the tokens t′ of the first `count` columns, which were t, with `times` the row at `plus` more and `times` the row at `minus` less
+abbrev pub Shifted : ℕ → List ℕ → List ℤ → List ℤ → ℕ → ℕ → ℕ → Type 0
+Shifted count m t t′ plus minus times = (j : ℕ) → j < count
+    → getD t′ j (pos 0) ≡ getD t j (pos 0) +ℤ pos times *ℤ (pos (getD m (plus + j) 0) -ℤ pos (getD m (minus + j) 0))
 
 -- the tokens t′ of the first `count` columns, which were t, where event i goes from x to y occurrences
-abbrev pub Recounted : ℕ → List ℕ → List ℕ → List ℕ → ℕ → ℕ → ℕ → Type 0
+abbrev pub Recounted : ℕ → List ℕ → List ℤ → List ℤ → ℕ → ℕ → ℕ → Type 0
 Recounted count m t t′ i x y = (j : ℕ) → j < count
-    → getD t′ j 0 + y * getD m (outRow i + j) 0 + x * getD m (inRow i + j) 0 ≡ getD t j 0 + x * getD m (outRow i + j) 0 + y * getD m (inRow i + j) 0
+    → getD t′ j (pos 0) ≡ getD t j (pos 0) +ℤ subℕ (y * getD m (inRow i + j) 0 + x * getD m (outRow i + j) 0) (y * getD m (outRow i + j) 0 + x * getD m (inRow i + j) 0)
 
 -- the matrix m′ is m but for column j
 abbrev pub Beside : List ℕ → List ℕ → ℕ → Type 0
@@ -79,11 +75,17 @@ Beside m m′ j = (x k : ℕ) → k < WIDTH → (k ≡ j → ⊥) → getD m′ 
 pub record Written (n : ℕ) (b : List ℕ) (first : ℕ) (m : List ℕ) (count : ℕ) : Type 0 where
   pub places : (j : ℕ) → j < count → SamePlace (column m j) (toPlace (fieldsAt n b (first + 2 * (j * placeSize n))))
 
--- t has the tokens after the counts of `row` below i, and those of `before` from i on
-pub record Between (count : ℕ) (m t : List ℕ) (before row : Counts) (i : ℕ) : Type 0 where
-  pub tokens : (j : ℕ) → j < count
-      → getD t j 0 + taken i (column m j) row + taken COUNTS (column m j) before + given i (column m j) before
-      ≡ BASE + given i (column m j) row + given COUNTS (column m j) before + taken i (column m j) before
+-- the tokens after the counts of `row` below i, and those of `before` from i on, as a difference of two numbers. What the counts of `before`
+-- below i put there and took stands on the other side, so that neither number is a difference
+abbrev pub putBetween : Place → Counts → Counts → ℕ → ℕ
+putBetween p before row i = given i p row + given COUNTS p before + taken i p before
+
+abbrev pub tookBetween : Place → Counts → Counts → ℕ → ℕ
+tookBetween p before row i = taken i p row + taken COUNTS p before + given i p before
+
+-- t has the tokens after these counts
+pub record Between (count : ℕ) (m : List ℕ) (t : List ℤ) (before row : Counts) (i : ℕ) : Type 0 where
+  pub tokens : (j : ℕ) → j < count → getD t j (pos 0) ≡ subℕ (putBetween (column m j) before row i) (tookBetween (column m j) before row i)
 
 -- each place of a bundle fits the rows
 pub record AllFit (n : ℕ) (b : List ℕ) (first count : ℕ) (rs : List Row) : Type 0 where

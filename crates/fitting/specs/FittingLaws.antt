@@ -20,9 +20,6 @@ use Rattle.nets.specs.Machine.{COUNTS, placeOf}
 use Rattle.nets.specs.Rows.{row→, continuation→, allowedStep→}
 use Rattle.nets.specs.Surplus.{tokens-row}
 use Rattle.nets.specs.Wide.{wide, permits-wide}
-use Rattle.bundles.specs.Layout.{PlaceFields, toPlace}
-use Rattle.bundles.specs.NumberSteps.{itemsAt, getD-items}
-use Rattle.bundles.specs.PlaceSteps.{placeSize, fieldsAt, machinePlace, place-means}
 use Rattle.logs.specs.Rows.{ROW, Row, rowAt, rowsOf}
 use Rattle.logs.specs.Flat.{length-rows, rows-at}
 use Rattle.logs.specs.Log.{logRows}
@@ -100,16 +97,6 @@ module _ (p : Place) (k : ℕ) (t : List ℕ) where
   pub rows-end : (r : ℕ) → k ≤ r → RowsBelow r → fitsRows p (rowsOf k t) ≡ true
   unfolding all
   rows-end r h inv = inv ∙ rw (drop-of-length-le (rowsOf k t) {i = r} (rw length-rows h))
-
--- ---- a place
-
--- place j of a bundle, at its offset
-module _ (n : ℕ) (b : List ℕ) (first count j : ℕ) (h : j < count) where
-  pub place-fits : (rs : List Row) (at : ℕ) (d : PlaceFields) → at ≡ first + 2 * (j * placeSize n)
-      → fitsRows (toPlace (getD (itemsAt (placeSize n) (fieldsAt n) count b first) j d)) rs ≡ fitsRows (placeOf (machinePlace (fieldsAt n b at))) rs
-  place-fits rs at d spot =
-      ap (λ (q : Place). fitsRows q rs)
-      (ap toPlace (getD-items (placeSize n) (fieldsAt n) count b first j d h ∙ ap (fieldsAt n b) (sym spot)) ∙ sym (place-means (fieldsAt n b at)))
 
 -- ---- a log
 

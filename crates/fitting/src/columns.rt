@@ -1,20 +1,25 @@
 // The places of a bundle side by side, so that the compiler takes several at a time. The contracts cite specs/Columns.antt.
+// All are inner functions.
 use bundles::Places;
 use logs::rows::ROW;
 use nets::COUNTS;
 use nets::Place;
+use nets::gain;
 use nets::has_bit;
+use nets::surplus;
 ghost use mathlib.Core.Path.{_≡_};
 ghost use mathlib.Core.Bool.{true};
 ghost use Prim.Native.Nat.{ℕ, _+_, _*_, _≤_, _<_};
 ghost use lib.Dec.{T};
+ghost use lib.IntN.{pos, _-ℤ_};
 ghost use lib.ListN.{length, getD};
+ghost use lib.Signed.{nonNeg};
 ghost use Rattle.laws.specs.Bits.{bit};
 ghost use Rattle.nets.specs.Machine.{COUNTS, placeOf};
 ghost use Rattle.bundles.specs.PlaceSteps.{placeSize};
 ghost use Rattle.logs.specs.Rows.{ROW, none, rowsOf};
 ghost use Rattle.fitting.specs.Fitting.{fitsRows};
-ghost use Rattle.fitting.specs.Columns.{WIDTH, MATRIX, BASE, column, Short, SamePlace, Few, Moderate, Marking, Covered, Recounted, Beside, Written};
+ghost use Rattle.fitting.specs.Columns.{WIDTH, MATRIX, column, SamePlace, Moderate, Marking, Covered, Shifted, Recounted, Beside, Written};
 
 // The columns of a matrix: as many as a bundle may have places.
 pub const WIDTH: usize = 64;
@@ -22,66 +27,71 @@ pub const WIDTH: usize = 64;
 // The numbers of a matrix: a row for each number of a place.
 pub const MATRIX: usize = 1600;
 
-// What the tokens of a place are counted from, so that they are a natural number also where they are negative.
-const BASE: u32 = 2147483648;
-
 // Adds `times` the row at `plus` to the tokens, and takes off `times` the row at `minus`.
-fn shift(tokens: &mut [u32], count: usize, matrix: &[u32], plus: usize, minus: usize, times: u32)
-    requires { ⌜ (count ≤ length (now tokens)) × (plus + count ≤ length (now matrix)) × (minus + count ≤ length (now matrix)) × (times < 256) × Short (now matrix) × Moderate count (now tokens) ⌝ }
-    ensures { λ u. ⌜ ((j : ℕ) → j < count → getD (now (tokens .exit)) j 0 + times * getD (now (matrix .entry)) (minus + j) 0 ≡ getD (now (tokens .entry)) j 0 + times * getD (now (matrix .entry)) (plus + j) 0) ⌝ }
+fn shift_times(
+    tokens: &mut [i64],
+    count: usize,
+    matrix: &[u16],
+    plus: usize,
+    minus: usize,
+    times: u16,
+)
+    requires { ⌜ (count ≤ length (now tokens)) × (plus + count ≤ length (now matrix)) × (minus + count ≤ length (now matrix)) × Moderate count (now tokens) ⌝ }
+    ensures { λ u. ⌜ Shifted count (now (matrix .entry)) (now (tokens .entry)) (now (tokens .exit)) plus minus times ⌝ }
 {
     let mut j = 0;
     while j < count {
-        tokens[j] = tokens[j] + times * matrix[plus + j] - times * matrix[minus + j];
+        tokens[j] = tokens[j] + gain(times, matrix[plus + j], matrix[minus + j]);
         j += 1;
     }
 }
 
-// Whether the tokens cover what the row at an offset says, in each column. A bit of `left` says so for all, without a branch.
-fn covers_row(tokens: &[u32], count: usize, matrix: &[u32], at: usize) -> bool
-    requires { ⌜ (count ≤ length (now tokens)) × (at + count ≤ length (now matrix)) × Short (now matrix) × Moderate count (now tokens) ⌝ }
-    ensures { λ r. ⌜ (r ≡ true → (j : ℕ) → j < count → BASE + getD (now (matrix .entry)) (at + j) 0 ≤ getD (now (tokens .entry)) j 0) ⌝ }
+// The same. Mostly it is once, which needs no product.
+fn shift(tokens: &mut [i64], count: usize, matrix: &[u16], plus: usize, minus: usize, times: u16)
+    requires { ⌜ (count ≤ length (now tokens)) × (plus + count ≤ length (now matrix)) × (minus + count ≤ length (now matrix)) × Moderate count (now tokens) ⌝ }
+    ensures { λ u. ⌜ Shifted count (now (matrix .entry)) (now (tokens .entry)) (now (tokens .exit)) plus minus times ⌝ }
 {
-    let mut left = BASE;
-    let mut j = 0;
-    while j < count {
-        left = left & (tokens[j] - matrix[at + j]);
-        j += 1;
+    if times == 1 {
+        shift_times(tokens, count, matrix, plus, minus, 1);
+        return;
     }
-    BASE <= left
+    shift_times(tokens, count, matrix, plus, minus, times);
 }
 
-// The tokens where event i goes from `before` to `after` occurrences. Mostly to one more, which needs no product.
-fn recount(tokens: &mut [u32], count: usize, matrix: &[u32], i: usize, before: u16, after: u16)
-    requires { ⌜ (count ≤ WIDTH) × (count ≤ length (now tokens)) × (MATRIX ≤ length (now matrix)) × (i < COUNTS) × (before < 256) × (after < 256) × Short (now matrix) × Moderate count (now tokens) ⌝ }
+// Whether the surplus is 0 or more in each column, where an event takes what the row at an offset says. The sign of `all` is set where that of
+// one surplus is: so it takes no branch.
+fn covers_row(tokens: &[i64], count: usize, matrix: &[u16], at: usize) -> bool
+    requires { ⌜ (count ≤ length (now tokens)) × (at + count ≤ length (now matrix)) × Moderate count (now tokens) ⌝ }
+    ensures { λ r. ⌜ (r ≡ true → (j : ℕ) → j < count → T (nonNeg (getD (now (tokens .entry)) j (pos 0) -ℤ pos (getD (now (matrix .entry)) (at + j) 0)))) ⌝ }
+{
+    let mut all = 0i64;
+    let mut j = 0;
+    while j < count {
+        all = all | surplus(tokens[j], matrix[at + j]);
+        j += 1;
+    }
+    0 <= all
+}
+
+// The tokens where event i goes from `before` to `after` occurrences.
+fn recount(tokens: &mut [i64], count: usize, matrix: &[u16], i: usize, before: u16, after: u16)
+    requires { ⌜ (count ≤ WIDTH) × (count ≤ length (now tokens)) × (MATRIX ≤ length (now matrix)) × (i < COUNTS) × Moderate count (now tokens) ⌝ }
     ensures { λ u. ⌜ Recounted count (now (matrix .entry)) (now (tokens .entry)) (now (tokens .exit)) i before after ⌝ }
 {
     let produced = WIDTH * (1 + i);
     let consumed = WIDTH * (1 + COUNTS + i);
     if before < after {
-        let more = after - before;
-        if more == 1 {
-            shift(tokens, count, matrix, produced, consumed, 1);
-            return;
-        }
-        shift(tokens, count, matrix, produced, consumed, more as u32);
+        shift(tokens, count, matrix, produced, consumed, after - before);
         return;
     }
     if after < before {
-        shift(
-            tokens,
-            count,
-            matrix,
-            consumed,
-            produced,
-            (before - after) as u32,
-        );
+        shift(tokens, count, matrix, consumed, produced, before - after);
     }
 }
 
 // The tokens after the counts of a row, from those after the counts `before`.
-fn advance(tokens: &mut [u32], count: usize, matrix: &[u32], before: [u16; 12], row: &[u16])
-    requires { ⌜ (count ≤ WIDTH) × (count ≤ length (now tokens)) × (MATRIX ≤ length (now matrix)) × (COUNTS ≤ length (now row)) × Short (now matrix) × Few before × Few (now row) × Marking count (now matrix) (now tokens) before ⌝ }
+fn advance(tokens: &mut [i64], count: usize, matrix: &[u16], before: [u16; 12], row: &[u16])
+    requires { ⌜ (count ≤ WIDTH) × (count ≤ length (now tokens)) × (MATRIX ≤ length (now matrix)) × (COUNTS ≤ length (now row)) × Marking count (now matrix) (now tokens) before ⌝ }
     ensures { λ u. ⌜ Marking count (now (matrix .entry)) (now (tokens .exit)) (now (row .entry)) ⌝ }
 {
     let mut i = 0;
@@ -92,8 +102,8 @@ fn advance(tokens: &mut [u32], count: usize, matrix: &[u32], before: [u16; 12], 
 }
 
 // Whether the tokens cover what event e takes, in each column, if its bit is set in the mask.
-fn covers_event(tokens: &[u32], count: usize, matrix: &[u32], mask: u16, e: usize) -> bool
-    requires { ⌜ (count ≤ WIDTH) × (count ≤ length (now tokens)) × (MATRIX ≤ length (now matrix)) × (e < COUNTS) × Short (now matrix) × Moderate count (now tokens) ⌝ }
+fn covers_event(tokens: &[i64], count: usize, matrix: &[u16], mask: u16, e: usize) -> bool
+    requires { ⌜ (count ≤ WIDTH) × (count ≤ length (now tokens)) × (MATRIX ≤ length (now matrix)) × (e < COUNTS) × Moderate count (now tokens) ⌝ }
     ensures { λ r. ⌜ (r ≡ true → T (bit mask e) → Covered count (now (matrix .entry)) (now (tokens .entry)) e) ⌝ }
 {
     if !has_bit(mask, e) {
@@ -104,8 +114,8 @@ fn covers_event(tokens: &[u32], count: usize, matrix: &[u32], mask: u16, e: usiz
 }
 
 // Whether the tokens cover what each event of the mask takes, in each column.
-fn covers_mask(tokens: &[u32], count: usize, matrix: &[u32], mask: u16) -> bool
-    requires { ⌜ (count ≤ WIDTH) × (count ≤ length (now tokens)) × (MATRIX ≤ length (now matrix)) × Short (now matrix) × Moderate count (now tokens) ⌝ }
+fn covers_mask(tokens: &[i64], count: usize, matrix: &[u16], mask: u16) -> bool
+    requires { ⌜ (count ≤ WIDTH) × (count ≤ length (now tokens)) × (MATRIX ≤ length (now matrix)) × Moderate count (now tokens) ⌝ }
     ensures { λ r. ⌜ (r ≡ true → (e : ℕ) → e < COUNTS → T (bit mask e) → Covered count (now (matrix .entry)) (now (tokens .entry)) e) ⌝ }
 {
     let mut e = 0;
@@ -116,20 +126,6 @@ fn covers_mask(tokens: &[u32], count: usize, matrix: &[u32], mask: u16) -> bool
         e += 1;
     }
     true
-}
-
-// Whether the counts of the row at the front of a slice are below 256, as those of a log are.
-fn counts_few(row: &[u16]) -> bool
-    requires { ⌜ COUNTS ≤ length (now row) ⌝ }
-    ensures { λ r. ⌜ (r ≡ true → Few (now (row .entry))) ⌝ }
-{
-    let mut few = true;
-    let mut i = 0;
-    while i < COUNTS {
-        few = few & (row[i] < 256);
-        i += 1;
-    }
-    few
 }
 
 // The counts of the row at the front of a slice.
@@ -146,25 +142,21 @@ fn counts_of(row: &[u16]) -> [u16; 12]
     counts
 }
 
-// Whether the places of the first `count` columns permit what the rows of a table allow, and its counts are few. The tokens are the initial
-// ones at first.
+// Whether the places of the first `count` columns permit what the rows of a table allow. The tokens are the initial ones at first.
 pub fn columns_fit(
-    tokens: &mut [u32],
+    tokens: &mut [i64],
     count: usize,
-    matrix: &[u32],
+    matrix: &[u16],
     table: &[u16],
     rows: usize,
 ) -> bool
-    requires { ⌜ (count ≤ WIDTH) × (count ≤ length (now tokens)) × (MATRIX ≤ length (now matrix)) × (ROW * rows ≤ length (now table)) × Short (now matrix) × Marking count (now matrix) (now tokens) none ⌝ }
+    requires { ⌜ (count ≤ WIDTH) × (count ≤ length (now tokens)) × (MATRIX ≤ length (now matrix)) × (ROW * rows ≤ length (now table)) × Marking count (now matrix) (now tokens) none ⌝ }
     ensures { λ r. ⌜ (r ≡ true → (j : ℕ) → j < count → fitsRows (column (now (matrix .entry)) j) (rowsOf rows (now (table .entry))) ≡ true) ⌝ }
 {
     let mut before = [0u16; 12];
     let mut r = 0;
     while r < rows {
         let at = ROW * r;
-        if !counts_few(&table[at..]) {
-            return false;
-        }
         advance(tokens, count, matrix, before, &table[at..]);
         if !covers_mask(tokens, count, matrix, table[at + COUNTS]) {
             return false;
@@ -177,42 +169,42 @@ pub fn columns_fit(
 }
 
 // The tokens of the first `count` columns at first.
-pub fn start(tokens: &mut [u32], count: usize, matrix: &[u32])
-    requires { ⌜ (count ≤ length (now tokens)) × (count ≤ length (now matrix)) × Short (now matrix) ⌝ }
+pub fn start(tokens: &mut [i64], count: usize, matrix: &[u16])
+    requires { ⌜ (count ≤ length (now tokens)) × (count ≤ length (now matrix)) ⌝ }
     ensures { λ u. ⌜ Marking count (now (matrix .entry)) (now (tokens .exit)) none ⌝ }
 {
     let mut j = 0;
     while j < count {
-        tokens[j] = BASE + matrix[j];
+        tokens[j] = matrix[j] as i64;
         j += 1;
     }
 }
 
 // Writes the numbers of a place into column j.
-fn write_column(matrix: &mut [u32], j: usize, place: Place)
-    requires { ⌜ (j < WIDTH) × (MATRIX ≤ length (now matrix)) × Short (now matrix) ⌝ }
-    ensures { λ u. ⌜ Short (now (matrix .exit)) × SamePlace (column (now (matrix .exit)) j) (placeOf place) × Beside (now (matrix .entry)) (now (matrix .exit)) j ⌝ }
+fn write_column(matrix: &mut [u16], j: usize, place: Place)
+    requires { ⌜ (j < WIDTH) × (MATRIX ≤ length (now matrix)) ⌝ }
+    ensures { λ u. ⌜ SamePlace (column (now (matrix .exit)) j) (placeOf place) × Beside (now (matrix .entry)) (now (matrix .exit)) j ⌝ }
 {
     let mut e = 0;
     while e < COUNTS {
-        matrix[WIDTH * (1 + e) + j] = place.produced[e] as u32;
-        matrix[WIDTH * (1 + COUNTS + e) + j] = place.consumed[e] as u32;
+        matrix[WIDTH * (1 + e) + j] = place.produced[e];
+        matrix[WIDTH * (1 + COUNTS + e) + j] = place.consumed[e];
         e += 1;
     }
-    matrix[j] = place.initial as u32;
+    matrix[j] = place.initial;
 }
 
 // Writes the places of a bundle into the columns of a matrix.
-pub fn write_columns(bundle: &[u8], n: usize, places: Places, matrix: &mut [u32])
-    requires { ⌜ (n ≤ 12) × (places .first + 2 * (places .count * placeSize n) ≤ length (now bundle)) × (places .count ≤ WIDTH) × (MATRIX ≤ length (now matrix)) × Short (now matrix) ⌝ }
-    ensures { λ u. ⌜ Short (now (matrix .exit)) × Written n (now (bundle .entry)) (places .first) (now (matrix .exit)) (places .count) ⌝ }
+pub fn write_columns(bundle: &[u8], n: usize, places: Places, matrix: &mut [u16])
+    requires { ⌜ (n ≤ 12) × (places .first + 2 * (places .count * placeSize n) ≤ length (now bundle)) × (places .count ≤ WIDTH) × (MATRIX ≤ length (now matrix)) ⌝ }
+    ensures { λ u. ⌜ Written n (now (bundle .entry)) (places .first) (now (matrix .exit)) (places .count) ⌝ }
 {
     let size = 2 * (1 + 2 * n);
     let count = places.count;
     let mut at = places.first;
     let mut j = 0;
     while j < count {
-        let place = bundles::place_at(bundle, at, n);
+        let place = bundles::net::place_at(bundle, at, n);
         write_column(matrix, j, place);
         at += size;
         j += 1;

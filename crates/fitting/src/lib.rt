@@ -1,4 +1,4 @@
-// Whether the places of a bundle fit its log, from the rows of the log table.
+// Whether the places of a bundle fit its log, from the rows of the log table. All are inner functions.
 mod columns; // the places side by side
 
 use bundles::Places;
@@ -17,7 +17,7 @@ ghost use mathlib.Core.Bool.{true};
 ghost use Prim.Native.Nat.{_+_, _*_, _≤_};
 ghost use lib.ListN.{length};
 ghost use Rattle.laws.specs.Scans.{firstFailing};
-ghost use Rattle.nets.specs.Machine.{placeOf};
+ghost use Rattle.nets.specs.Machine.{placeOf, Held};
 ghost use Rattle.bundles.specs.Layout.{PlaceFields, toPlace};
 ghost use Rattle.bundles.specs.NumberSteps.{itemsAt};
 ghost use Rattle.bundles.specs.PlaceSteps.{placeSize, fieldsAt};
@@ -27,6 +27,7 @@ ghost use Rattle.fitting.specs.Columns.{AllFit};
 
 // Whether the tokens cover what each event of the mask takes. All twelve are tested without a branch: which bits are set is hard to predict.
 fn events_fit(tokens: i64, consumed: [u16; 12], mask: u16) -> bool
+    requires { ⌜ Held tokens ⌝ }
     ensures { λ r. ⌜ r ≡ eventsFit tokens consumed mask ⌝ }
 {
     let mut fit = true;
@@ -81,9 +82,9 @@ fn all_fit(bundle: &[u8], n: usize, places: Places, table: &[u16], rows: usize) 
     if (count < 8) & (rows < 8) {
         return false;
     }
-    let mut matrix = [0u32; MATRIX];
+    let mut matrix = [0u16; MATRIX];
     write_columns(bundle, n, places, &mut matrix);
-    let mut tokens = [0u32; WIDTH];
+    let mut tokens = [0i64; WIDTH];
     let width = (count + 7) / 8 * 8;
     start(&mut tokens, width, &matrix);
     columns_fit(&mut tokens, width, &matrix, table, rows)
@@ -99,7 +100,7 @@ fn search_misfit(bundle: &[u8], n: usize, places: Places, table: &[u16], rows: u
     let mut at = places.first;
     let mut j = 0;
     while j < count {
-        let place = bundles::place_at(bundle, at, n);
+        let place = bundles::net::place_at(bundle, at, n);
         if !fits(place, table, rows) {
             return j;
         }

@@ -17,21 +17,22 @@ use Rattle.nets.specs.Nets.{Word, Log, eventCount, rows}
 use Rattle.nets.specs.LogLaws.{eventCount-snoc}
 use Rattle.nets.specs.Fits.{Below, LogBelow}
 use Rattle.nets.specs.Machine.{COUNTS}
-use Rattle.logs.specs.Rows.{ROW, Row, rowsOf, newRow, none, takeWord, newRows, Holds}
+use Rattle.logs.specs.Rows.{ROW, Row, rowsOf, newRow, none, takeWord, newRows, Holds, Added}
 use Rattle.logs.specs.Answers.{TABLE, MAX-ROWS}
+use Rattle.logs.specs.Index.{Index}
 use Rattle.logs.specs.Log.{logRows}
 use Rattle.logs.specs.LogRows.{take-word, first-row}
 use Rattle.logs.specs.LogTable.{length-logRows, each-below}
 use Rattle.logs.specs.Growth.{length-take}
 use Rattle.logs.specs.Taking.{drop-more}
-use Rattle.logs.specs.Flat.{held, length-rows}
+use Rattle.logs.specs.Flat.{length-rows}
 use Rattle.bundles.specs.Reading.{got, failed, andThen, _>>_, require, byte, each, times, following}
 use Rattle.bundles.specs.Readers.{anything, wordAfter, word}
 use Rattle.bundles.specs.FieldSteps.{below, byte-got}
 use Rattle.bundles.specs.ReadingLaws.{andThen-got}
 use Rattle.bundles.specs.WordSteps.{mapRead, mapRead-got, mapRead-failed, require-got, rest, rest-all, rest-none, rest-more, rest-failed, eventsAt, word-limit, word-part, word-tested}
 use Rattle.refusals.specs.Table.{EVENTS}
-use Rattle.verdicts.specs.Judging.{rowsBelowLimit}
+use Rattle.verdicts.specs.Judging.{rowsInLimit}
 use Rattle.heads.specs.declared.LogTaken.{LogTaken}
 use Rattle.heads.specs.declared.LogTaken.the-variants as log-taken
 
@@ -50,16 +51,24 @@ pub record Held (n : ℕ) (log : Log) (t₀ t : List ℕ) (rowCount events : ℕ
 -- after a word at an offset behind a log: the log with it, or its refusal with the table as it was
 abbrev pub OneMore : ℕ → List ℕ → ℕ → Log → List ℕ → List ℕ → ℕ → ℕ → LogTaken → Type 0
 OneMore n b at log t₀ t′ rowCount events (log-taken.Taken rowCount′ events′ next) =
-    (w : Word) × (word (rowsBelowLimit n) n log b at ≡ got w next) × Held n (log ++ w ∷ []) t₀ t′ rowCount′ events′
+    (w : Word) × (word (rowsInLimit n) n log b at ≡ got w next) × Held n (log ++ w ∷ []) t₀ t′ rowCount′ events′
 OneMore n b at log t₀ t′ rowCount events (log-taken.Refused r) =
-    (word (rowsBelowLimit n) n log b at ≡ failed (r .number) (r .spot)) × Held n log t₀ t′ rowCount events
+    (word (rowsInLimit n) n log b at ≡ failed (r .number) (r .spot)) × Held n log t₀ t′ rowCount events
 
 -- after the words at an offset: the log and its rows, or a refusal with the table changed in its first numbers only
 abbrev pub AllTaken : ℕ → List ℕ → ℕ → ℕ → List ℕ → List ℕ → LogTaken → Type 0
 AllTaken n b at count t₀ t (log-taken.Taken rowCount events next) =
-    (log : Log) × (following count (word (rowsBelowLimit n) n) b at ≡ got log next) × Held n log t₀ t rowCount events
+    (log : Log) × (following count (word (rowsInLimit n) n) b at ≡ got log next) × Held n log t₀ t rowCount events
 AllTaken n b at count t₀ t (log-taken.Refused r) =
-    (following count (word (rowsBelowLimit n) n) b at ≡ failed (r .number) (r .spot)) × (drop TABLE t ≡ drop TABLE t₀)
+    (following count (word (rowsInLimit n) n) b at ≡ failed (r .number) (r .spot)) × (drop TABLE t ≡ drop TABLE t₀)
+
+-- behind a word that was taken, l is an index of the rows of t
+abbrev pub Reindexed : List ℕ → List ℕ → LogTaken → Type 0
+Reindexed t l (log-taken.Taken rowCount events next) = Index rowCount t l
+Reindexed t l (log-taken.Refused r) = Unit {0}
+
+pub reindexed : (t l : List ℕ) (r : LogTaken) {rowCount events next : ℕ} → r ≡ log-taken.Taken rowCount events next → Reindexed t l r → Index rowCount t l
+reindexed t l r told i = subst (Reindexed t l) told i
 
 -- ---- a word that was read
 
@@ -117,13 +126,9 @@ word-read n events b at size next h e =
 
 -- ---- one word more
 
--- where there is room, the rows do not pass 256
-pub room-size : (k : ℕ) (t : List ℕ) (w : Word) → k ≤ MAX-ROWS → EventsBelow COUNTS w → newRows (rowsOf k t) none w ≤ MAX-ROWS - k → length (takeWord (rowsOf k t) none w) ≤ MAX-ROWS
-room-size k t w few below room = omega (arith, length-take (rowsOf k t) none w (length-replicate {A = ℕ} COUNTS 0) below, length-rows k t)
-
 module _ {n : ℕ} {log : Log} {t₀ t : List ℕ} {rowCount events : ℕ} (h : Held n log t₀ t rowCount events) (most : n ≤ COUNTS) (b : List ℕ) (at : ℕ) where
   -- the word's refusal
-  pub word-refused : {number spot : ℕ} → mapRead length (wordAfter n events b at) ≡ failed number spot → word (rowsBelowLimit n) n log b at ≡ failed number spot
+  pub word-refused : {number spot : ℕ} → mapRead length (wordAfter n events b at) ≡ failed number spot → word (rowsInLimit n) n log b at ≡ failed number spot
   unfolding word andThen
   word-refused {number} {spot} e =
       let read : wordAfter n (eventCount log) b at ≡ failed number spot = rw (h .total) at (mapRead-failed length (wordAfter n events b at) number spot e) in
@@ -148,31 +153,35 @@ module _ {n : ℕ} {log : Log} {t₀ t : List ℕ} {rowCount events : ℕ} (h : 
         ∙ length-take (rowsOf rowCount t) none (r .w) (length-replicate {A = ℕ} COUNTS 0) (r .below)
         ∙ ap (λ (k : ℕ). k + newRows (rowsOf rowCount t) none (r .w)) (length-rows rowCount t)
 
-    tested : word (rowsBelowLimit n) n log b at ≡ cond (rowsBelowLimit n (log ++ r .w ∷ [])) (got (r .w) next) (failed ROWS at)
-    tested = word-tested (rowsBelowLimit n) n log b at (r .w) next (rw (h .total) at (r .read))
+    tested : word (rowsInLimit n) n log b at ≡ cond (rowsInLimit n (log ++ r .w ∷ [])) (got (r .w) next) (failed ROWS at)
+    tested = word-tested (rowsInLimit n) n log b at (r .w) next (rw (h .total) at (r .read))
 
-    pub no-room : MAX-ROWS - rowCount < newRows (rowsOf rowCount t) none (r .w) → word (rowsBelowLimit n) n log b at ≡ failed ROWS at
-    no-room less = tested ∙ rw (lt-leb (length (rows n (log ++ r .w ∷ []))) MAX-ROWS (omega (arith, rows-size, h .few)))
+    -- its rows are added to the table, or there are too many
+    module _ (k : ℕ) (t′ : List ℕ) (added : Added MAX-ROWS rowCount (r .w) t t′ k) where
+      pub no-room : MAX-ROWS < k → (word (rowsInLimit n) n log b at ≡ failed ROWS at) × Held n log t₀ t′ rowCount events
+      no-room full = (
+        tested ∙ rw (lt-leb (length (rows n (log ++ r .w ∷ []))) MAX-ROWS (omega (arith, rows-size, added .size))),
+        subst (λ (l : List ℕ). Held n log t₀ l rowCount events) (sym (added .full full)) h,
+      )
 
-    pub word-taken : newRows (rowsOf rowCount t) none (r .w) ≤ MAX-ROWS - rowCount → (k : ℕ) (t′ : List ℕ) → length t′ ≡ length t → Holds k (takeWord (rowsOf rowCount t) none (r .w)) t t′
-        → (w : Word) × (word (rowsBelowLimit n) n log b at ≡ got w next) × Held n (log ++ w ∷ []) t₀ t′ k (events + size)
-    word-taken room k t′ kept new =
-        let is : k ≡ length (rows n (log ++ r .w ∷ [])) = held k _ t t′ new ∙ length-take (rowsOf rowCount t) none (r .w) (length-replicate {A = ℕ} COUNTS 0) (r .below) ∙ ap (λ (j : ℕ). j + newRows (rowsOf rowCount t) none (r .w)) (length-rows rowCount t) ∙ sym rows-size in (
-          r .w,
-          tested ∙ rw (le-leb (length (rows n (log ++ r .w ∷ []))) MAX-ROWS (omega (arith, rows-size, h .few))),
-          record {
-            below = log-below;
-            total = omega (arith, eventCount-snoc log (r .w), h .total, r .size);
-            limit = omega (arith, r .limit, r .size);
-            size = is;
-            few = omega (arith, is, rows-size, h .few);
-            same = kept ∙ h .same;
-            holds = record {
-              front = new .front ∙ rows-next;
-              rest = new .rest ∙ drop-more (ROW * rowCount) (ROW * k) t t₀ (omega (arith, is, rows-size)) (h .holds .rest);
-            };
-          },
-        )
+      pub word-taken : k ≤ MAX-ROWS → length t′ ≡ length t → (w : Word) × (word (rowsInLimit n) n log b at ≡ got w next) × Held n (log ++ w ∷ []) t₀ t′ k (events + size)
+      word-taken room kept =
+          let is : k ≡ length (rows n (log ++ r .w ∷ [])) = added .size ∙ sym rows-size in (
+            r .w,
+            tested ∙ rw (le-leb (length (rows n (log ++ r .w ∷ []))) MAX-ROWS (omega (arith, is))),
+            record {
+              below = log-below;
+              total = omega (arith, eventCount-snoc log (r .w), h .total, r .size);
+              limit = omega (arith, r .limit, r .size);
+              size = is;
+              few = room;
+              same = kept ∙ h .same;
+              holds = record {
+                front = added .fits room .front ∙ rows-next;
+                rest = added .fits room .rest ∙ drop-more (ROW * rowCount) (ROW * k) t t₀ (omega (arith, added .size)) (h .holds .rest);
+              };
+            },
+          )
 
 -- ---- the words in a loop
 
@@ -180,7 +189,7 @@ module _ {n : ℕ} {log : Log} {t₀ t : List ℕ} {rowCount events : ℕ} (h : 
 pub record TakenSoFar (n : ℕ) (b : List ℕ) (at count : ℕ) (t₀ t : List ℕ) (rowCount events next left : ℕ) : Type 0 where
   pub log : Log
   pub held : Held n log t₀ t rowCount events
-  pub same : following count (word (rowsBelowLimit n) n) b at ≡ rest (word (rowsBelowLimit n) n) b left log next
+  pub same : following count (word (rowsInLimit n) n) b at ≡ rest (word (rowsInLimit n) n) b left log next
 
 -- the rows of a log end before number 3,328
 pub held-rest : {n : ℕ} {log : Log} {t₀ t : List ℕ} {rowCount events : ℕ} → Held n log t₀ t rowCount events → drop TABLE t ≡ drop TABLE t₀
@@ -200,7 +209,7 @@ module _ (n : ℕ) (b : List ℕ) (at count : ℕ) (t₀ : List ℕ) where
       same = refl;
       holds = record { front = e ∙ sym first-row; rest = refl };
     };
-    same = rest-all (word (rowsBelowLimit n) n) b count at;
+    same = rest-all (word (rowsInLimit n) n) b count at;
   }
     where
       none-below : LogBelow n []
@@ -214,9 +223,9 @@ module _ (n : ℕ) (b : List ℕ) (at count : ℕ) (t₀ : List ℕ) where
       pub taken-next : {rowCount′ events′ after : ℕ} → r ≡ log-taken.Taken rowCount′ events′ after → TakenSoFar n b at count t₀ t′ rowCount′ events′ after (left - 1)
       taken-next {rowCount′} {events′} {after} told =
           let m : OneMore n b next (s .log) t₀ t′ rowCount events (log-taken.Taken rowCount′ events′ after) = subst (OneMore n b next (s .log) t₀ t′ rowCount events) told one in
-          record { log = s .log ++ m .0 ∷ []; held = m .2; same = s .same ∙ rest-more (word (rowsBelowLimit n) n) b left (s .log) next (m .0) after more (m .1) }
+          record { log = s .log ++ m .0 ∷ []; held = m .2; same = s .same ∙ rest-more (word (rowsInLimit n) n) b left (s .log) next (m .0) after more (m .1) }
 
       pub taken-failed : {x : Refusal} → r ≡ log-taken.Refused x → AllTaken n b at count t₀ t′ r
       taken-failed {x} told =
           let m : OneMore n b next (s .log) t₀ t′ rowCount events (log-taken.Refused x) = subst (OneMore n b next (s .log) t₀ t′ rowCount events) told one in
-          subst (AllTaken n b at count t₀ t′) (sym told) (s .same ∙ rest-failed (word (rowsBelowLimit n) n) b left (s .log) next (x .number) (x .spot) more (m .0), held-rest (m .1))
+          subst (AllTaken n b at count t₀ t′) (sym told) (s .same ∙ rest-failed (word (rowsInLimit n) n) b left (s .log) next (x .number) (x .spot) more (m .0), held-rest (m .1))

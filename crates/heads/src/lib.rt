@@ -2,27 +2,30 @@
 use bundles::Field;
 use bundles::Head;
 use bundles::PlacesRead;
-use bundles::any_byte;
-use bundles::byte_between;
-use bundles::read_places;
-use bundles::read_word;
-use bundles::word_at;
-use logs::words::has_room;
-use logs::words::write_word;
+use bundles::fields::any_byte;
+use bundles::fields::byte_between;
+use bundles::net::read_places;
+use bundles::words::read_word;
+use bundles::words::word_at;
+use logs::MAX_ROWS;
+use logs::index::INDEX;
+use logs::index::index_rows;
+use logs::words::add_word;
 use refusals::ROWS;
 use refusals::Refusal;
 ghost use mathlib.Core.Path.{_≡_};
 ghost use mathlib.Core.List.{List, [], _∷_};
-ghost use Prim.Native.Nat.{ℕ, _≤_};
+ghost use Prim.Native.Nat.{ℕ, _≤_, _<_};
 ghost use lib.ListN.{length};
 ghost use Rattle.nets.specs.Nets.{Log};
 ghost use Rattle.nets.specs.Machine.{COUNTS};
 ghost use Rattle.logs.specs.Rows.{rowsOf, newRow, none};
 ghost use Rattle.logs.specs.Answers.{TABLE, MAX-ROWS};
+ghost use Rattle.logs.specs.Index.{INDEX, Index};
 ghost use Rattle.bundles.specs.Readers.{head};
 ghost use Rattle.bundles.specs.HeadSteps.{headAfter};
-ghost use Rattle.verdicts.specs.Judging.{rowsBelowLimit};
-ghost use Rattle.heads.specs.Taken.{Held, OneMore, AllTaken};
+ghost use Rattle.verdicts.specs.Judging.{rowsInLimit};
+ghost use Rattle.heads.specs.Taken.{Held, OneMore, AllTaken, Reindexed};
 ghost use Rattle.heads.specs.Heads.{HeadIs};
 
 // A log so far: its rows, its events, and the offset behind it.
@@ -31,7 +34,7 @@ pub enum LogTaken {
     Refused(Refusal),
 }
 
-// Takes the word at an offset behind a log with so many rows and events.
+// Takes the word at an offset behind a log with so many rows and events. `numbers` is for the rows of its prefixes.
 fn take_word(
     bundle: &[u8],
     at: usize,
@@ -39,21 +42,25 @@ fn take_word(
     rows: usize,
     events: usize,
     table: &mut [u16],
+    index: &mut [u16],
+    numbers: &mut [u16],
 ) -> LogTaken
-    requires { ⌜ (n ≤ COUNTS) × (rows ≤ MAX-ROWS) × (events ≤ 1024) × (TABLE ≤ length (now table)) ⌝ }
+    requires { ⌜ (n ≤ COUNTS) × (rows ≤ MAX-ROWS) × (events ≤ 1024) × (TABLE ≤ length (now table)) × (INDEX ≤ length (now index)) × (255 < length (now numbers)) × Index rows (now table) (now index) ⌝ }
     ensures { λ r. ⌜ ((log : Log) (t₀ : List ℕ) → Held n log t₀ (now (table .entry)) rows events → OneMore n (now (bundle .entry)) at log t₀ (now (table .exit)) rows events r) ⌝ }
+    ensures { λ r. ⌜ Reindexed (now (table .exit)) (now (index .exit)) r ⌝ }
 {
     match read_word(bundle, at, n, events) {
         Field::Refused(refusal) => LogTaken::Refused(refusal),
         Field::Value(size, next) => {
             let word = word_at(bundle, at);
-            if !has_room(table, rows, word) {
+            let more = add_word(table, rows, word, index, numbers);
+            if MAX_ROWS < more {
                 return LogTaken::Refused(Refusal {
                     number: ROWS,
                     spot: at,
                 });
             }
-            let more = write_word(table, rows, word);
+            index_rows(table, rows, more, index);
             LogTaken::Taken(more, events + size, next)
         }
     }
@@ -64,12 +71,24 @@ fn take_words(bundle: &[u8], at: usize, n: usize, count: usize, table: &mut [u16
     requires { ⌜ (n ≤ COUNTS) × (TABLE ≤ length (now table)) × (rowsOf 1 (now table) ≡ newRow none ∷ []) ⌝ }
     ensures { λ r. ⌜ AllTaken n (now (bundle .entry)) at count (now (table .entry)) (now (table .exit)) r ⌝ }
 {
+    let mut index = [0u16; INDEX];
+    index_rows(table, 0, 1, &mut index);
+    let mut numbers = [0u16; 256];
     let mut rows = 1;
     let mut events = 0;
     let mut next = at;
     let mut left = count;
     while 0 < left {
-        let taken = take_word(bundle, next, n, rows, events, table);
+        let taken = take_word(
+            bundle,
+            next,
+            n,
+            rows,
+            events,
+            table,
+            &mut index,
+            &mut numbers,
+        );
         let LogTaken::Taken(more, sum, after) = taken else {
             return taken;
         };
@@ -90,7 +109,7 @@ pub enum HeadTaken {
 // A head from its word count on.
 fn take_after(bundle: &[u8], at: usize, n: usize, table: &mut [u16]) -> HeadTaken
     requires { ⌜ (n ≤ COUNTS) × (TABLE ≤ length (now table)) × (rowsOf 1 (now table) ≡ newRow none ∷ []) ⌝ }
-    ensures { λ r. ⌜ HeadIs (headAfter rowsBelowLimit n (now (bundle .entry)) at) (now (table .entry)) (now (table .exit)) r ⌝ }
+    ensures { λ r. ⌜ HeadIs (headAfter rowsInLimit n (now (bundle .entry)) at) (now (table .entry)) (now (table .exit)) r ⌝ }
 {
     match any_byte(bundle, at) {
         Field::Refused(refusal) => HeadTaken::Refused(refusal),
@@ -107,7 +126,7 @@ fn take_after(bundle: &[u8], at: usize, n: usize, table: &mut [u16]) -> HeadTake
 // Reads a bundle up to its last place, and takes its log into a table that has the row of the empty log. (Inner function.)
 pub fn take_head(bundle: &[u8], table: &mut [u16]) -> HeadTaken
     requires { ⌜ (TABLE ≤ length (now table)) × (rowsOf 1 (now table) ≡ newRow none ∷ []) ⌝ }
-    ensures { λ r. ⌜ HeadIs (head rowsBelowLimit (now (bundle .entry)) 0) (now (table .entry)) (now (table .exit)) r ⌝ }
+    ensures { λ r. ⌜ HeadIs (head rowsInLimit (now (bundle .entry)) 0) (now (table .entry)) (now (table .exit)) r ⌝ }
 {
     match byte_between(bundle, 0, 1, 12) {
         Field::Refused(refusal) => HeadTaken::Refused(refusal),

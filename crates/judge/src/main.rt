@@ -1,44 +1,50 @@
 // Judges the sealed file that standard input has, and prints one line: `accepted` and four counts, or `refused`, number and spot.
 use console::Input;
-use console::write_number;
-use console::write_refusal;
-use libc::STDERR_FILENO;
+use console::print_line;
+use console::print_refusal;
 use libc::STDIN_FILENO;
-use libc::STDOUT_FILENO;
 use refusals::FILE_LENGTH;
 use refusals::Refusal;
 use refusals::Written;
-use verdicts::Counts;
 use verdicts::Verdict;
 ghost use mathlib.Core.Path.{_≡_};
+ghost use mathlib.Core.List.{List};
+ghost use Prim.Native.Nat.{ℕ, _≤_, _<_};
+ghost use lib.ListN.{length};
 ghost use Rattle.block.specs.File.{opened};
+ghost use Rattle.block.specs.Whole.{InputRead};
 ghost use Rattle.judge.specs.Files.{fileVerdict};
 
 fn print_verdict(verdict: Verdict) {
     match verdict {
         Verdict::Accepted(counts) => {
-            io::write_all(STDOUT_FILENO, b"accepted");
-            write_number(STDOUT_FILENO, counts.rows);
-            write_number(STDOUT_FILENO, counts.allowed);
-            write_number(STDOUT_FILENO, counts.by_place);
-            write_number(STDOUT_FILENO, counts.by_weights);
-            io::write_all(STDOUT_FILENO, b"\n");
+            print_line(
+                b"accepted",
+                &[
+                    counts.rows,
+                    counts.allowed,
+                    counts.by_place,
+                    counts.by_weights,
+                ],
+            );
         }
         Verdict::Refused(refusal) => {
-            write_refusal(STDOUT_FILENO, refusal);
+            print_refusal(refusal);
         }
     }
 }
 
-// The verdict on a sealed file: that of opening it, or that on its bundle.
-fn judge_file(file: &[u8]) -> Verdict
-    ensures { λ r. ⌜ r ≡ fileVerdict (opened (now (file .entry))) ⌝ }
+// The verdict on the sealed file that came to a buffer, its first n bytes: that of opening it, or that on its bundle. The buffer is longer than
+// every file, so the verdict is that on the whole input, however long it is.
+fn judge_file(buffer: &[u8], n: usize) -> Verdict
+    requires { ⌜ (n ≤ length (now buffer)) × (65536 < length (now buffer)) ⌝ }
+    ensures { λ r. ⌜ ((input : List ℕ) → InputRead input (now (buffer .entry)) n → r ≡ fileVerdict (opened input)) ⌝ }
 {
     let mut bundle = io::large_buffer();
     let mut table = [0u16; 3328];
-    match block::open(file, &mut bundle) {
+    match block::open(&buffer[..n], &mut bundle) {
         Written::Refused(refusal) => Verdict::Refused(refusal),
-        Written::Length(n) => judging::judge(&bundle[..n], &mut table),
+        Written::Length(size) => judging::judge(&bundle[..size], &mut table),
     }
 }
 
@@ -47,17 +53,14 @@ fn main() {
     let mut file = [0u8; 65537];
     match console::read_input(STDIN_FILENO, &mut file) {
         Input::Failed => {
-            io::write_all(STDERR_FILENO, b"read\n");
-            write_refusal(
-                STDOUT_FILENO,
-                Refusal {
-                    number: FILE_LENGTH,
-                    spot: 0,
-                },
-            );
+            os::fail(b"standard input");
+            print_refusal(Refusal {
+                number: FILE_LENGTH,
+                spot: 0,
+            });
         }
         Input::Bytes(n) => {
-            print_verdict(judge_file(&file[..n]));
+            print_verdict(judge_file(&file, n));
         }
     }
 }

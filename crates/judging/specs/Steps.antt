@@ -28,7 +28,7 @@ use Rattle.bundles.specs.PlaceSteps.{placeSize, fieldsAt}
 use Rattle.bundles.specs.HeadSteps.{HeadAt}
 use Rattle.bundles.specs.declared.Head as declared
 use Rattle.bundles.specs.declared.Places.{Places}
-use Rattle.verdicts.specs.Judging.{rowsBelowLimit, solved, atEnd, afterHead, contents, judging, countsOf, verdictOn, verdict, tableOn, tableAfter}
+use Rattle.verdicts.specs.Judging.{rowsInLimit, solved, atEnd, afterHead, contents, judging, countsOf, verdictOn, verdict, tableOn, tableAfter}
 use Rattle.verdicts.specs.declared.Verdict.{Verdict}
 use Rattle.verdicts.specs.declared.Verdict.the-variants as verdicts
 use Rattle.heads.specs.Taken.{Held, held-rest}
@@ -101,11 +101,11 @@ got-same : {A : Type 0} {x y : A} {i j : ℕ} → got x i ≡ got y j → x ≡ 
 got-same e = cc
 
 module _ (b : List ℕ) where
-  pub judging-failed : {number spot : ℕ} → head rowsBelowLimit b 0 ≡ failed number spot → judging b 0 ≡ failed number spot
+  pub judging-failed : {number spot : ℕ} → head rowsInLimit b 0 ≡ failed number spot → judging b 0 ≡ failed number spot
   unfolding judging contents andThen
   judging-failed e = rw e
 
-  pub judging-got : {h : Head} {next : ℕ} → head rowsBelowLimit b 0 ≡ got h next → judging b 0 ≡ afterwards h b next
+  pub judging-got : {h : Head} {next : ℕ} → head rowsInLimit b 0 ≡ got h next → judging b 0 ≡ afterwards h b next
   unfolding judging contents andThen afterwards
   judging-got e = rw e
 
@@ -125,7 +125,7 @@ module _ (b : List ℕ) where
       certificates h = each (solved h) (wrongContinuations (h .events) (h .log)) [] >>= (λ cs. give (record { head = h; certificates = cs }))
 
   -- the table holds the head's log
-  pub table-left : {h : Head} {next : ℕ} → head rowsBelowLimit b 0 ≡ got h next → {t₀ t : List ℕ} {rowCount events : ℕ} → Held (h .events) (h .log) t₀ t rowCount events → TABLE ≤ length t₀ → TableLeft (judging b 0) t₀ t
+  pub table-left : {h : Head} {next : ℕ} → head rowsInLimit b 0 ≡ got h next → {t₀ t : List ℕ} {rowCount events : ℕ} → Held (h .events) (h .log) t₀ t rowCount events → TABLE ≤ length t₀ → TableLeft (judging b 0) t₀ t
   table-left {h} {next} e {t₀} {t} {rowCount} {events} held long = rw (judging-got e) (go (afterwards h b next) (same-head h next))
     where
       go : (m : Read Contents) → ((c : Contents) (end : ℕ) → m ≡ got c end → c .head ≡ h) → TableLeft m t₀ t
@@ -134,11 +134,11 @@ module _ (b : List ℕ) where
           ∙ ap (λ (d : Head). withRows (logRows (d .log)) t₀) (sym (same c end refl))
       go (failed number spot) same = held-rest held
 
-  pub table-refused : {number spot : ℕ} → head rowsBelowLimit b 0 ≡ failed number spot → (t₀ t : List ℕ) → drop TABLE t ≡ drop TABLE t₀ → TableLeft (judging b 0) t₀ t
+  pub table-refused : {number spot : ℕ} → head rowsInLimit b 0 ≡ failed number spot → (t₀ t : List ℕ) → drop TABLE t ≡ drop TABLE t₀ → TableLeft (judging b 0) t₀ t
   table-refused e t₀ t same = rw (judging-failed e) same
 
 -- what the code keeps of a head, with its log in the table
-pub head-held : (b : List ℕ) (h : Head) (next : ℕ) → head rowsBelowLimit b 0 ≡ got h next → (kept : declared.Head) → HeadAt rowsBelowLimit b kept h → (t₀ t : List ℕ) (rowCount events : ℕ) → Held (h .events) (h .log) t₀ t rowCount events
+pub head-held : (b : List ℕ) (h : Head) (next : ℕ) → head rowsInLimit b 0 ≡ got h next → (kept : declared.Head) → HeadAt rowsInLimit b kept h → (t₀ t : List ℕ) (rowCount events : ℕ) → Held (h .events) (h .log) t₀ t rowCount events
     → HeadHeld b t (kept .n) (kept .places) rowCount h
 head-held b h next e kept a t₀ t rowCount events held = record {
   events = a .events;

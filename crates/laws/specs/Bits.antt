@@ -1,5 +1,5 @@
 -- Bits of numbers: a number as the set of those e whose bit is set.
-use mathlib.Core.Path.{_≡_, refl, sym, ap, ap₂, _∙_}
+use mathlib.Core.Path.{_≡_, refl, sym, ap, _∙_}
 use mathlib.Core.Bool.{Bool, true, false, not, _||_}
 use Prim.Native.Nat.{ℕ, zero, suc, _+_, _*_, _/_, _%_, _^_, _<_, max}
 use native.Mathlib.Nat.{pow-succ', pow-suc, div-div-eq-div-mul, div-one, mul-div-cancel, mul-mod-left, mul-add-mod-self-right, mod-eq-of-lt, max-zero, zero-div}
@@ -9,9 +9,7 @@ use borrow.Author.Tests.{eq-eqb, ne-eqb}
 use lib.Dec.{eqb}
 use lib.Bits.{bitOr, or-shr, or-step, or-zero-r, or-lt}
 use lib.Pow.{pow-lt}
-use lib.Count.{ones, ones-step}
 use mir.Val.{boolByte}
-use Rattle.laws.specs.Sums.{sum, sum-first, sum-same}
 
 -- bit e of a number
 unfoldable pub bit : ℕ → ℕ → Bool
@@ -178,25 +176,3 @@ maskOf-none zero = refl
 maskOf-none (suc k) = ap (λ (n : ℕ). n * 2 + 0) (maskOf-none k)
 
 -- ---- how many bits are set
-
--- how many of the k lowest bits of a number are set
-unfoldable pub bitCount : ℕ → ℕ → ℕ
-bitCount k m = sum k (λ e. boolByte (bit m e))
-
--- the lowest bit, and the count of the rest
-bitCount-step : (k m : ℕ) → bitCount (suc k) m ≡ m % 2 + bitCount k (m / 2)
-unfolding bitCount
-bitCount-step k m =
-    sum-first k (λ e. boolByte (bit m e))
-    ∙ ap₂ (λ (a b : ℕ). a + b)
-    (ap boolByte (bit-zero m) ∙ digit-value (m % 2) (omega arith))
-    (sum-same k (λ e. boolByte (bit m (suc e))) (λ e. boolByte (bit (m / 2) e)) (λ e _. ap boolByte (bit-suc m e)))
-
--- the machine's count of ones is that
-pub ones-bitCount : (k m : ℕ) → m < 2 ^ k → ones m ≡ bitCount k m
-unfolding bitCount sum ones
-ones-bitCount zero m h = let none : m ≡ 0 = omega arith in ap ones none
-ones-bitCount (suc k) m h =
-    ones-step m
-    ∙ ap (λ (n : ℕ). m % 2 + n) (ones-bitCount k (m / 2) (omega (arith, pow-suc 2 k)))
-    ∙ sym (bitCount-step k m)

@@ -6,11 +6,10 @@ use mathlib.Core.Logic.{_↔_}
 use Prim.Native.Nat.{ℕ, zero, suc, _+_, _-_, _*_, _≤_, _<_, zero-le}
 use native.Mathlib.Nat.{add-zero, zero-mul, suc-mul}
 use native.Mathlib.Omega.{arith}
-use lib.Dec.{T, ltb, leb, leb→le, le→leb}
+use lib.Dec.{T, ltb}
 use lib.IntN.{ℤ, pos, negsuc, negℤ, subℕ, _+ℤ_, _-ℤ_, _*ℤ_, +ℤ-assoc, +ℤ-comm, negℤ-+ℤ, zero-*ℤ, sucℤ-*ℤ}
 use lib.Signed.{mag, nonNeg, leZ}
-use borrow.Author.Tests.{ltb-true, ltb-false, lt-ltb, le-ltb, le-leb}
-use Rattle.laws.specs.Booleans.{same-test}
+use borrow.Author.Tests.{ltb-true, ltb-false, le-ltb, le-leb}
 use Rattle.laws.specs.Sums.{sum}
 
 pub difference : (a b : ℕ) → pos a -ℤ pos b ≡ subℕ a b
@@ -70,17 +69,20 @@ nonNeg-difference a b = (to (ltb a b) refl, from (ltb a b) refl)
 pub pos-of-difference : (a b : ℕ) → b ≤ a → subℕ a b ≡ pos (a - b)
 pos-of-difference a b h = rw (le-ltb a b h)
 
+-- the same difference
+pub difference-same : (a b c d : ℕ) → a + d ≡ c + b → subℕ a b ≡ subℕ c d
+difference-same a b c d e = go (ltb a b) refl (ltb c d) refl
+  where
+    go : (s : Bool) → ltb a b ≡ s → (t : Bool) → ltb c d ≡ t → cond s (negsuc (b - suc a)) (pos (a - b)) ≡ cond t (negsuc (d - suc c)) (pos (c - d))
+    go true p true q = ap negsuc (omega (arith, ltb-true a b p, ltb-true c d q))
+    go true p false q = absurd (omega (arith, ltb-true a b p, ltb-false c d q))
+    go false p true q = absurd (omega (arith, ltb-false a b p, ltb-true c d q))
+    go false p false q = ap pos (omega (arith, ltb-false a b p, ltb-false c d q))
+
 -- as code tests it
 pub zero-leZ : (z : ℤ) → leZ (pos 0) z ≡ nonNeg z
 zero-leZ (pos n) = le-leb 0 n zero-le
 zero-leZ (negsuc n) = refl
-
-pub pos-leZ : (c : ℕ) (z : ℤ) → leZ (pos c) z ≡ nonNeg (z -ℤ pos c)
-pos-leZ c (pos n) =
-    same-test (leb c n) (nonNeg (subℕ n c)) (λ t. nonNeg-difference n c .1 (leb→le c n t)) (λ t. le→leb c n (nonNeg-difference n c .0 t))
-    ∙ ap nonNeg (sym (difference n c))
-pos-leZ zero (negsuc n) = rw (lt-ltb 0 (suc n) (omega arith))
-pos-leZ (suc c) (negsuc n) = refl
 
 -- a difference of two numbers below a bound is within the signed range of that bound
 pub mag-difference : (a b h : ℕ) → a < h → b < h → mag (subℕ a b) < h

@@ -1,7 +1,7 @@
 -- Tests over lists, with the law of each: `all`, `any`, `keep` (the members that pass a test, in order), `tabulate`, equality and
 -- membership of lists of numbers, and a list for each member, joined.
 use mathlib.Core.Path.{_≡_, refl, sym, ap, ap₂, _∙_, subst}
-use mathlib.Core.Bool.{Bool, true, false, cond, _&&_, _||_, and-true, and-assoc}
+use mathlib.Core.Bool.{Bool, true, false, cond, _&&_, _||_, and-true, and-assoc, false≢true}
 use mathlib.Core.Logic.{_⊎_, inl, inr, ⊎-elim}
 use mathlib.Core.List.{List, [], _∷_, _++_, map, flatMap, append-assoc, List·Memᴰ, List·Memᴰ·head, List·Memᴰ·tail, List·Memᴰ·not-nil, List·Memᴰ·cases-cons, Memᴰ·cast, List·Memᴰ·append-cases, Memᴰ·append-left, Memᴰ·append-right}
 use Prim.Native.Nat.{ℕ, zero, suc, _+_, _≤_, _<_, zero-le, suc-le-suc}
@@ -12,7 +12,7 @@ use native.Mathlib.Omega.{arith}
 use lib.ListN.{length, take, drop, getD, replicate, length-append}
 use lib.Seq.{drop-cons, take-at, drop-at}
 use lib.Ieee.Fits.{and-i, and-l, and-r}
-use Rattle.laws.specs.Booleans.{same-test, or-yes, yes-or-left, yes-or-right}
+use Rattle.laws.specs.Booleans.{same-test, or-yes, yes-or-left, yes-or-right, yes-true, true-or-false}
 
 -- ---- every member, some member, the members that pass
 module _ {A : Type 0} where
@@ -245,6 +245,11 @@ equal-sym a b = same-test (equal a b) (equal b a) (λ t. eq→equal b a (sym (eq
 -- equal lists, the test as an equation
 pub equal-true : (a b : List ℕ) → equal a b ≡ true → a ≡ b
 equal-true a b e = equal→eq a b (subst T (sym e) tt)
+
+-- lists that differ in their first elements differ
+pub equal-part : (a b : List ℕ) (k : ℕ) → equal (take k a) (take k b) ≡ false → equal a b ≡ false
+equal-part a b k e =
+    ⊎-elim (λ h. absurd (false≢true (sym e ∙ yes-true (equal (take k a) (take k b)) (eq→equal (take k a) (take k b) (ap (take k) (equal-true a b h)))))) (λ h. h) (true-or-false (equal a b))
 
 abbrev pub member : List ℕ → List (List ℕ) → Bool
 member u = any (equal u)

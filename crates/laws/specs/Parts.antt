@@ -21,11 +21,6 @@ module _ {A : Type 0} where
   unfolding front
   take-front new l = take-append-seam new (drop (length new) l)
 
-  -- nothing in front
-  pub front-none : (l : List A) → l ≡ front [] l
-  unfolding front
-  front-none l = refl
-
   -- the next piece, written after those in front
   pub front-next : (done piece l : List A) → spliced (length done) piece (front done l) ≡ front (done ++ piece) l
   unfolding front spliced

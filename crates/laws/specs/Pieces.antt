@@ -21,10 +21,6 @@ module _ {A : Type 0} where
   unfolding joined
   joined-next f n = rw add-one
 
-  pub joined-none : (f : ℕ → List A) → joined f 0 ≡ []
-  unfolding joined
-  joined-none f = refl
-
   -- pieces of one size
   pub length-joined : (f : ℕ → List A) (size n : ℕ) → ((k : ℕ) → k < n → length (f k) ≡ size) → length (joined f n) ≡ size * n
   unfolding joined

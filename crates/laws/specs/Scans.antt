@@ -86,6 +86,28 @@ module _ {A : Type 0} where
   failing-append test [] y ys e = rw e
   failing-append test (x ∷ xs) y ys e = ap (λ (n : ℕ). cond (test x) (suc n) 0) (failing-append test xs y ys e)
 
+  -- an element behind one that fails does not matter
+  pub failing-found : (test : A → Bool) (xs ys : List A) → firstFailing test xs < length xs → firstFailing test (xs ++ ys) ≡ firstFailing test xs
+  unfolding firstFailing
+  failing-found test [] ys h = absurd (not-suc-le-zero h)
+  failing-found test (x ∷ xs) ys h = go (test x) (failing-found test xs ys) h
+    where
+      go : (b : Bool) → (firstFailing test xs < length xs → firstFailing test (xs ++ ys) ≡ firstFailing test xs)
+          → cond b (suc (firstFailing test xs)) 0 < suc (length xs) → cond b (suc (firstFailing test (xs ++ ys))) 0 ≡ cond b (suc (firstFailing test xs)) 0
+      go true rest h = ap suc (rest (le-of-suc-le-suc h))
+      go false rest h = refl
+
+  -- behind elements that all pass, one that passes
+  pub failing-past : (test : A → Bool) (xs : List A) (y : A) → length xs ≤ firstFailing test xs → test y ≡ true → length xs < firstFailing test (xs ++ y ∷ [])
+  unfolding firstFailing
+  failing-past test [] y h e = rw e (zero-lt-suc 0)
+  failing-past test (x ∷ xs) y h e = go (test x) (λ g. failing-past test xs y g e) h
+    where
+      go : (b : Bool) → (length xs ≤ firstFailing test xs → length xs < firstFailing test (xs ++ y ∷ []))
+          → suc (length xs) ≤ cond b (suc (firstFailing test xs)) 0 → suc (length xs) < cond b (suc (firstFailing test (xs ++ y ∷ []))) 0
+      go true rest h = suc-le-suc (rest (le-of-suc-le-suc h))
+      go false rest h = absurd (not-suc-le-zero h)
+
   -- where none fails, each passes
   pub failing-none : (test : A → Bool) (d : A) (l : List A) → length l ≤ firstFailing test l → (k : ℕ) → k < length l → test (getD l k d) ≡ true
   unfolding firstFailing

@@ -5,7 +5,7 @@ use Prim.Native.Nat.{ℕ, zero, suc, _+_, _*_, _≤_, _<_}
 use native.Mathlib.Nat.{not-suc-le-zero, le-of-suc-le-suc, le-refl, add-zero, mul-add, mul-zero, add-le-add, lt-suc-self, suc-mul}
 use native.Mathlib.Omega.{arith}
 use native.Mathlib.Numerals.{add-one}
-use lib.ListN.{length, take, getD}
+use lib.ListN.{length, take, getD, set, replicate}
 
 -- ---- Over a list
 
@@ -23,6 +23,19 @@ weighted-next w xs i h = ap (λ (k : ℕ). weighted w (take k xs)) (add-one i) �
     go w [] i h = absurd (not-suc-le-zero h)
     go w (x ∷ xs) zero h = omega arith
     go w (x ∷ xs) (suc i) h = omega (arith, go (λ (k : ℕ). w (suc k)) xs i (le-of-suc-le-suc h))
+
+-- x more at element i adds w(i) × x
+pub weighted-more : (w : ℕ → ℕ) (xs : List ℕ) (i x : ℕ) → i < length xs → weighted w (set xs i (getD xs i 0 + x)) ≡ weighted w xs + w i * x
+unfolding weighted
+weighted-more w [] i x h = absurd (not-suc-le-zero h)
+weighted-more w (y ∷ xs) zero x h = omega (arith, mul-add (w 0) y x)
+weighted-more w (y ∷ xs) (suc i) x h = omega (arith, weighted-more (λ (k : ℕ). w (suc k)) xs i x (le-of-suc-le-suc h))
+
+-- zeros have the sum 0
+pub weighted-zeros : (w : ℕ → ℕ) (n : ℕ) → weighted w (replicate n 0) ≡ 0
+unfolding weighted
+weighted-zeros w zero = refl
+weighted-zeros w (suc n) = omega (arith, weighted-zeros (λ (k : ℕ). w (suc k)) n)
 
 -- ---- Over an index
 

@@ -15,7 +15,7 @@ use Rattle.refusals.specs.declared.Refusal.{Refusal}
 use Rattle.nets.specs.Events.{firstBad, EventsBelow, none-bad}
 use Rattle.nets.specs.Machine.{COUNTS}
 use Rattle.logs.specs.Rows.{ROW, rowsOf, newRows, none, Holds}
-use Rattle.logs.specs.Answers.{TABLE, MAX-ROWS, MAX-EVENTS, badEventCount, badSummary, rowsAfter, takenAnswer, takenTable}
+use Rattle.logs.specs.Answers.{TABLE, MAX-ROWS, MAX-LOG-EVENTS, badEventCount, badSummary, rowsAfter, takenAnswer, takenTable}
 use Rattle.logs.specs.Flat.{length-rows, held, holds-with}
 use Rattle.logs.specs.Growth.{length-take}
 use Rattle.logs.specs.declared.Summary.{Summary}
@@ -25,7 +25,7 @@ use Rattle.logs.specs.declared.Taken.the-variants.{Next, Refused}
 pub record Good (s : Summary) : Type 0 where
   pub n-most : s .n ≤ COUNTS
   pub rows-most : s .rows ≤ MAX-ROWS
-  pub events-most : s .events ≤ MAX-EVENTS
+  pub events-most : s .events ≤ MAX-LOG-EVENTS
 
 pub good : (s : Summary) → badSummary s ≡ false → Good s
 good s h =
@@ -49,19 +49,19 @@ module _ (s : Summary) (t w : List ℕ) where
   unfolding takenAnswer
   answer-16 long h = rw (le-ltb _ _ long, h)
 
-  pub answer-8 : TABLE ≤ length t → badSummary s ≡ false → MAX-EVENTS - s .events < length w → takenAnswer s t w ≡ Refused (refusal EVENTS 0)
+  pub answer-8 : TABLE ≤ length t → badSummary s ≡ false → MAX-LOG-EVENTS - s .events < length w → takenAnswer s t w ≡ Refused (refusal EVENTS 0)
   unfolding takenAnswer
   answer-8 long fine h =
-      let over : MAX-EVENTS < s .events + length w = omega arith in
+      let over : MAX-LOG-EVENTS < s .events + length w = omega arith in
       rw (le-ltb _ _ long, fine, lt-ltb _ _ over)
 
   -- the tests that come before those of the word's events
   pub record Admitted : Type 0 where
     pub long : TABLE ≤ length t
     pub fine : badSummary s ≡ false
-    pub few : length w ≤ MAX-EVENTS - s .events
+    pub few : length w ≤ MAX-LOG-EVENTS - s .events
 
-  within : Admitted → s .events + length w ≤ MAX-EVENTS
+  within : Admitted → s .events + length w ≤ MAX-LOG-EVENTS
   within a = let g = good s (a .fine) in omega arith
 
   pub answer-7 : Admitted → (bad : ℕ) → bad ≡ firstBad (s .n) w → bad < length w → takenAnswer s t w ≡ Refused (refusal VALUE bad)
@@ -83,14 +83,11 @@ module _ (s : Summary) (t w : List ℕ) where
     pub rows-most : s .rows ≤ MAX-ROWS
     rows-most = bounds .rows-most
 
-    pub short : length w ≤ MAX-EVENTS
+    pub short : length w ≤ MAX-LOG-EVENTS
     short = omega (arith, within (r .admitted))
 
     pub events-below : EventsBelow COUNTS w
     events-below k h = lt-of-lt-of-le (none-bad (s .n) w (r .events) k h) (bounds .n-most)
-
-    pub rows-fit : ROW * s .rows ≤ length t
-    rows-fit = omega (arith, bounds, r .admitted .long)
 
     after : length (rowsAfter s t w) ≡ s .rows + newRows (rowsOf (s .rows) t) none w
     after = length-take (rowsOf (s .rows) t) none w refl events-below ∙ rw length-rows
@@ -105,7 +102,7 @@ module _ (s : Summary) (t w : List ℕ) where
       fits : length (rowsAfter s t w) ≤ MAX-ROWS
       fits = omega (arith, bounds, after)
 
-      pub rows-room : ROW * length (rowsAfter s t w) ≤ length t
+      rows-room : ROW * length (rowsAfter s t w) ≤ length t
       rows-room = omega (arith, fits, r .admitted .long)
 
       pub answer-next : (k : ℕ) (t′ : List ℕ) → length t′ ≡ length t → Holds k (rowsAfter s t w) t t′

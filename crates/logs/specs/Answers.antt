@@ -21,8 +21,8 @@ TABLE = 3328
 abbrev pub MAX-ROWS : ℕ
 MAX-ROWS = 256
 
-abbrev pub MAX-EVENTS : ℕ
-MAX-EVENTS = 1024
+abbrev pub MAX-LOG-EVENTS : ℕ
+MAX-LOG-EVENTS = 1024
 
 -- an event count outside 1 to 12
 abbrev pub badEventCount : ℕ → Bool
@@ -30,10 +30,11 @@ badEventCount n = ltb n 1 || ltb COUNTS n
 
 -- a summary outside its ranges: n not 1-12, rows not 1-256, events above 1,024
 abbrev pub badSummary : Summary → Bool
-badSummary s = badEventCount (s .n) || (ltb (s .rows) 1 || (ltb MAX-ROWS (s .rows) || ltb MAX-EVENTS (s .events)))
+badSummary s = badEventCount (s .n) || (ltb (s .rows) 1 || (ltb MAX-ROWS (s .rows) || ltb MAX-LOG-EVENTS (s .events)))
 
 -- ---- A fresh summary
 
+-- refusal 5, then 16, else a summary with one row and no events
 unfoldable pub freshAnswer : ℕ → List ℕ → Taken
 freshAnswer n t =
     cond (ltb (length t) TABLE) (Refused (refusal TABLE-SHORT TABLE))
@@ -51,11 +52,12 @@ freshTable (Refused r) t = t
 abbrev pub rowsAfter : Summary → List ℕ → Word → List Row
 rowsAfter s t w = takeWord (rowsOf (s .rows) t) none w
 
+-- refusal 5, 16, 8, 7 or 9, in this order, else the next summary
 unfoldable pub takenAnswer : Summary → List ℕ → Word → Taken
 takenAnswer s t w =
     cond (ltb (length t) TABLE) (Refused (refusal TABLE-SHORT TABLE))
     (cond (badSummary s) (Refused (refusal SUMMARY 0))
-    (cond (ltb MAX-EVENTS (s .events + length w)) (Refused (refusal EVENTS 0))
+    (cond (ltb MAX-LOG-EVENTS (s .events + length w)) (Refused (refusal EVENTS 0))
     (cond (ltb (firstBad (s .n) w) (length w)) (Refused (refusal VALUE (firstBad (s .n) w)))
     (cond (ltb MAX-ROWS (length (rowsAfter s t w))) (Refused (refusal ROWS 0))
     (Next (record { n = s .n; rows = length (rowsAfter s t w); events = s .events + length w }))))))

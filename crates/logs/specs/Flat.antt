@@ -17,7 +17,7 @@ use Rattle.laws.specs.Scans.{failing-most}
 use Rattle.laws.specs.Bits.{withBit}
 use Rattle.nets.specs.Nets.{Counts}
 use Rattle.nets.specs.Machine.{COUNTS}
-use Rattle.logs.specs.Rows.{ROW, Row, rowAt, numbers, rowsOf, findRow, newRow, present, absent, marked, updateAt, Holds, flat, withRows}
+use Rattle.logs.specs.Rows.{ROW, Row, rowAt, numbers, rowsOf, findRow, newRow, present, absent, rowOr, marked, updateAt, Holds, flat, withRows}
 
 -- THE LAYOUT OF A ROW: all that is known below of `rowAt` and `numbers`.
 -- A row is read from its first ROW numbers, which it is as numbers, and is read back from its numbers
@@ -149,6 +149,10 @@ pub find-le : (v : Counts) (k : ℕ) (t : List ℕ) → findRow v (rowsOf k t) �
 unfolding findRow
 find-le v k t = rw length-rows at (failing-most (λ r. not (equal (r .counts) v)) (rowsOf k t))
 
+-- the number of rows held
+pub held : (k : ℕ) (rs : List Row) (t t′ : List ℕ) → Holds k rs t t′ → k ≡ length rs
+held k rs t t′ holds = sym (length-rows k t′) ∙ ap length (holds .front)
+
 -- the row for the counts v, at r: found below k, or appended
 module _ (v t : List ℕ) (k r : ℕ) (at : r ≡ findRow v (rowsOf k t)) where
   found : r < k → present v (rowsOf k t) ≡ rowsOf k t
@@ -175,53 +179,47 @@ module _ (v t : List ℕ) (k r : ℕ) (at : r ≡ findRow v (rowsOf k t)) where
       let past : length (rowsOf k t) ≤ findRow v (rowsOf k t) = rw length-rows (omega arith) in
       rw (le-ltb _ _ past)
 
-  pub length-found : r < k → length (present v (rowsOf k t)) ≡ k
+  pub row-found : r < k → (n : ℕ) → rowOr (rowsOf k t) n v ≡ r
+  unfolding rowOr
+  row-found h n =
+      let below : findRow v (rowsOf k t) < length (rowsOf k t) = rw length-rows (omega arith) in
+      rw (lt-ltb _ _ below) (sym at)
+
+  pub row-next : k ≤ r → (n : ℕ) → rowOr (rowsOf k t) n v ≡ n
+  unfolding rowOr
+  row-next h n =
+      let past : length (rowsOf k t) ≤ findRow v (rowsOf k t) = rw length-rows (omega arith) in
+      rw (le-ltb _ _ past)
+
+  length-found : r < k → length (present v (rowsOf k t)) ≡ k
   length-found h = rw (found h, length-rows)
 
-  pub length-new : k ≤ r → length (present v (rowsOf k t)) ≡ k + 1
+  length-new : k ≤ r → length (present v (rowsOf k t)) ≡ k + 1
   length-new h = rw (new h, length-append, length-rows)
 
-  pub use-found : r < k → Holds (length (present v (rowsOf k t))) (present v (rowsOf k t)) t t
-  use-found h = rw (found h, length-rows) (record { front = refl; rest = refl })
-
-  pub end-found : r < k → (t′ : List ℕ) → Holds (length (present v (rowsOf k t))) (present v (rowsOf k t)) t t′ → Holds k (present v (rowsOf k t)) t t′
-  end-found h t′ holds = rw (length-found h) at holds
-
-  pub end-new : k ≤ r → (t′ : List ℕ) → Holds (length (present v (rowsOf k t))) (present v (rowsOf k t)) t t′ → Holds (k + 1) (present v (rowsOf k t)) t t′
-  end-new h t′ holds = rw (length-new h) at holds
+  pub use-found : r < k → Holds k (present v (rowsOf k t)) t t
+  use-found h = rw (found h) (record { front = refl; rest = refl })
 
   pub use-room : k ≤ r → (n : ℕ) → ROW * length (present v (rowsOf k t)) ≤ n → ROW * k + ROW ≤ n
   use-room h n room = omega (arith, length-new h)
 
-  pub use-new : k ≤ r → (t′ : List ℕ) → Holds (k + 1) (rowsOf k t ++ (newRow v ∷ [])) t t′
-      → Holds (length (present v (rowsOf k t))) (present v (rowsOf k t)) t t′
-  use-new h t′ holds = rw (length-new h, new h) holds
+  pub use-new : k ≤ r → (t′ : List ℕ) → Holds (k + 1) (rowsOf k t ++ (newRow v ∷ [])) t t′ → Holds (k + 1) (present v (rowsOf k t)) t t′
+  use-new h t′ holds = rw (new h) holds
 
   pub row-below : r < length (present v (rowsOf k t))
   row-below = ⊎-elim (λ h. omega (arith, length-found h)) (λ h. omega (arith, length-new h, find-le v k t)) (lt-or-le r k)
 
   -- t₁ has that row, and t₂ is t₁ with the bit of event e set in it
-  module _ (e : ℕ) (t₁ t₂ : List ℕ) (room : ROW * length (present v (rowsOf k t)) ≤ length t₁)
-      (holds : Holds (length (present v (rowsOf k t))) (present v (rowsOf k t)) t t₁)
-      (store : t₂ ≡ set t₁ (ROW * r + COUNTS) (withBit (getD t₁ (ROW * r + COUNTS) 0) e)) where
-    marked-holds : Holds (length (present v (rowsOf k t))) (updateAt (findRow v (rowsOf k t)) (marked e) (present v (rowsOf k t))) t t₂
-    marked-holds =
-        let n : ℕ = length (present v (rowsOf k t)) in
-        rw store
-        (record {
-          front = mark-rows n r e t₁ row-below room ∙ rw (holds .front, at);
-          rest = drop-set-lt (ROW * n) t₁ (ROW * r + COUNTS) _ (omega (arith, row-below)) ∙ holds .rest;
-        })
-
-    pub step-found : r < k → Holds k (updateAt (findRow v (rowsOf k t)) (marked e) (present v (rowsOf k t))) t t₂
-    step-found h = rw (length-found h) at marked-holds
-
-    pub step-new : k ≤ r → Holds (k + 1) (updateAt (findRow v (rowsOf k t)) (marked e) (present v (rowsOf k t))) t t₂
-    step-new h = rw (length-new h) at marked-holds
-
--- the number of rows held
-pub held : (k : ℕ) (rs : List Row) (t t′ : List ℕ) → Holds k rs t t′ → k ≡ length rs
-held k rs t t′ holds = sym (length-rows k t′) ∙ ap length (holds .front)
+  pub step-holds : (e n : ℕ) (t₁ t₂ : List ℕ) → ROW * length (present v (rowsOf k t)) ≤ length t₁ → Holds n (present v (rowsOf k t)) t t₁
+      → t₂ ≡ set t₁ (ROW * r + COUNTS) (withBit (getD t₁ (ROW * r + COUNTS) 0) e)
+      → Holds n (updateAt (findRow v (rowsOf k t)) (marked e) (present v (rowsOf k t))) t t₂
+  step-holds e n t₁ t₂ room holds store =
+      let size : n ≡ length (present v (rowsOf k t)) = held n _ t t₁ holds in
+      rw store
+      (record {
+        front = mark-rows n r e t₁ (omega (arith, row-below)) (omega arith) ∙ rw (holds .front, at);
+        rest = drop-set-lt (ROW * n) t₁ (ROW * r + COUNTS) _ (omega (arith, row-below)) ∙ holds .rest;
+      })
 
 -- a list is its first k rows, flat, and what follows them
 pub rows-flat : (k : ℕ) (t : List ℕ) → ROW * k ≤ length t → flat (rowsOf k t) ++ drop (ROW * k) t ≡ t

@@ -14,24 +14,24 @@ use Rattle.laws.specs.Lists.{equal, equal-true}
 use Rattle.laws.specs.Scans.{firstFailing}
 use Rattle.nets.specs.Events.{EventsBelow}
 use Rattle.nets.specs.Machine.{COUNTS}
-use Rattle.logs.specs.Rows.{Row, findRow, newRow, present, marked, updateAt, bump, takeWord, absent, newRows}
+use Rattle.logs.specs.Rows.{Row, findRow, newRow, present, marked, updateAt, addEvent, takeWord, absent, newRows}
 
 -- the number of events that v counts
-total : List ℕ → ℕ
+pub total : List ℕ → ℕ
 total [] = 0
 total (x ∷ v) = x + total v
 
-total-bump : (v : List ℕ) (e : ℕ) → e < length v → total (bump v e) ≡ suc (total v)
-unfolding total bump
-total-bump [] e h = absurd (not-suc-le-zero h)
-total-bump (x ∷ v) zero h = omega arith
-total-bump (x ∷ v) (suc e) h = omega (arith, total-bump v e (le-of-suc-le-suc h))
+pub total-addEvent : (v : List ℕ) (e : ℕ) → e < length v → total (addEvent v e) ≡ suc (total v)
+unfolding total addEvent
+total-addEvent [] e h = absurd (not-suc-le-zero h)
+total-addEvent (x ∷ v) zero h = omega arith
+total-addEvent (x ∷ v) (suc e) h = omega (arith, total-addEvent v e (le-of-suc-le-suc h))
 
-pub length-bump : (v : List ℕ) (e : ℕ) → length (bump v e) ≡ length v
-unfolding bump
-length-bump v e = length-set v e (getD v e 0 + 1)
+pub length-addEvent : (v : List ℕ) (e : ℕ) → length (addEvent v e) ≡ length v
+unfolding addEvent
+length-addEvent v e = length-set v e (getD v e 0 + 1)
 
-differ : (u v : List ℕ) → total u < total v → equal u v ≡ false
+pub differ : (u v : List ℕ) → total u < total v → equal u v ≡ false
 differ u v h = ⊎-elim (λ p. let q : total u ≡ total v = ap total (equal-true u v p) in absurd (omega arith)) (λ p. p) (true-or-false (equal u v))
 
 -- whether counts are absent, row by row
@@ -59,14 +59,14 @@ absent-update (suc r) f keeps v (x ∷ rs) = rw (absent-cons v x (updateAt r f r
 new-update : (r : ℕ) (f : Row → Row) → ((x : Row) → f x .counts ≡ x .counts) → (rs : List Row) (v w : List ℕ) → newRows (updateAt r f rs) v w ≡ newRows rs v w
 unfolding newRows
 new-update r f keeps rs v [] = absent-update r f keeps v rs
-new-update r f keeps rs v (x ∷ w) = rw (absent-update r f keeps v rs, new-update r f keeps rs (bump v x) w)
+new-update r f keeps rs v (x ∷ w) = rw (absent-update r f keeps v rs, new-update r f keeps rs (addEvent v x) w)
 
 -- nor does a row with other counts
 absent-other : (v : List ℕ) (x : Row) (rs : List Row) → equal (x .counts) v ≡ false → absent v (rs ++ (x ∷ [])) ≡ absent v rs
 absent-other v x [] h = rw (absent-cons, h)
 absent-other v x (r ∷ rs) h = rw (absent-cons, absent-cons, absent-other v x rs h)
 
-below-tail : (n e : ℕ) (w : List ℕ) → EventsBelow n (e ∷ w) → EventsBelow n w
+pub below-tail : (n e : ℕ) (w : List ℕ) → EventsBelow n (e ∷ w) → EventsBelow n w
 below-tail n e w h k l = h (suc k) (suc-le-suc l)
 
 new-other : (x : Row) (rs : List Row) (v w : List ℕ) → total (x .counts) < total v → length v ≡ COUNTS → EventsBelow COUNTS w
@@ -74,8 +74,8 @@ new-other : (x : Row) (rs : List Row) (v w : List ℕ) → total (x .counts) < t
 unfolding newRows
 new-other x rs v [] h twelve below = absent-other v x rs (differ (x .counts) v h)
 new-other x rs v (e ∷ w) h twelve below =
-    let more = total-bump v e (rw twelve (below 0 (suc-le-suc zero-le))) in
-    rw (absent-other v x rs (differ (x .counts) v h), new-other x rs (bump v e) w (omega arith) (length-bump v e ∙ twelve) (below-tail COUNTS e w below))
+    let more = total-addEvent v e (rw twelve (below 0 (suc-le-suc zero-le))) in
+    rw (absent-other v x rs (differ (x .counts) v h), new-other x rs (addEvent v e) w (omega arith) (length-addEvent v e ∙ twelve) (below-tail COUNTS e w below))
 
 -- the row of a prefix is there, or is appended
 pub present-cases : (v : List ℕ) (rs : List Row)
@@ -87,12 +87,6 @@ present-cases v rs =
 
 pub new-le : (n : ℕ) (v : List ℕ) (rs : List Row) → n ≡ absent v rs → n ≤ 1
 new-le n v rs e = ⊎-elim (λ p. omega (arith, p .1)) (λ p. omega (arith, p .1)) (present-cases v rs)
-
--- at most one for each prefix
-pub new-most : (rs : List Row) (v w : List ℕ) → newRows rs v w ≤ length w + 1
-unfolding newRows
-new-most rs v [] = omega (arith, new-le (absent v rs) v rs refl)
-new-most rs v (e ∷ w) = omega (arith, new-le (absent v rs) v rs refl, new-most rs (bump v e) w)
 
 pub length-present : (v : List ℕ) (rs : List Row) → length (present v rs) ≡ length rs + absent v rs
 length-present v rs =
@@ -108,10 +102,10 @@ unfolding takeWord newRows
 length-take rs v [] twelve below = length-present v rs
 length-take rs v (e ∷ w) twelve below =
     let below′ = below-tail COUNTS e w below in
-    let twelve′ : length (bump v e) ≡ COUNTS = length-bump v e ∙ twelve in
-    let more = total-bump v e (rw twelve (below 0 (suc-le-suc zero-le))) in
-    length-take (updateAt (findRow v rs) (marked e) (present v rs)) (bump v e) w twelve′ below′
-    ∙ rw (length-update, length-present, new-update (findRow v rs) (marked e) (λ x. refl) (present v rs) (bump v e) w, new-present rs v (bump v e) w (omega arith) twelve′ below′, add-assoc)
+    let twelve′ : length (addEvent v e) ≡ COUNTS = length-addEvent v e ∙ twelve in
+    let more = total-addEvent v e (rw twelve (below 0 (suc-le-suc zero-le))) in
+    length-take (updateAt (findRow v rs) (marked e) (present v rs)) (addEvent v e) w twelve′ below′
+    ∙ rw (length-update, length-present, new-update (findRow v rs) (marked e) (λ x. refl) (present v rs) (addEvent v e) w, new-present rs v (addEvent v e) w (omega arith) twelve′ below′, add-assoc)
 
 -- the row of the prefix at hand is among them
 pub present-le : (rs : List Row) (v w : List ℕ) → length (present v rs) ≤ length (takeWord rs v w)
@@ -119,5 +113,5 @@ unfolding takeWord
 present-le rs v [] = le-refl _
 present-le rs v (e ∷ w) =
     let rs′ : List Row = updateAt (findRow v rs) (marked e) (present v rs) in
-    let up = present-le rs′ (bump v e) w in
-    omega (arith, up, length-present (bump v e) rs′, length-update (findRow v rs) (marked e) (present v rs))
+    let up = present-le rs′ (addEvent v e) w in
+    omega (arith, up, length-present (addEvent v e) rs′, length-update (findRow v rs) (marked e) (present v rs))

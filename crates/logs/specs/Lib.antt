@@ -1,12 +1,16 @@
 pub mod Rows
+pub mod Index
 pub mod Answers
 pub mod Flat
 pub mod Searching
 pub mod Prefixes
 pub mod Growth
+pub mod IndexLaws
+pub mod Numbering
+pub mod Noting
 pub mod Taking
 pub mod AnswerLaws
 pub mod Log
 pub mod LogRows
 pub mod LogTable
-pub mod Order
+pub mod RefusalNumbers

@@ -18,7 +18,7 @@ maskAt log v = maskOf COUNTS (λ e. allowed COUNTS log (record { row = v; event 
 abbrev pub withMasks : (Counts → ℕ) → List Counts → List Row
 withMasks m vs = map (λ (v : Counts). record { counts = v; mask = m v }) vs
 
--- the rows of a log, in their order
+-- the rows of a log, in their order, with twelve counts (`logRows-is`: those over n events, with zeros from n on)
 unfoldable pub logRows : Log → List Row
 logRows log = withMasks (maskAt log) (rows COUNTS log)
 

@@ -21,7 +21,7 @@ use Rattle.nets.specs.Rows.{→row, rows-distinct, addRow-old, addRow-new, addR
 use Rattle.nets.specs.CountLaws.{counts-snoc}
 use Rattle.nets.specs.LogLaws.{rows-snoc, allowed-snoc}
 use Rattle.nets.specs.Machine.{COUNTS}
-use Rattle.logs.specs.Rows.{Row, findRow, newRow, present, marked, updateAt, bump, takeWord, none}
+use Rattle.logs.specs.Rows.{Row, findRow, newRow, present, marked, updateAt, addEvent, takeWord, none}
 use Rattle.logs.specs.Log.{maskAt, withMasks, logRows, takeLog}
 use Rattle.logs.specs.Growth.{present-cases}
 
@@ -188,7 +188,7 @@ after-next u e x =
 -- from the prefix u of a word on
 take-from : (log : Log) (x u : Word) (old : List Counts) → Below COUNTS x → Distinct old → Listed (with′ log u) old
     → takeWord (withMasks (maskAt (with′ log u)) old) (counts COUNTS u) x ≡ withMasks (maskAt (with′ log (u ++ x))) (foldl addRow old (after u x))
-unfolding takeWord bump
+unfolding takeWord addEvent
 take-from log [] u old below d listed =
     present-member (maskAt (with′ log u)) (counts COUNTS u) old (mask-none (with′ log u) old listed (counts COUNTS u))
     ∙ rw (after-end u, append-nil)

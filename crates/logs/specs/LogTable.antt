@@ -21,14 +21,14 @@ use Rattle.nets.specs.Nets.{Word, Log, Counts, eventCount, rows, allowed}
 use Rattle.nets.specs.Fits.{Below, LogBelow}
 use Rattle.nets.specs.Wide.{wide, rows-wide, allowed-wide}
 use Rattle.nets.specs.Machine.{COUNTS}
-use Rattle.logs.specs.Rows.{ROW, Row, rowAt, numbers, rowsOf, flat, withRows, newRow, present, marked, updateAt, bump, findRow, takeWord, none, cleared}
-use Rattle.logs.specs.Answers.{TABLE, MAX-ROWS, MAX-EVENTS, badEventCount, badSummary, rowsAfter, takenAnswer, takenTable, freshAnswer, freshTable}
+use Rattle.logs.specs.Rows.{ROW, Row, rowAt, numbers, rowsOf, flat, withRows, newRow, present, marked, updateAt, addEvent, findRow, takeWord, none, cleared}
+use Rattle.logs.specs.Answers.{TABLE, MAX-ROWS, MAX-LOG-EVENTS, badEventCount, badSummary, rowsAfter, takenAnswer, takenTable, freshAnswer, freshTable}
 use Rattle.logs.specs.Log.{takeLog, maskAt, withMasks, logRows, Takes}
 use Rattle.logs.specs.declared.Summary.{Summary}
 use Rattle.logs.specs.declared.Taken.{Taken}
 use Rattle.logs.specs.declared.Taken.the-variants.{Next, Refused}
 use Rattle.logs.specs.Flat.{length-rows, rows-flat, length-numbers, rowAt-numbers, counts-rowAt}
-use Rattle.logs.specs.Growth.{length-present, length-bump, present-le, present-cases}
+use Rattle.logs.specs.Growth.{length-present, length-addEvent, present-le, present-cases}
 use Rattle.logs.specs.Taking.{drop-more}
 use Rattle.logs.specs.LogRows.{log-rows}
 
@@ -62,7 +62,7 @@ take-twelve : (rs : List Row) (v w : List ℕ) → length v ≡ COUNTS → Twelv
 unfolding takeWord
 take-twelve rs v [] n h = present-twelve v rs n h
 take-twelve rs v (e ∷ w) n h =
-    take-twelve (updateAt (findRow v rs) (marked e) (present v rs)) (bump v e) w (length-bump v e ∙ n)
+    take-twelve (updateAt (findRow v rs) (marked e) (present v rs)) (addEvent v e) w (length-addEvent v e ∙ n)
     (update-twelve (findRow v rs) (marked e) (λ x. refl) (present v rs) (present-twelve v rs n h))
 
 -- such rows, flat, are read back
@@ -107,7 +107,7 @@ unfolding takenAnswer
 took s t w next e =
     let a = passed (ltb (length t) TABLE) (refusal TABLE-SHORT TABLE) _ next e in
     let b = passed (badSummary s) (refusal SUMMARY 0) _ next (a .1) in
-    let c = passed (ltb MAX-EVENTS (s .events + length w)) (refusal EVENTS 0) _ next (b .1) in
+    let c = passed (ltb MAX-LOG-EVENTS (s .events + length w)) (refusal EVENTS 0) _ next (b .1) in
     let d = passed (ltb (firstBad (s .n) w) (length w)) (refusal VALUE (firstBad (s .n) w)) _ next (c .1) in
     let f = passed (ltb MAX-ROWS (length (rowsAfter s t w))) (refusal ROWS 0) _ next (d .1) in
     let last : Next (record { n = s .n; rows = length (rowsAfter s t w); events = s .events + length w }) ≡ Next next = f .1 in

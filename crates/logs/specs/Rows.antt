@@ -2,7 +2,7 @@
 use mathlib.Core.Path.{_≡_}
 use mathlib.Core.Bool.{not, cond}
 use mathlib.Core.List.{List, [], _∷_, _++_}
-use Prim.Native.Nat.{ℕ, zero, suc, _+_, _*_}
+use Prim.Native.Nat.{ℕ, zero, suc, _+_, _*_, _≤_, _<_}
 use lib.ListN.{length, getD, take, drop, set, replicate}
 use lib.Dec.{ltb}
 use Rattle.laws.specs.Lists.{equal}
@@ -17,6 +17,7 @@ use Rattle.nets.specs.Machine.{COUNTS}
 abbrev pub ROW : ℕ
 ROW = 13
 
+-- a row: a count vector and the mask of its allowed steps
 pub record Row : Type 0 where
   pub counts : Counts
   pub mask : ℕ
@@ -33,6 +34,7 @@ unfoldable pub rowsOf : ℕ → List ℕ → List Row
 rowsOf zero t = []
 rowsOf (suc k) t = rowAt t ∷ rowsOf k (drop ROW t)
 
+-- rows as numbers, one after the other
 unfoldable pub flat : List Row → List ℕ
 flat [] = []
 flat (r ∷ rs) = numbers r ++ flat rs
@@ -70,19 +72,19 @@ updateAt zero f (x ∷ rs) = f x ∷ rs
 updateAt (suc r) f (x ∷ rs) = x ∷ updateAt r f rs
 
 -- the counts with one more of event e
-unfoldable pub bump : Counts → ℕ → Counts
-bump v e = set v e (at v e + 1)
+unfoldable pub addEvent : Counts → ℕ → Counts
+addEvent v e = set v e (at v e + 1)
 
 -- from the prefix with counts v on, shortest first: its row is found or appended, then the bit of the event that follows is set in it
 unfoldable pub takeWord : List Row → Counts → Word → List Row
 takeWord rs v [] = present v rs
-takeWord rs v (e ∷ w) = takeWord (updateAt (findRow v rs) (marked e) (present v rs)) (bump v e) w
+takeWord rs v (e ∷ w) = takeWord (updateAt (findRow v rs) (marked e) (present v rs)) (addEvent v e) w
 
 -- the counts of the empty prefix
 abbrev pub none : Counts
 none = replicate COUNTS 0
 
--- ---- What is known before anything is written
+-- ---- What the code knows on its way; no public contract speaks of it
 
 -- 1 where no row has the counts v, else 0
 unfoldable pub absent : Counts → List Row → ℕ
@@ -91,9 +93,24 @@ absent v rs = cond (ltb (findRow v rs) (length rs)) 0 1
 -- how many prefixes, from the one with counts v on, have no row
 unfoldable pub newRows : List Row → Counts → Word → ℕ
 newRows rs v [] = absent v rs
-newRows rs v (e ∷ w) = absent v rs + newRows rs (bump v e) w
+newRows rs v (e ∷ w) = absent v rs + newRows rs (addEvent v e) w
+
+-- the row with the counts v, or k where there is none
+unfoldable pub rowOr : List Row → ℕ → Counts → ℕ
+rowOr rs k v = cond (ltb (findRow v rs) (length rs)) (findRow v rs) k
+
+-- the row of each prefix, from the one with counts v on: the one in rs, or the next number from k on
+unfoldable pub numbered : List Row → ℕ → Counts → Word → List ℕ
+numbered rs k v [] = rowOr rs k v ∷ []
+numbered rs k v (e ∷ w) = rowOr rs k v ∷ numbered rs (k + absent v rs) (addEvent v e) w
 
 -- t′ is t with the k rows rs at its front
 pub record Holds (k : ℕ) (rs : List Row) (t t′ : List ℕ) : Type 0 where
   pub front : rowsOf k t′ ≡ rs
   pub rest : drop (ROW * k) t′ ≡ drop (ROW * k) t
+
+-- the word w was added to the k rows of t, which gives r rows in t′; or they would be too many, and t′ is t
+pub record Added (most k : ℕ) (w : Word) (t t′ : List ℕ) (r : ℕ) : Type 0 where
+  pub size : r ≡ k + newRows (rowsOf k t) none w
+  pub fits : r ≤ most → Holds r (takeWord (rowsOf k t) none w) t t′
+  pub full : most < r → t′ ≡ t

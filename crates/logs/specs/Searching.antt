@@ -1,24 +1,22 @@
 -- Laws of the loops over a table: looking for a row, and clearing.
-use mathlib.Core.Path.{_≡_, refl, sym, ap, _∙_}
+use mathlib.Core.Path.{_≡_, refl, ap, _∙_}
 use mathlib.Core.Bool.{Bool, true, false, not}
 use mathlib.Core.List.{List}
 use Prim.Native.Nat.{ℕ, _+_, _*_, _-_, _<_, _≤_}
-use native.Mathlib.Nat.{add-sub-cancel-left}
-use lib.ListN.{length, getD, take, drop, set}
+use lib.ListN.{length, getD, drop, set}
 use borrow.Author.Fill.{fill-more}
 use Rattle.laws.specs.Lists.{equal}
 use Rattle.laws.specs.Scans.{failing-here, failing-again, failing-end}
 use Rattle.nets.specs.Nets.{Counts}
-use Rattle.nets.specs.Machine.{COUNTS}
-use Rattle.logs.specs.Rows.{ROW, Row, newRow, none, rowsOf, findRow, cleared}
-use Rattle.logs.specs.Flat.{length-rows, rows-at, counts-rowAt}
+use Rattle.logs.specs.Rows.{ROW, Row, rowAt, newRow, none, rowsOf, findRow, cleared}
+use Rattle.logs.specs.Flat.{length-rows, rows-at}
 
 -- a loop that looks for the counts v: they are in none of the rows below i
 module _ (v : Counts) (t : List ℕ) (rows i : ℕ) (h : i < rows) (inv : findRow v (rowsOf rows t) ≡ i + findRow v (drop i (rowsOf rows t))) where
-  -- r is the test on row i
-  module _ (r : Bool) (test : r ≡ equal (take (ROW * i + COUNTS - ROW * i) (drop (ROW * i) t)) v) where
+  -- r is the test on row i, whose counts are u
+  module _ (u : Counts) (is : u ≡ rowAt (drop (ROW * i) t) .counts) (r : Bool) (test : r ≡ equal u v) where
     outcome : equal (getD (rowsOf rows t) i (newRow none) .counts) v ≡ r
-    outcome = ap (λ (x : Row). equal (x .counts) v) (rows-at rows t i (newRow none) h) ∙ rw (counts-rowAt (drop (ROW * i) t)) (sym (rw add-sub-cancel-left at test))
+    outcome = ap (λ (x : Row). equal (x .counts) v) (rows-at rows t i (newRow none) h) ∙ rw (test, is)
 
     inside : i < length (rowsOf rows t)
     inside = rw length-rows h

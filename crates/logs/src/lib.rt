@@ -1,4 +1,5 @@
 // The log table and its summary: taking a log word by word. The contracts cite specs/Rows.antt and specs/Answers.antt.
+pub mod index; // where to look for a row
 pub mod rows; // a row found, appended, marked
 pub mod words; // a word taken
 
@@ -10,8 +11,7 @@ use refusals::Refusal;
 use refusals::SUMMARY;
 use refusals::TABLE_SHORT;
 use refusals::VALUE;
-use words::has_room;
-use words::write_word;
+use words::add_alone;
 ghost use mathlib.Core.Path.{_≡_};
 ghost use Prim.Native.Nat.{_≤_};
 ghost use lib.ListN.{length};
@@ -25,7 +25,7 @@ pub const TABLE: usize = 3328;
 // The rows and the events that a log has at most.
 pub const MAX_ROWS: usize = 256;
 
-pub const MAX_EVENTS: usize = 1024;
+pub const MAX_LOG_EVENTS: usize = 1024;
 
 // What is kept of a log beside its table: the event count n, the rows and the events so far.
 pub struct Summary {
@@ -72,7 +72,7 @@ fn bad_summary(s: Summary) -> bool
     if MAX_ROWS < s.rows {
         return true;
     }
-    MAX_EVENTS < s.events
+    MAX_LOG_EVENTS < s.events
 }
 
 fn refused(number: u8, spot: usize) -> Taken
@@ -117,17 +117,17 @@ impl Summary {
         if bad_summary(self) {
             return refused(SUMMARY, 0);
         }
-        if MAX_EVENTS - events < word.len() {
+        if MAX_LOG_EVENTS - events < word.len() {
             return refused(EVENTS, 0);
         }
         let bad = first_bad(word, n);
         if bad < word.len() {
             return refused(VALUE, bad);
         }
-        if !has_room(table, rows, word) {
+        let next = add_alone(table, rows, word);
+        if MAX_ROWS < next {
             return refused(ROWS, 0);
         }
-        let next = write_word(table, rows, word);
         Taken::Next(Summary {
             n,
             rows: next,

@@ -1,42 +1,63 @@
-// The rows of a log table: a slice with `ROW` numbers a row.
+// The rows of a log table: a slice with `ROW` numbers a row. All are inner functions.
 use nets::COUNTS;
 use nets::with_bit;
 ghost use mathlib.Core.Path.{_≡_};
+ghost use mathlib.Core.Bool.{true};
 ghost use mathlib.Core.List.{[], _∷_, _++_};
 ghost use Prim.Native.Nat.{_+_, _*_, _<_, _≤_};
-ghost use lib.ListN.{length, getD, set};
+ghost use lib.ListN.{length, getD, set, take, drop};
 ghost use Rattle.laws.specs.Lists.{equal};
 ghost use Rattle.laws.specs.Bits.{withBit};
 ghost use Rattle.nets.specs.Machine.{COUNTS};
-ghost use Rattle.logs.specs.Rows.{ROW, findRow, rowsOf, newRow, present, Holds};
+ghost use Rattle.logs.specs.Rows.{ROW, rowAt, findRow, rowsOf, newRow, present, Holds};
 
 // The numbers of a row: twelve counts, then the mask.
 pub const ROW: usize = 13;
 
-// Whether a row has these counts. All twelve are compared without a branch, so that the compiler takes several at a time.
-fn same_counts(row: &[u16], counts: &[u16]) -> bool
-    requires { ⌜ (length (now row) ≡ COUNTS) × (length (now counts) ≡ COUNTS) ⌝ }
-    ensures { λ r. ⌜ r ≡ equal (now (row .entry)) (now (counts .entry)) ⌝ }
+// The counts of a row.
+pub fn counts_of(table: &[u16], row: usize) -> &[u16]
+    requires { ⌜ ROW * row + ROW ≤ length (now table) ⌝ }
+    ensures { λ r. ⌜ (now r ≡ rowAt (drop (ROW * row) (now (table .entry))) .counts) × (length (now r) ≡ COUNTS) ⌝ }
+{
+    let start = ROW * row;
+    let end = start + COUNTS;
+    &table[start..end]
+}
+
+// Whether a row and the counts, which are equal up to `start`, are equal up to `end`. No branch is taken on the way, so that the compiler takes
+// several at a time.
+fn same_part(row: &[u16], counts: &[u16], start: usize, end: usize) -> bool
+    requires { ⌜ (start ≤ end) × (end ≤ length (now row)) × (end ≤ length (now counts)) × (equal (take start (now row)) (take start (now counts)) ≡ true) ⌝ }
+    ensures { λ r. ⌜ r ≡ equal (take end (now (row .entry))) (take end (now (counts .entry))) ⌝ }
 {
     let mut same = true;
-    let mut i = 0;
-    while i < COUNTS {
+    let mut i = start;
+    while i < end {
         same = same & (row[i] == counts[i]);
         i += 1;
     }
     same
 }
 
-// The lowest row below `rows` with these counts, or `rows`.
-pub fn find_row(table: &[u16], rows: usize, counts: [u16; 12]) -> usize
+// Whether a row has these counts. Most rows differ in the first eight, which are one vector.
+pub fn same_counts(row: &[u16], counts: &[u16]) -> bool
+    requires { ⌜ (length (now row) ≡ COUNTS) × (length (now counts) ≡ COUNTS) ⌝ }
+    ensures { λ r. ⌜ r ≡ equal (now (row .entry)) (now (counts .entry)) ⌝ }
+{
+    if !same_part(row, counts, 0, 8) {
+        return false;
+    }
+    same_part(row, counts, 8, COUNTS)
+}
+
+// The lowest row below `rows` with these counts, or `rows`. All rows are looked at in turn.
+pub fn scan_rows(table: &[u16], rows: usize, counts: [u16; 12]) -> usize
     requires { ⌜ ROW * rows ≤ length (now table) ⌝ }
     ensures { λ r. ⌜ r ≡ findRow counts (rowsOf rows (now (table .entry))) ⌝ }
 {
     let mut r = 0;
     while r < rows {
-        let at = ROW * r;
-        let end = at + COUNTS;
-        if same_counts(&table[at..end], &counts) {
+        if same_counts(counts_of(table, r), &counts) {
             return r;
         }
         r += 1;
@@ -58,17 +79,16 @@ fn append_row(table: &mut [u16], rows: usize, counts: [u16; 12])
     table[at + COUNTS] = 0;
 }
 
-// The row with these counts, appended where there is none.
-pub fn use_row(table: &mut [u16], rows: usize, counts: [u16; 12]) -> usize
-    requires { ⌜ (ROW * rows ≤ length (now table)) × (ROW * length (present counts (rowsOf rows (now table))) ≤ length (now table)) ⌝ }
-    ensures { λ r. ⌜ (r ≡ findRow counts (rowsOf rows (now (table .entry)))) × Holds (length (present counts (rowsOf rows (now (table .entry))))) (present counts (rowsOf rows (now (table .entry)))) (now (table .entry)) (now (table .exit)) ⌝ }
+// Makes sure that there is a row with these counts, which is found at r or nowhere: then it is appended. Returns how many rows there are.
+pub fn use_row(table: &mut [u16], rows: usize, counts: [u16; 12], r: usize) -> usize
+    requires { ⌜ (r ≡ findRow counts (rowsOf rows (now table))) × (ROW * rows ≤ length (now table)) × (ROW * length (present counts (rowsOf rows (now table))) ≤ length (now table)) ⌝ }
+    ensures { λ k. ⌜ Holds k (present counts (rowsOf rows (now (table .entry)))) (now (table .entry)) (now (table .exit)) ⌝ }
 {
-    let r = find_row(table, rows, counts);
     if r < rows {
-        return r;
+        return rows;
     }
     append_row(table, rows, counts);
-    r
+    rows + 1
 }
 
 // Sets bit e of row r's mask.

@@ -1,84 +1,103 @@
-// Taking a word: its prefixes, shortest first, each with its counts.
+// Taking a word: its prefixes, shortest first, each with its counts. The row of each is looked up, or numbered where there is none, before
+// anything is written.
 use crate::MAX_ROWS;
-use crate::rows::find_row;
+use crate::index::INDEX;
+use crate::index::find_row;
+use crate::index::index_rows;
+use crate::index::multiplier_of;
 use crate::rows::mark_row;
 use crate::rows::use_row;
+use nets::COUNTS;
 ghost use mathlib.Core.Path.{_≡_};
-ghost use Prim.Native.Nat.{_+_, _-_, _*_, _<_, _≤_};
-ghost use lib.Dec.{leb};
-ghost use lib.ListN.{length, getD};
+ghost use mathlib.Core.Bool.{cond};
+ghost use Prim.Native.Nat.{_+_, _*_, _<_, _≤_};
+ghost use lib.ListN.{length, getD, set, take};
 ghost use Rattle.nets.specs.Events.{EventsBelow};
 ghost use Rattle.nets.specs.Machine.{COUNTS};
-ghost use Rattle.logs.specs.Rows.{ROW, bump, findRow, rowsOf, present, marked, updateAt, absent, newRows, takeWord, none, Holds};
-ghost use Rattle.logs.specs.Answers.{MAX-ROWS, MAX-EVENTS};
+ghost use Rattle.logs.specs.Rows.{ROW, addEvent, findRow, rowsOf, present, marked, updateAt, absent, rowOr, newRows, numbered, takeWord, none, Holds, Added};
+ghost use Rattle.logs.specs.Numbering.{used};
+ghost use Rattle.logs.specs.Index.{key as keyOf, Index};
+ghost use Rattle.logs.specs.Answers.{TABLE, MAX-ROWS, MAX-LOG-EVENTS};
 
-// The counts with one more of event e.
-fn bumped(counts: [u16; 12], e: usize) -> [u16; 12]
-    requires { ⌜ (e < COUNTS) × (getD counts e 0 < 65535) ⌝ }
-    ensures { λ r. ⌜ r ≡ bump counts e ⌝ }
+// 1 for one more, else 0.
+fn one_if(more: bool) -> u16
+    ensures { λ r. ⌜ r ≡ cond more 1 0 ⌝ }
 {
-    let mut next = counts;
-    next[e] = counts[e] + 1;
-    next
-}
-
-// 1 where no row has these counts, else 0.
-fn is_new(table: &[u16], rows: usize, counts: [u16; 12]) -> usize
-    requires { ⌜ ROW * rows ≤ length (now table) ⌝ }
-    ensures { λ r. ⌜ r ≡ absent counts (rowsOf rows (now (table .entry))) ⌝ }
-{
-    if find_row(table, rows, counts) < rows {
-        return 0;
+    if more {
+        return 1;
     }
-    1
+    0
 }
 
-// How many of the word's prefixes have no row.
-fn new_rows(table: &[u16], rows: usize, word: &[u8]) -> usize
-    requires { ⌜ (ROW * rows ≤ length (now table)) × (length (now word) ≤ MAX-EVENTS) × EventsBelow COUNTS (now word) ⌝ }
-    ensures { λ r. ⌜ r ≡ newRows (rowsOf rows (now (table .entry))) none (now (word .entry)) ⌝ }
+// Adds an event to the counts. All twelve are written, so that the compiler takes several at a time, and the next comparison need not wait for one
+// of them.
+fn add_event(counts: &mut [u16], e: usize)
+    requires { ⌜ (length (now counts) ≡ COUNTS) × (e < COUNTS) × (getD (now counts) e 0 < 65535) ⌝ }
+    ensures { λ _. ⌜ now (counts .exit) ≡ addEvent (now (counts .entry)) e ⌝ }
 {
-    let mut counts = [0u16; 12];
-    let mut k = 0;
     let mut i = 0;
-    while i < word.len() {
-        k += is_new(table, rows, counts);
-        let next = bumped(counts, word[i] as usize);
-        counts = next;
+    while i < COUNTS {
+        counts[i] = counts[i] + one_if(i == e);
         i += 1;
     }
-    k + is_new(table, rows, counts)
 }
 
-// Whether there is room for the rows of the word's prefixes. A short word has room without a count. (Inner function.)
-pub fn has_room(table: &[u16], rows: usize, word: &[u8]) -> bool
-    requires { ⌜ rows ≤ MAX-ROWS ⌝ }
-    requires { ⌜ (ROW * rows ≤ length (now table)) × (length (now word) ≤ MAX-EVENTS) × EventsBelow COUNTS (now word) ⌝ }
-    ensures { λ r. ⌜ r ≡ leb (newRows (rowsOf rows (now (table .entry))) none (now (word .entry))) (MAX-ROWS - rows) ⌝ }
+// Notes the row of prefix i, whose counts and key are given: the one that is found, or `next`. Returns the number that the next new row gets.
+fn number_row(
+    table: &[u16],
+    rows: usize,
+    counts: [u16; 12],
+    index: &[u16],
+    key: usize,
+    numbers: &mut [u16],
+    i: usize,
+    next: usize,
+) -> usize
+    requires { ⌜ (rows ≤ MAX-ROWS) × (ROW * rows ≤ length (now table)) × Index rows (now table) (now index) × (key ≡ keyOf counts) × (i < length (now numbers)) × (next < 65536) ⌝ }
+    ensures { λ r. ⌜ (r ≡ next + absent counts (rowsOf rows (now (table .entry)))) × (now (numbers .exit) ≡ set (now (numbers .entry)) i (rowOr (rowsOf rows (now (table .entry))) next counts)) ⌝ }
 {
-    let room = MAX_ROWS - rows;
-    if word.len() < room {
-        return true;
+    let r = find_row(table, rows, counts, index, key);
+    if r < rows {
+        numbers[i] = r as u16;
+        return next;
     }
-    new_rows(table, rows, word) <= room
+    numbers[i] = next as u16;
+    next + 1
 }
 
-// A prefix with these counts that is followed by event e: its row is found or appended, and bit e is set in it. Returns how many rows there are.
-fn step(table: &mut [u16], rows: usize, counts: [u16; 12], e: usize) -> usize
-    requires { ⌜ (e < COUNTS) × (ROW * rows ≤ length (now table)) × (ROW * length (present counts (rowsOf rows (now table))) ≤ length (now table)) ⌝ }
+// Notes the rows of the word's prefixes. Returns how many rows there are with them.
+fn number_rows(table: &[u16], rows: usize, word: &[u8], index: &[u16], numbers: &mut [u16]) -> usize
+    requires { ⌜ (rows ≤ MAX-ROWS) × (ROW * rows ≤ length (now table)) × (length (now word) ≤ MAX-LOG-EVENTS) × EventsBelow COUNTS (now word) × Index rows (now table) (now index) × (length (now word) < length (now numbers)) ⌝ }
+    ensures { λ r. ⌜ (r ≡ rows + newRows (rowsOf rows (now (table .entry))) none (now (word .entry))) × (take (length (now (word .entry)) + 1) (now (numbers .exit)) ≡ numbered (rowsOf rows (now (table .entry))) rows none (now (word .entry))) ⌝ }
+{
+    let mut counts = [0u16; 12];
+    let mut key = 0;
+    let mut next = rows;
+    let mut i = 0;
+    while i < word.len() {
+        let e = word[i] as usize;
+        next = number_row(table, rows, counts, index, key, numbers, i, next);
+        add_event(&mut counts, e);
+        key += multiplier_of(e);
+        i += 1;
+    }
+    number_row(table, rows, counts, index, key, numbers, i, next)
+}
+
+// A prefix with these counts, whose row is r, is followed by event e: bit e is set in its row. Returns how many rows there are.
+fn step(table: &mut [u16], rows: usize, counts: [u16; 12], r: usize, e: usize) -> usize
+    requires { ⌜ (r ≡ findRow counts (rowsOf rows (now table))) × (e < COUNTS) × (ROW * rows ≤ length (now table)) × (ROW * length (present counts (rowsOf rows (now table))) ≤ length (now table)) ⌝ }
     ensures { λ k. ⌜ Holds k (updateAt (findRow counts (rowsOf rows (now (table .entry)))) (marked e) (present counts (rowsOf rows (now (table .entry))))) (now (table .entry)) (now (table .exit)) ⌝ }
 {
-    let r = use_row(table, rows, counts);
+    let k = use_row(table, rows, counts, r);
     mark_row(table, r, e);
-    if r < rows {
-        return rows;
-    }
-    rows + 1
+    k
 }
 
-// Takes a word whose rows there is room for. Returns how many rows there are.
-pub fn write_word(table: &mut [u16], rows: usize, word: &[u8]) -> usize
-    requires { ⌜ (length (now word) ≤ MAX-EVENTS) × EventsBelow COUNTS (now word) × (ROW * rows ≤ length (now table)) × (ROW * length (takeWord (rowsOf rows (now table)) none (now word)) ≤ length (now table)) ⌝ }
+// Takes a word whose rows there is room for, and are noted. Returns how many rows there are.
+fn write_word(table: &mut [u16], rows: usize, word: &[u8], numbers: &[u16]) -> usize
+    requires { ⌜ (length (now word) ≤ MAX-LOG-EVENTS) × EventsBelow COUNTS (now word) × (ROW * rows ≤ length (now table)) × (ROW * length (takeWord (rowsOf rows (now table)) none (now word)) ≤ length (now table))
+        × (length (now word) < length (now numbers)) × (take (length (now word) + 1) (now numbers) ≡ used (rowsOf rows (now table)) none (now word)) ⌝ }
     ensures { λ k. ⌜ Holds k (takeWord (rowsOf rows (now (table .entry))) none (now (word .entry))) (now (table .entry)) (now (table .exit)) ⌝ }
 {
     let mut counts = [0u16; 12];
@@ -86,14 +105,61 @@ pub fn write_word(table: &mut [u16], rows: usize, word: &[u8]) -> usize
     let mut i = 0;
     while i < word.len() {
         let e = word[i] as usize;
-        k = step(table, k, counts, e);
-        let next = bumped(counts, e);
-        counts = next;
+        k = step(table, k, counts, numbers[i] as usize, e);
+        counts[e] = counts[e] + 1;
         i += 1;
     }
-    let r = use_row(table, k, counts);
-    if r < k {
-        return k;
+    use_row(table, k, counts, numbers[i] as usize)
+}
+
+// Takes a word if there is room for its rows. Returns how many rows there are with them; if they are too many, the table is as it was. `numbers`
+// is for the rows of its prefixes. (Inner function.)
+pub fn add_word(
+    table: &mut [u16],
+    rows: usize,
+    word: &[u8],
+    index: &[u16],
+    numbers: &mut [u16],
+) -> usize
+    requires { ⌜ (rows ≤ MAX-ROWS) × (TABLE ≤ length (now table)) × (length (now word) ≤ MAX-LOG-EVENTS) × EventsBelow COUNTS (now word) × Index rows (now table) (now index) × (length (now word) < length (now numbers)) ⌝ }
+    ensures { λ r. ⌜ Added MAX-ROWS rows (now (word .entry)) (now (table .entry)) (now (table .exit)) r ⌝ }
+{
+    let more = number_rows(table, rows, word, index, numbers);
+    if MAX_ROWS < more {
+        return more;
     }
-    k + 1
+    write_word(table, rows, word, numbers)
+}
+
+// A word with fewer events is short: for its few prefixes a scan of the rows takes less time than an index.
+const SHORT: usize = 16;
+
+fn add_short_word(table: &mut [u16], rows: usize, word: &[u8]) -> usize
+    requires { ⌜ (rows ≤ MAX-ROWS) × (TABLE ≤ length (now table)) × (length (now word) < 16) × EventsBelow COUNTS (now word) ⌝ }
+    ensures { λ r. ⌜ Added MAX-ROWS rows (now (word .entry)) (now (table .entry)) (now (table .exit)) r ⌝ }
+{
+    let index = [0u16; 1];
+    let mut numbers = [0u16; SHORT];
+    add_word(table, rows, word, &index, &mut numbers)
+}
+
+fn add_long_word(table: &mut [u16], rows: usize, word: &[u8]) -> usize
+    requires { ⌜ (rows ≤ MAX-ROWS) × (TABLE ≤ length (now table)) × (length (now word) ≤ MAX-LOG-EVENTS) × EventsBelow COUNTS (now word) ⌝ }
+    ensures { λ r. ⌜ Added MAX-ROWS rows (now (word .entry)) (now (table .entry)) (now (table .exit)) r ⌝ }
+{
+    let mut index = [0u16; INDEX];
+    let mut numbers = [0u16; 1025];
+    index_rows(table, 0, rows, &mut index);
+    add_word(table, rows, word, &index, &mut numbers)
+}
+
+// Takes a word if there is room for its rows, as `add_word`. (Inner function.)
+pub fn add_alone(table: &mut [u16], rows: usize, word: &[u8]) -> usize
+    requires { ⌜ (rows ≤ MAX-ROWS) × (TABLE ≤ length (now table)) × (length (now word) ≤ MAX-LOG-EVENTS) × EventsBelow COUNTS (now word) ⌝ }
+    ensures { λ r. ⌜ Added MAX-ROWS rows (now (word .entry)) (now (table .entry)) (now (table .exit)) r ⌝ }
+{
+    if word.len() < SHORT {
+        return add_short_word(table, rows, word);
+    }
+    add_long_word(table, rows, word)
 }

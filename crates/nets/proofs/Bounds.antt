@@ -1,14 +1,14 @@
--- The tokens of a place whose numbers are `u16`, and its surplus, are `i64`.
-use Prim.Native.Nat.{ℕ, _+_, _*_, _^_, _≤_, _<_}
+-- The tokens of a place whose numbers are `u16` are far from the bounds of an `i64`.
+use Prim.Native.Nat.{ℕ, _*_, _^_, _≤_, _<_}
 use native.Mathlib.Nat.{mul-le-mul}
 use native.Mathlib.Omega.{arith}
 use mir.Syntax.{w64}
 use mir.Val.{SFits}
 use Rattle.laws.specs.Sums.{sum-bound}
-use Rattle.nets.specs.Nets.{Place, Step, Counts, at, tokens, surplus}
-use Rattle.nets.specs.Surplus.{given, taken, tokens-is, surplus-is}
-use Rattle.nets.specs.Machine.{COUNTS}
-use Rattle.nets.proofs.Signed.{difference-fits}
+use Rattle.nets.specs.Nets.{Place, Counts, at, tokens}
+use Rattle.nets.specs.Surplus.{given, taken, tokens-is}
+use Rattle.nets.specs.Machine.{COUNTS, Held}
+use Rattle.nets.proofs.Signed.{held-fits}
 
 -- every number of the place and of the counts is a `u16`
 pub record Small (p : Place) (v : Counts) : Type 0 where
@@ -21,22 +21,23 @@ product-bound : (x y : ℕ) → x < 65536 → y < 65536 → x * y ≤ 65535 * 65
 product-bound x y hx hy = mul-le-mul {n₁ = x} {m₁ = y} {n₂ = 65535} {m₂ = 65535} (omega arith) (omega arith)
 
 module _ (p : Place) (v : Counts) (small : Small p v) (n : ℕ) (h : n ≤ COUNTS) where
-  given-bound : given n p v < 2 ^ 40
+  pub given-bound : given n p v < 2 ^ 40
   unfolding given
   given-bound =
       omega (arith, small .initial, sum-bound n (65535 * 65535) (λ i. at v i * p .produced i) (λ i _. product-bound _ _ (small .counts i) (small .produced i)))
 
-  taken-bound : taken n p v < 2 ^ 40
+  pub taken-bound : taken n p v < 2 ^ 40
   unfolding taken
   taken-bound =
       omega (arith, sum-bound n (65535 * 65535) (λ i. at v i * p .consumed i) (λ i _. product-bound _ _ (small .counts i) (small .consumed i)))
 
-  pub tokens-fits : SFits w64 (tokens n p v)
-  tokens-fits = rw (tokens-is n p v) (difference-fits (given n p v) (taken n p v) (omega (arith, given-bound)) (omega (arith, taken-bound)))
+  pub tokens-held : Held (tokens n p v)
+  tokens-held = record {
+    plus = given n p v;
+    minus = taken n p v;
+    is = tokens-is n p v;
+    far = (omega (arith, given-bound), omega (arith, taken-bound));
+  }
 
-pub surplus-fits : (p : Place) (s : Step) → Small p (s .row) → SFits w64 (surplus COUNTS p s)
-surplus-fits p s small =
-    rw (surplus-is COUNTS p s)
-    (difference-fits (given COUNTS p (s .row)) (taken COUNTS p (s .row) + p .consumed (s .event))
-    (omega (arith, given-bound p (s .row) small COUNTS (omega arith)))
-    (omega (arith, small .consumed (s .event), taken-bound p (s .row) small COUNTS (omega arith))))
+  pub tokens-fits : SFits w64 (tokens n p v)
+  tokens-fits = held-fits tokens-held

@@ -15,7 +15,7 @@ use Rattle.nets.specs.Words.{PermitsLog, Prefix, word-prefix, permits-sn
 use Rattle.nets.specs.Rows.{row→, →row, rows-distinct, continuation→, →continuation, allowedStep→, →allowedStep, allowedSteps-distinct, wrong→, →wrong, wrong-distinct}
 use Rattle.nets.specs.Screening.{screen-snoc}
 use Rattle.nets.specs.Fits.{net-fits}
-use Rattle.nets.specs.Certificates.{weights-permit, refused→, kind-of, kinds, certificate-for}
+use Rattle.nets.specs.Certificates.{weights-permit, refused→, kinds, certificate-for}
 
 -- each prefix of the first log is one of the second
 abbrev pub PrefixesIn : Log → Log → Type 0
@@ -92,13 +92,6 @@ module _ (n : ℕ) (a b : Judged n) (to : PrefixesIn (a .log) (b .log)) (from : 
   wrong-same s m = same-test _ _
       (λ t. wrong-permitted n a s m t (b .net) (permits-first n a b to))
       (λ t. wrong-permitted n b s (wrong-in n (a .log) (b .log) to from s m) t (a .net) (permits-first n b a from))
-
-  -- and their certificates for one wrong continuation are of the same kind
-  pub kind-same : (s : Step) → List·Memᴰ s (wrongContinuations n (a .log)) → (c d : Certificate) → T (solves n (a .log) (a .net) s c) → T (solves n (b .log) (b .net) s d) → isByPlace c ≡ isByPlace d
-  kind-same s m c d t u =
-      kind-of n (a .log) (a .net) (net-fits n (a .net) (a .log) (a .permitted)) s (wrong-below n a s m) c t
-      ∙ ap not (wrong-same s m)
-      ∙ sym (kind-of n (b .log) (b .net) (net-fits n (b .net) (b .log) (b .permitted)) s (wrong-below n a s m) d u)
 
   rows-same : length (rows n (a .log)) ≡ length (rows n (b .log))
   rows-same = distinct-same-length (rows n (a .log)) (rows n (b .log)) (rows-distinct n (a .log)) (rows-distinct n (b .log)) (row-in n (a .log) (b .log) to) (row-in n (b .log) (a .log) from)

@@ -1,5 +1,7 @@
--- The code's place as a place of the definitions.
-use Prim.Native.Nat.{ℕ}
+-- The code's place as a place of the definitions, and the tokens that code reckons with.
+use mathlib.Core.Path.{_≡_}
+use Prim.Native.Nat.{ℕ, _^_, _<_}
+use lib.IntN.{ℤ, subℕ}
 use lib.ListN.{getD}
 use Rattle.nets.specs.declared.Place as Declared
 use Rattle.nets.specs.Nets.{Place}
@@ -10,3 +12,10 @@ COUNTS = 12
 
 abbrev pub placeOf : Declared.Place → Place
 placeOf p = record { initial = p .initial; produced = λ i. getD (p .produced) i 0; consumed = λ i. getD (p .consumed) i 0 }
+
+-- so many tokens as a place may hold, or lack: a difference of two numbers that are far from the bounds of an `i64`
+pub record Held (t : ℤ) : Type 0 where
+  pub plus : ℕ
+  pub minus : ℕ
+  pub is : t ≡ subℕ plus minus
+  pub far : (plus < 2 ^ 62) × (minus < 2 ^ 62)

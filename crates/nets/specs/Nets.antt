@@ -16,6 +16,7 @@ use Rattle.laws.specs.Differences.{sumℤ}
 abbrev pub Word : Type 0
 Word = List ℕ
 
+-- a log: words, in order
 abbrev pub Log : Type 0
 Log = List Word
 
@@ -28,7 +29,7 @@ pub record Step : Type 0 where
   pub row : Counts
   pub event : ℕ
 
--- a place (region): m, its initial tokens; in(i), the tokens that event i puts there; out(i), those that it takes
+-- a place: m, its initial tokens; in(i), the tokens that event i puts there; out(i), those that it takes. From n on they are not used
 pub record Place : Type 0 where
   pub initial : ℕ
   pub produced : ℕ → ℕ
@@ -44,13 +45,14 @@ pub record Term : Type 0 where
   pub step : Step
   pub weight : ℕ
 
--- the certificate of a wrong continuation (the answer to an event/state separation problem)
+-- the certificate of a wrong continuation (the answer to a separation problem)
 pub data Certificate : Type 0 where
   -- kind 0: the place of this number refuses the step
   byPlace : ℕ → Certificate
   -- kind 1: k and weighted steps (Farkas weights) that show that no place which fits can refuse it
   byWeights : ℕ → List Term → Certificate
 
+-- what a bundle holds
 pub record Bundle : Type 0 where
   pub events : ℕ
   pub log : Log
@@ -112,48 +114,6 @@ module _ (n : ℕ) where
   abbrev pub stepAfter : Word → ℕ → Step
   stepAfter u e = record { row = counts u; event = e }
 
-  -- ---- Places and nets
-
-  -- the tokens in a place after counts v (its marking): m + sum of v(i) × (in(i) − out(i))
-  unfoldable pub tokens : Place → Counts → ℤ
-  tokens p v = pos (p .initial) +ℤ sumℤ n (λ i. pos (at v i) *ℤ (pos (p .produced i) -ℤ pos (p .consumed i)))
-
-  -- the surplus at (v, e): m + sum of v(i) × (in(i) − out(i)) − out(e)
-  unfoldable pub surplus : Place → Step → ℤ
-  surplus p s = tokens p (s .row) -ℤ pos (p .consumed (s .event))
-
-  -- a place permits e after v when the surplus is 0 or more, and refuses it when negative
-  unfoldable pub placePermits : Place → Step → Bool
-  placePermits p s = nonNeg (surplus p s)
-
-  unfoldable pub netPermits : Net → Step → Bool
-  netPermits net s = all (λ p. placePermits p s) net
-
-  -- the net permits the steps of w, which follow those of u
-  unfoldable pub permitsAfter : Net → Word → Word → Bool
-  permitsAfter net u [] = true
-  permitsAfter net u (e ∷ w) = netPermits net (stepAfter u e) && permitsAfter net (u ++ e ∷ []) w
-
-  -- a net permits a word when every place permits each of its steps
-  unfoldable pub permits : Net → Word → Bool
-  permits net w = permitsAfter net [] w
-
-  -- ---- Screening
-
-  -- the lowest place that refuses the step, or the number of places where none does
-  unfoldable pub firstRefusing : Net → Step → ℕ
-  firstRefusing [] s = 0
-  firstRefusing (p ∷ net) s = cond (placePermits p s) (suc (firstRefusing net s)) 0
-
-  -- the first refused step of w, whose steps follow those of u
-  unfoldable pub screenAfter : Net → Word → Word → Screened
-  screenAfter net u [] = permitted
-  screenAfter net u (e ∷ w) =
-      cond (netPermits net (stepAfter u e)) (screenAfter net (u ++ e ∷ []) w) (stopped (length u) (firstRefusing net (stepAfter u e)))
-
-  unfoldable pub screen : Net → Word → Screened
-  screen net w = screenAfter net [] w
-
   -- ---- The log's rows and steps
 
   -- the rows: the distinct count vectors of prefixes, by first occurrence
@@ -172,6 +132,7 @@ module _ (n : ℕ) where
   unfoldable pub continuations : Log → List Step
   continuations log = flatMap rowSteps (rows log)
 
+  -- the allowed steps, by row, then event
   unfoldable pub allowedSteps : Log → List Step
   allowedSteps log = keep (allowed log) (continuations log)
 
@@ -179,7 +140,34 @@ module _ (n : ℕ) where
   unfoldable pub wrongContinuations : Log → List Step
   wrongContinuations log = keep (λ s. not (allowed log s)) (continuations log)
 
-  -- a place fits when it permits every allowed step
+  -- ---- Places and nets
+
+  -- the tokens in a place after counts v (its marking): m + sum of v(i) × (in(i) − out(i))
+  unfoldable pub tokens : Place → Counts → ℤ
+  tokens p v = pos (p .initial) +ℤ sumℤ n (λ i. pos (at v i) *ℤ (pos (p .produced i) -ℤ pos (p .consumed i)))
+
+  -- the surplus at (v, e): m + sum of v(i) × (in(i) − out(i)) − out(e)
+  unfoldable pub surplus : Place → Step → ℤ
+  surplus p s = tokens p (s .row) -ℤ pos (p .consumed (s .event))
+
+  -- a place permits e after v when the surplus is 0 or more, and refuses it when negative
+  unfoldable pub placePermits : Place → Step → Bool
+  placePermits p s = nonNeg (surplus p s)
+
+  -- every place permits the step
+  unfoldable pub netPermits : Net → Step → Bool
+  netPermits net s = all (λ p. placePermits p s) net
+
+  -- the net permits the steps of w, which follow those of u
+  unfoldable pub permitsAfter : Net → Word → Word → Bool
+  permitsAfter net u [] = true
+  permitsAfter net u (e ∷ w) = netPermits net (stepAfter u e) && permitsAfter net (u ++ e ∷ []) w
+
+  -- a net permits a word when every place permits each of its steps
+  unfoldable pub permits : Net → Word → Bool
+  permits net w = permitsAfter net [] w
+
+  -- a place fits (is a region of the log) when it permits every allowed step
   unfoldable pub fits : Log → Place → Bool
   fits log p = all (placePermits p) (allowedSteps log)
 
@@ -208,7 +196,7 @@ module _ (n : ℕ) where
       && all (weighsBefore s k ts) (tabulate n (λ i. i))
       && all (weighsAfter s k ts) (tabulate n (λ i. i))
 
-  -- a certificate solves the step
+  -- a certificate solves the separation problem of a step: it holds for it
   unfoldable pub solves : Log → Net → Step → Certificate → Bool
   solves log net s (byPlace j) = refusedBy net j s
   solves log net s (byWeights k ts) = weightsHold log s k ts
@@ -220,6 +208,23 @@ module _ (n : ℕ) where
   solvesAll log net (s ∷ ss) [] = false
   solvesAll log net (s ∷ ss) (c ∷ cs) = solves log net s c && solvesAll log net ss cs
 
+  -- ---- Screening
+
+  -- the lowest place that refuses the step, or the number of places where none does
+  unfoldable pub firstRefusing : Net → Step → ℕ
+  firstRefusing [] s = 0
+  firstRefusing (p ∷ net) s = cond (placePermits p s) (suc (firstRefusing net s)) 0
+
+  -- the first refused step of w, whose steps follow those of u
+  unfoldable pub screenAfter : Net → Word → Word → Screened
+  screenAfter net u [] = permitted
+  screenAfter net u (e ∷ w) =
+      cond (netPermits net (stepAfter u e)) (screenAfter net (u ++ e ∷ []) w) (stopped (length u) (firstRefusing net (stepAfter u e)))
+
+  -- the first refused step of a word
+  unfoldable pub screen : Net → Word → Screened
+  screen net w = screenAfter net [] w
+
 -- ---- Acceptance
 
 -- the net permits every log word, and each wrong continuation has its certificate
@@ -228,6 +233,7 @@ accepted b =
     all (permits (b .events) (b .net)) (b .log)
     && solvesAll (b .events) (b .log) (b .net) (wrongContinuations (b .events) (b .log)) (b .certificates)
 
+-- whether a certificate is of kind 0
 unfoldable pub isByPlace : Certificate → Bool
 isByPlace (byPlace j) = true
 isByPlace (byWeights k ts) = false
@@ -239,6 +245,7 @@ pub record Tally : Type 0 where
   pub byPlaceCount : ℕ
   pub byWeightsCount : ℕ
 
+-- as the definitions count them
 unfoldable pub tally : Bundle → Tally
 tally b = record {
   rowCount = length (rows (b .events) (b .log));

@@ -32,6 +32,7 @@ beginning→ (a ∷ w) (List·Memᴰ·tail m) =
     let b = beginning→ w (r .1) in
     (b .0, ap (λ (x : Word). x ++ b .0) (sym (r .2)) ∙ ap (λ (x : Word). a ∷ x) (b .1))
 
+-- u is a prefix in the log
 abbrev pub Prefix : Log → Word → Type 0
 Prefix log u = List·Memᴰ u (prefixes log)
 

@@ -5,10 +5,10 @@ ghost use Prim.Native.Nat.{_≤_, _<_};
 ghost use lib.IntN.{pos, _-ℤ_, _*ℤ_};
 ghost use lib.ListN.{length};
 ghost use lib.Signed.{nonNeg};
-ghost use Rattle.laws.specs.Bits.{bit, bitCount, withBit};
-ghost use Rattle.nets.specs.Nets.{tokens as tokensAfter, surplus as surplusOf, placePermits};
+ghost use Rattle.laws.specs.Bits.{bit, withBit};
+ghost use Rattle.nets.specs.Nets.{tokens as tokensAfter};
 ghost use Rattle.nets.specs.Events.{firstBad};
-ghost use Rattle.nets.specs.Machine.{COUNTS, placeOf};
+ghost use Rattle.nets.specs.Machine.{COUNTS, placeOf, Held};
 
 // The counts of a row: as many as a bundle may have events.
 pub const COUNTS: usize = 12;
@@ -20,8 +20,8 @@ pub struct Place {
     pub consumed: [u16; 12],
 }
 
-// The tokens that `count` occurrences of an event put into a place, less those that they take.
-fn gain(count: u16, produced: u16, consumed: u16) -> i64
+// The tokens that `count` occurrences of an event put into a place, less those that they take. (Inner function.)
+pub fn gain(count: u16, produced: u16, consumed: u16) -> i64
     ensures { λ r. ⌜ r ≡ pos count *ℤ (pos produced -ℤ pos consumed) ⌝ }
 {
     count as i64 * (produced as i64 - consumed as i64)
@@ -31,6 +31,7 @@ fn gain(count: u16, produced: u16, consumed: u16) -> i64
 pub fn tokens(place: Place, counts: &[u16]) -> i64
     requires { ⌜ COUNTS ≤ length (now counts) ⌝ }
     ensures { λ r. ⌜ r ≡ tokensAfter COUNTS (placeOf place) (now (counts .entry)) ⌝ }
+    ensures { λ r. ⌜ Held r ⌝ }
 {
     let mut total = place.initial as i64;
     let mut i = 0;
@@ -41,27 +42,20 @@ pub fn tokens(place: Place, counts: &[u16]) -> i64
     total
 }
 
-// Whether the tokens in a place cover what an event takes: whether the surplus is 0 or more. (Inner function.)
+// The surplus of a place: its tokens, less what an event takes. (Inner function.)
+pub fn surplus(tokens: i64, consumed: u16) -> i64
+    requires { ⌜ Held tokens ⌝ }
+    ensures { λ r. ⌜ r ≡ tokens -ℤ pos consumed ⌝ }
+{
+    tokens - consumed as i64
+}
+
+// Whether a place permits an event that takes so many of its tokens: whether the surplus is 0 or more. (Inner function.)
 pub fn covers(tokens: i64, consumed: u16) -> bool
+    requires { ⌜ Held tokens ⌝ }
     ensures { λ r. ⌜ r ≡ nonNeg (tokens -ℤ pos consumed) ⌝ }
 {
-    consumed as i64 <= tokens
-}
-
-// The surplus of a place at the counts and the event. (Inner function.)
-pub fn surplus(place: Place, counts: &[u16], event: usize) -> i64
-    requires { ⌜ (event < COUNTS) × (COUNTS ≤ length (now counts)) ⌝ }
-    ensures { λ r. ⌜ r ≡ surplusOf COUNTS (placeOf place) (record { row = now (counts .entry); event = event }) ⌝ }
-{
-    tokens(place, counts) - place.consumed[event] as i64
-}
-
-// Whether a place permits the event after the counts. (Inner function.)
-pub fn permits(place: Place, counts: &[u16], event: usize) -> bool
-    requires { ⌜ (event < COUNTS) × (COUNTS ≤ length (now counts)) ⌝ }
-    ensures { λ r. ⌜ r ≡ placePermits COUNTS (placeOf place) (record { row = now (counts .entry); event = event }) ⌝ }
-{
-    0 <= surplus(place, counts, event)
+    0 <= surplus(tokens, consumed)
 }
 
 // The position of the first event that is not below n, or the word's length. (Inner function.)
@@ -92,11 +86,4 @@ pub fn has_bit(mask: u16, event: usize) -> bool
     ensures { λ r. ⌜ r ≡ bit mask event ⌝ }
 {
     (mask >> event) & 1 != 0
-}
-
-// How many bits of the mask are set. (Inner function.)
-pub fn bit_count(mask: u16) -> u32
-    ensures { λ r. ⌜ r ≡ bitCount 16 mask ⌝ }
-{
-    u16::count_ones(mask)
 }

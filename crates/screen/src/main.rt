@@ -1,17 +1,19 @@
 // Screens a word with a sealed file, `screen FILE [EVENT]...`, each event a decimal number. Prints one line: `permitted`; `stopped`, position
 // and place; or `refused`, number and spot.
 use console::Input;
+use console::print_line;
+use console::print_refusal;
 use console::write_number;
-use console::write_refusal;
 use libc::STDERR_FILENO;
-use libc::STDOUT_FILENO;
 use refusals::Written;
 use screening::Screened;
-use screening::Stop;
 ghost use mathlib.Core.Bool.{true};
+ghost use mathlib.Core.List.{List};
 ghost use mathlib.Core.Path.{_≡_};
+ghost use Prim.Native.Nat.{ℕ, _≤_, _<_};
 ghost use lib.ListN.{length};
 ghost use Rattle.block.specs.File.{opened};
+ghost use Rattle.block.specs.Whole.{InputRead};
 ghost use Rattle.console.specs.Inputs.{Within};
 ghost use Rattle.screen.specs.Events.{isDigit, withDigit, capped, eventIn};
 ghost use Rattle.screen.specs.Files.{fileScreened};
@@ -124,30 +126,29 @@ fn read_file(buffer: &mut [u8]) -> Input
     input
 }
 
-// What screening a word with a sealed file answers: the refusal of opening it, or the answer of its bundle.
-fn screen_file(file: &[u8], word: &[u8]) -> Screened
-    ensures { λ r. ⌜ r ≡ fileScreened (opened (now (file .entry))) (now (word .entry)) ⌝ }
+// What screening a word with the sealed file that came to a buffer, its first n bytes, answers: the refusal of opening it, or the answer of its
+// bundle. The buffer is longer than every file, so the answer is that of the whole file, however long it is.
+fn screen_file(buffer: &[u8], n: usize, word: &[u8]) -> Screened
+    requires { ⌜ (n ≤ length (now buffer)) × (65536 < length (now buffer)) ⌝ }
+    ensures { λ r. ⌜ ((input : List ℕ) → InputRead input (now (buffer .entry)) n → r ≡ fileScreened (opened input) (now (word .entry))) ⌝ }
 {
     let mut bundle = io::large_buffer();
-    match block::open(file, &mut bundle) {
+    match block::open(&buffer[..n], &mut bundle) {
         Written::Refused(refusal) => Screened::Refused(refusal),
-        Written::Length(n) => screening::screen(&bundle[..n], word),
+        Written::Length(size) => screening::screen(&bundle[..size], word),
     }
 }
 
 fn print_screened(screened: Screened) {
     match screened {
         Screened::Permitted => {
-            io::write_all(STDOUT_FILENO, b"permitted\n");
+            print_line(b"permitted", &[]);
         }
         Screened::Stopped(stop) => {
-            io::write_all(STDOUT_FILENO, b"stopped");
-            write_number(STDOUT_FILENO, stop.position);
-            write_number(STDOUT_FILENO, stop.place);
-            io::write_all(STDOUT_FILENO, b"\n");
+            print_line(b"stopped", &[stop.position, stop.place]);
         }
         Screened::Refused(refusal) => {
-            write_refusal(STDOUT_FILENO, refusal);
+            print_refusal(refusal);
         }
     }
 }
@@ -166,5 +167,5 @@ fn main() {
     let Input::Bytes(n) = read_file(&mut file) else {
         return;
     };
-    print_screened(screen_file(&file[..n], &word[..events]));
+    print_screened(screen_file(&file, n, &word[..events]));
 }

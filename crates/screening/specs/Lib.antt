@@ -1,6 +1,6 @@
 pub mod Screening
 pub mod Screens
-pub mod Order
+pub mod RefusalNumbers
 pub mod Positions
 pub mod Replay
 pub mod Searching

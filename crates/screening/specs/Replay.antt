@@ -2,7 +2,7 @@
 use mathlib.Core.Path.{_≡_, refl, sym, ap, _∙_, subst}
 use mathlib.Core.Bool.{Bool, true, false, cond}
 use mathlib.Core.List.{[], _∷_, _++_}
-use Prim.Native.Nat.{ℕ, zero, suc, _+_, _-_, _*_, _^_, _≤_, _<_, min}
+use Prim.Native.Nat.{ℕ, zero, suc, _+_, _-_, _*_, _≤_, _<_, min}
 use native.Mathlib.Nat.{not-suc-le-zero, le-of-suc-le-suc}
 use native.Mathlib.Numerals.{add-one}
 use native.Mathlib.Omega.{arith}
@@ -12,10 +12,12 @@ use lib.ListN.{length, take, drop, getD, drop-of-length-le}
 use lib.Seq.{drop-cons}
 use lib.Signed.{nonNeg}
 use mir.Syntax.{w64}
-use mir.Val.{ofZ}
+use mir.Val.{ofZ, toZ}
+use mir.Facts.{toZ-pos}
 use Rattle.laws.specs.Differences.{difference, pos-difference, nonNeg-difference, pos-of-difference}
 use Rattle.nets.specs.Nets.{Word, Place, counts, stepAfter, tokens, surplus, placePermits}
 use Rattle.nets.specs.Events.{EventsBelow}
+use Rattle.nets.specs.Machine.{Held}
 use Rattle.nets.specs.Markings.{tokens-snoc}
 use Rattle.screening.specs.Positions.{stepBehind, step-first, step-shift}
 
@@ -32,27 +34,15 @@ permits-is n p u e = refl
 abbrev pub moved : Place → ℤ → ℕ → ℤ
 moved p t e = t +ℤ (pos (p .produced e) -ℤ pos (p .consumed e))
 
--- so many tokens as a place may hold on the way: 0 or more, and far from the bounds of an i64
-pub record Held (t : ℤ) : Type 0 where
-  pub amount : ℕ
-  pub is : t ≡ pos amount
-  pub small : amount < 2 ^ 62
-
 -- where the tokens cover what an event takes, the tokens behind it are a natural number
-pub covered-enough : (p : Place) (t e : ℕ) → covered p (pos t) e ≡ true → p .consumed e ≤ t
+covered-enough : (p : Place) (t e : ℕ) → covered p (pos t) e ≡ true → p .consumed e ≤ t
 covered-enough p t e h = nonNeg-difference t (p .consumed e) .0 (subst (λ (z : ℤ). T (nonNeg z)) (difference t (p .consumed e)) (rw h tt))
 
-pub moved-amount : (p : Place) (t e : ℕ) → p .consumed e ≤ t → moved p (pos t) e ≡ pos (t + p .produced e - p .consumed e)
+moved-amount : (p : Place) (t e : ℕ) → p .consumed e ≤ t → moved p (pos t) e ≡ pos (t + p .produced e - p .consumed e)
 moved-amount p t e h =
     ap (λ (z : ℤ). pos t +ℤ z) (difference (p .produced e) (p .consumed e))
     ∙ pos-difference t (p .produced e) (p .consumed e)
     ∙ pos-of-difference (t + p .produced e) (p .consumed e) (omega arith)
-
--- as the machine holds them
-pub moved-bits : (p : Place) (t e : ℕ) → covered p (pos t) e ≡ true → {z : ℤ} → z ≡ moved p (pos t) e → pos (ofZ w64 z) ≡ moved p (pos t) e
-moved-bits p t e h {z} is =
-    let amount = moved-amount p t e (covered-enough p t e h) in
-    ap (λ (x : ℤ). pos (ofZ w64 x)) (is ∙ amount) ∙ sym amount
 
 -- how many steps of a word a place permits, one after another, with t tokens at first
 unfoldable pub replay : Place → ℤ → Word → ℕ
@@ -63,16 +53,24 @@ replay p t (e ∷ w) = cond (covered p t e) (suc (replay p (moved p t e) w)) 0
 unfoldable pub reach : Place → Word → ℕ
 reach p w = replay p (pos (p .initial)) w
 
--- a loop has replayed i steps of w on the place p, with so many tokens behind them
-pub record Going (p : Place) (w : Word) (tokens i : ℕ) : Type 0 where
-  pub small : tokens ≤ 65535 + 65535 * i
-  pub rest : reach p w ≡ i + replay p (pos tokens) (drop i w)
+-- a loop has replayed i steps of w on the place p, with t tokens behind them
+pub record Going (p : Place) (w : Word) (t : ℤ) (i : ℕ) : Type 0 where
+  pub amount : ℕ
+  pub is : t ≡ pos amount
+  pub small : amount ≤ 65535 + 65535 * i
+  pub rest : reach p w ≡ i + replay p t (drop i w)
 
-pub going-start : (p : Place) (w : Word) → p .initial ≤ 65535 → Going p w (p .initial) 0
+-- the tokens that the machine holds in 64 bits
+going-bits : {p : Place} {w : Word} {i : ℕ} (t : ℕ) → i ≤ 65535 → t ≤ 65535 + 65535 * i → reach p w ≡ i + replay p (pos t) (drop i w) → Going p w (toZ w64 t) i
+going-bits {p} {w} {i} t few h rest =
+    let is : toZ w64 t ≡ pos t = toZ-pos w64 {n = t} (omega arith) in
+    record { amount = t; is = is; small = h; rest = rest ∙ ap (λ (z : ℤ). i + replay p z (drop i w)) (sym is) }
+
+pub going-start : (p : Place) (w : Word) → p .initial ≤ 65535 → Going p w (toZ w64 (p .initial)) 0
 unfolding reach
-going-start p w h = record { small = omega arith; rest = omega arith }
+going-start p w h = going-bits (p .initial) (omega arith) (omega arith) (omega arith)
 
-module _ {p : Place} {w : Word} {tokens i : ℕ} (g : Going p w tokens i) where
+module _ {p : Place} {w : Word} {t : ℤ} {i : ℕ} (g : Going p w t i) where
   pub going-least : i ≤ reach p w
   going-least = omega (arith, g .rest)
 
@@ -80,26 +78,36 @@ module _ {p : Place} {w : Word} {tokens i : ℕ} (g : Going p w tokens i) where
   unfolding replay
   going-end h = g .rest ∙ rw (drop-of-length-le w h) (omega arith)
 
+  pub going-held : i ≤ 65535 → Held t
+  going-held h = record {
+    plus = g .amount;
+    minus = 0;
+    is = g .is ∙ rw (pos-of-difference (g .amount) 0 (omega arith)) (ap pos (omega arith));
+    far = (omega (arith, g .small), omega arith);
+  }
+
   module _ (h : i < length w) where
-    step : replay p (pos tokens) (drop i w) ≡ cond (covered p (pos tokens) (getD w i 0)) (suc (replay p (moved p (pos tokens) (getD w i 0)) (drop (i + 1) w))) 0
+    step : replay p t (drop i w) ≡ cond (covered p t (getD w i 0)) (suc (replay p (moved p t (getD w i 0)) (drop (i + 1) w))) 0
     unfolding replay
     step = rw (drop-cons w i 0 h, add-one i)
 
-    pub going-stop : covered p (pos tokens) (getD w i 0) ≡ false → reach p w ≡ i
+    pub going-stop : covered p t (getD w i 0) ≡ false → reach p w ≡ i
     going-stop e = g .rest ∙ rw (step, e) (omega arith)
 
-    module _ (e : covered p (pos tokens) (getD w i 0) ≡ true) where
-      pub going-past : i < reach p w
-      going-past = let more : reach p w ≡ i + suc (replay p (moved p (pos tokens) (getD w i 0)) (drop (i + 1) w)) = g .rest ∙ rw (step, e) in omega arith
+    module _ (e : covered p t (getD w i 0) ≡ true) where
+      passed : reach p w ≡ i + 1 + replay p (moved p t (getD w i 0)) (drop (i + 1) w)
+      passed = g .rest ∙ rw (step, e) (omega arith)
 
-      pub going-next : (new : ℕ) → p .produced (getD w i 0) ≤ 65535 → pos new ≡ moved p (pos tokens) (getD w i 0) → Going p w new (i + 1)
-      going-next new few is =
+      pub going-past : i < reach p w
+      going-past = omega (arith, passed)
+
+      pub going-next : i + 1 ≤ 65535 → p .produced (getD w i 0) ≤ 65535 → {z : ℤ} → z ≡ moved p t (getD w i 0) → Going p w (toZ w64 (ofZ w64 z)) (i + 1)
+      going-next short few {z} is =
           let x = getD w i 0 in
-          let amount : new ≡ tokens + p .produced x - p .consumed x = cc (is ∙ moved-amount p tokens x (covered-enough p tokens x e)) in
-          record {
-            small = omega (arith, g .small);
-            rest = g .rest ∙ rw (step, e, ← is) (omega arith);
-          }
+          let a = g .amount in
+          let enough : p .consumed x ≤ a = covered-enough p a x (ap (λ (y : ℤ). covered p y x) (sym (g .is)) ∙ e) in
+          let amount : moved p t x ≡ pos (a + p .produced x - p .consumed x) = ap (λ (y : ℤ). moved p y x) (g .is) ∙ moved-amount p a x enough in
+          rw (is ∙ amount) (going-bits (a + p .produced x - p .consumed x) short (omega (arith, g .small)) (passed ∙ rw amount))
 
 -- a beginning of the word goes as far, up to its end
 pub replay-take : (p : Place) (w : Word) (k : ℕ) (t : ℤ) → replay p t (take k w) ≡ min k (replay p t w)

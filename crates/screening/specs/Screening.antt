@@ -36,7 +36,7 @@ screened b w =
     (provided Refused (sizeFits b) BUNDLE-LENGTH 0
     (screenedOn w (head anyRows b 0)))
 
--- 0 where the word is permitted, 256 where it is stopped, else the refusal's number
+-- an answer as a number: 0 where the word is permitted, 256 where it is stopped, else the refusal's
 abbrev pub STOPPED : ℕ
 STOPPED = 256
 

@@ -20,7 +20,7 @@ use Rattle.nets.specs.Markings.{tokens-none}
 use Rattle.nets.specs.declared.Place as declared
 use Rattle.bundles.specs.Layout.{toPlace}
 use Rattle.bundles.specs.NumberSteps.{itemsAt, items-length, items-snoc}
-use Rattle.bundles.specs.PlaceSteps.{placeSize, fieldsAt, machinePlace, place-means}
+use Rattle.bundles.specs.PlaceSteps.{placeSize, fieldsAt, placeOn, machinePlace, place-means}
 use Rattle.bundles.specs.declared.Places as declared-places
 use Rattle.screening.specs.Positions.{stepAt, Best, best-stays, best-earlier}
 use Rattle.screening.specs.Replay.{First, reach, replay, replay-first, replay-take}
@@ -47,10 +47,6 @@ first-stops a b i is h = let at : i ≡ min a b = omega arith in rw (le-leb a b 
 
 pub second-stops : (a b i : ℕ) → b ≡ i → i < a → record { position = i; place = 1 } ≡ firstOf a b
 second-stops a b i is h = let at : i ≡ min a b = omega arith in rw (lt-leb a b (omega arith), ← at)
-
--- the place at an offset
-abbrev pub placeOn : ℕ → List ℕ → ℕ → Place
-placeOn n b at = toPlace (fieldsAt n b at)
 
 pub reach-means : (n : ℕ) (b : List ℕ) (at : ℕ) (w : Word) (p : declared.Place) → p ≡ machinePlace (fieldsAt n b at) → reach (machine.placeOf p) w ≡ reach (placeOn n b at) w
 reach-means n b at w p e = ap (λ (q : declared.Place). reach (machine.placeOf q) w) e ∙ ap (λ (q : Place). reach q w) (place-means (fieldsAt n b at))

@@ -18,14 +18,14 @@ ghost use lib.ListN.{length, take};
 ghost use Rattle.refusals.specs.Answers.{refusal};
 ghost use Rattle.nets.specs.Nets.{Net, screen as screenWord};
 ghost use Rattle.nets.specs.Events.{EventsBelow};
-ghost use Rattle.nets.specs.Machine.{COUNTS, placeOf};
+ghost use Rattle.nets.specs.Machine.{COUNTS, placeOf, Held};
 ghost use Rattle.bundles.specs.Readers.{anyRows, head};
 ghost use Rattle.bundles.specs.HeadSteps.{headRead};
-ghost use Rattle.bundles.specs.PlaceSteps.{placeSize};
+ghost use Rattle.bundles.specs.PlaceSteps.{placeSize, placeOn};
 ghost use Rattle.screening.specs.Screening.{MAX-WORD, replayed, screenedOn, screened};
 ghost use Rattle.screening.specs.Positions.{Best};
-ghost use Rattle.screening.specs.Replay.{Held, reach};
-ghost use Rattle.screening.specs.Searching.{Searchable, placeOn, netAt, firstOf};
+ghost use Rattle.screening.specs.Replay.{reach};
+ghost use Rattle.screening.specs.Searching.{Searchable, netAt, firstOf};
 
 // The most events that a screened word may have.
 pub const MAX_WORD: usize = 65535;
@@ -116,7 +116,7 @@ fn reach_of(bundle: &[u8], at: usize, n: usize, word: &[u8], end: usize) -> usiz
     requires { ⌜ (n ≤ 12) × (at + 2 * placeSize n ≤ length (now bundle)) × (end ≤ length (now word)) × (length (now word) ≤ MAX-WORD) × EventsBelow n (now word) ⌝ }
     ensures { λ r. ⌜ r ≡ reach (placeOn n (now (bundle .entry)) at) (take end (now (word .entry))) ⌝ }
 {
-    let place = bundles::place_at(bundle, at, n);
+    let place = bundles::net::place_at(bundle, at, n);
     steps_permitted(place, &word[..end])
 }
 
@@ -125,8 +125,8 @@ fn pair_at(bundle: &[u8], at: usize, n: usize, word: &[u8], end: usize) -> Stop
     requires { ⌜ (n ≤ 12) × (at + 2 * (2 * placeSize n) ≤ length (now bundle)) × (end ≤ length (now word)) × (length (now word) ≤ MAX-WORD) × EventsBelow n (now word) ⌝ }
     ensures { λ r. ⌜ r ≡ firstOf (reach (placeOn n (now (bundle .entry)) at) (take end (now (word .entry)))) (reach (placeOn n (now (bundle .entry)) (at + 2 * placeSize n)) (take end (now (word .entry)))) ⌝ }
 {
-    let one = bundles::place_at(bundle, at, n);
-    let two = bundles::place_at(bundle, at + 2 * (1 + 2 * n), n);
+    let one = bundles::net::place_at(bundle, at, n);
+    let two = bundles::net::place_at(bundle, at + 2 * (1 + 2 * n), n);
     pair_permitted(one, two, &word[..end])
 }
 

@@ -1,4 +1,4 @@
-// Inner functions on slices of bytes that several crates share: a byte, a number of two bytes, and a copy to a place.
+// Inner functions on slices of bytes that several crates share: a byte, a number of two bytes, and a copy to an offset.
 ghost use mathlib.Core.Path.{_≡_};
 ghost use Prim.Native.Nat.{_+_, _≤_, _<_};
 ghost use lib.ListN.{length, getD};

@@ -3,19 +3,22 @@
 use console::Input;
 use refusals::Written;
 ghost use mathlib.Core.Path.{_≡_};
-ghost use Prim.Native.Nat.{_≤_};
+ghost use mathlib.Core.List.{List};
+ghost use Prim.Native.Nat.{ℕ, _≤_, _<_};
 ghost use lib.ListN.{length};
 ghost use Rattle.refusals.specs.Answers.{written};
 ghost use Rattle.block.specs.File.{opened};
 ghost use Rattle.block.specs.Rooms.{fullAnswer};
+ghost use Rattle.block.specs.Whole.{InputRead};
 
-// Opens a sealed file into an output that is long enough for every bundle.
-fn unseal_file(file: &[u8], output: &mut [u8]) -> Written
-    requires { ⌜ 64512 ≤ length (now output) ⌝ }
-    ensures { λ r. ⌜ r ≡ fullAnswer (opened (now (file .entry))) ⌝ }
-    ensures { λ _. ⌜ now (output .exit) ≡ written (opened (now (file .entry))) (now (output .entry)) ⌝ }
+// Opens the file that came to a buffer, its first n bytes, into an output that is long enough for every bundle. The buffer is longer than every
+// file, so the answer is that for the whole input, however long it is.
+fn unseal_file(buffer: &[u8], n: usize, output: &mut [u8]) -> Written
+    requires { ⌜ (n ≤ length (now buffer)) × (65536 < length (now buffer)) × (64512 ≤ length (now output)) ⌝ }
+    ensures { λ r. ⌜ ((input : List ℕ) → InputRead input (now (buffer .entry)) n → r ≡ fullAnswer (opened input)) ⌝ }
+    ensures { λ _. ⌜ ((input : List ℕ) → InputRead input (now (buffer .entry)) n → now (output .exit) ≡ written (opened input) (now (output .entry))) ⌝ }
 {
-    block::open(file, output)
+    block::open(&buffer[..n], output)
 }
 
 fn main() {
@@ -26,6 +29,6 @@ fn main() {
     let Input::Bytes(n) = console::read_standard_input(usage, &mut file) else {
         return;
     };
-    let answer = unseal_file(&file[..n], &mut bundle);
+    let answer = unseal_file(&file, n, &mut bundle);
     console::write_answer(answer, &bundle);
 }

@@ -29,14 +29,14 @@ use Rattle.bundles.specs.Readers.{certificate}
 use Rattle.bundles.specs.ReadingLaws.{Law, part-front, EachValid, andThen-got, law-then, law-give, law-same, law-require, law-tested, law-each}
 use Rattle.bundles.specs.LayoutLaws.{HeadValid, law-head, law-certificate}
 use Rattle.bundles.specs.Limits.{size→, →size, words-below, head→limits, limits→head}
-use Rattle.verdicts.specs.Judging.{rowsBelowLimit, solved, atEnd, afterHead, contents, judging, countsOf, verdictOn, verdict, tableOn, tableAfter}
+use Rattle.verdicts.specs.Judging.{rowsInLimit, solved, atEnd, afterHead, contents, judging, countsOf, verdictOn, verdict, tableOn, tableAfter}
 use Rattle.verdicts.specs.declared.Counts.{Counts}
 use Rattle.verdicts.specs.declared.Verdict.the-variants as verdicts
 
-few-rows : (n : ℕ) (log more : Log) → T (rowsBelowLimit n (log ++ more)) → T (rowsBelowLimit n log)
+few-rows : (n : ℕ) (log more : Log) → T (rowsInLimit n (log ++ more)) → T (rowsInLimit n log)
 few-rows n log more t = le→leb _ 256 (le-trans (rows-longer n log more) (leb→le _ 256 t))
 
-one-row : (n : ℕ) → T (rowsBelowLimit n [])
+one-row : (n : ℕ) → T (rowsInLimit n [])
 unfolding rows prefixes addRow flatMap any
 one-row n = tt
 
@@ -108,7 +108,7 @@ module _ (b : List ℕ) (bytes : Bytes b) where
   unfolding contents afterHead solved bytesOf toBundle accepted permitted fitting certified
   law-contents =
       law-same b
-      (law-then b (law-head b bytes rowsBelowLimit) (λ (c : Contents). c .head)
+      (law-then b (law-head b bytes rowsInLimit) (λ (c : Contents). c .head)
       (λ h v. law-require b
       (law-give b (law-each b (λ s before. law-tested b (certificates h v) _ _ _) _)
       (λ (c : Contents). c .certificates) (λ cs. refl))
@@ -116,7 +116,7 @@ module _ (b : List ℕ) (bytes : Bytes b) where
       (λ h c v. ap (λ (d : Contents). d .head) (v .1 .1)))
       (λ c v. refl)
       (λ c v.
-      let s = head→limits rowsBelowLimit one-row few-rows (c .head) (v .0) in
+      let s = head→limits rowsInLimit one-row few-rows (c .head) (v .0) in
       let t = each→all (c .head) (wrongContinuations (c .head .events) (c .head .log)) [] (c .certificates) (v .1 .1 .0) in
       record {
         head = s .0;
@@ -125,15 +125,15 @@ module _ (b : List ℕ) (bytes : Bytes b) where
         accepted = and-i (permitted (c .head)) (certified c) (fits→permits (c .head) (words-below _ _ (s .0 .words)) (v .1 .0)) (t .1);
       })
       (λ c v. (
-        limits→head rowsBelowLimit one-row few-rows (c .head) (v .head) (le→leb _ 256 (v .rowCount)),
+        limits→head rowsInLimit one-row few-rows (c .head) (v .head) (le→leb _ 256 (v .rowCount)),
         (
           permits→fits (c .head) (words-below _ _ (v .head .words)) (and-l (permitted (c .head)) (certified c) (v .accepted)),
           (all→each (c .head) (wrongContinuations (c .head .events) (c .head .log)) [] (c .certificates) (v .certificates) (and-r (permitted (c .head)) (certified c) (v .accepted)), refl),
         ),
       ))
     where
-      certificates : (h : Head) → HeadValid rowsBelowLimit h → Law b (certificate h) certificateBytes (CertificateInLimits h)
-      certificates h v = law-certificate b bytes h (v .events .1) (leb→le _ 256 (head→limits rowsBelowLimit one-row few-rows h v .1)) (v .placesSize)
+      certificates : (h : Head) → HeadValid rowsInLimit h → Law b (certificate h) certificateBytes (CertificateInLimits h)
+      certificates h v = law-certificate b bytes h (v .events .1) (leb→le _ 256 (head→limits rowsInLimit one-row few-rows h v .1)) (v .placesSize)
 
   -- ---- the whole bundle
 

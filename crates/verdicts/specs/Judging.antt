@@ -22,8 +22,8 @@ use Rattle.verdicts.specs.declared.Verdict.the-variants.{Accepted, Refus
 -- ---- Reading a bundle to its end
 
 -- the rows do not pass 256
-abbrev pub rowsBelowLimit : ℕ → Log → Bool
-rowsBelowLimit n log = leb (length (rows n log)) MAX-ROWS
+abbrev pub rowsInLimit : ℕ → Log → Bool
+rowsInLimit n log = leb (length (rows n log)) MAX-ROWS
 
 -- the refusal of a certificate that does not solve its step
 unfoldable pub unsolved : CertificateFields → ℕ
@@ -50,8 +50,9 @@ afterHead h = do
 
 -- a bundle's fields
 unfoldable pub contents : Reader Contents
-contents = head rowsBelowLimit >>= afterHead
+contents = head rowsInLimit >>= afterHead
 
+-- and nothing more
 unfoldable pub judging : Reader Contents
 judging = do
   c ← contents
@@ -60,6 +61,7 @@ judging = do
 
 -- ---- The verdict
 
+-- the definitions' counts, as a verdict has them
 abbrev pub countsOf : Tally → Counts
 countsOf t = record { rows = t .rowCount; allowed = t .allowedCount; «by_place» = t .byPlaceCount; «by_weights» = t .byWeightsCount }
 

@@ -1,3 +1,3 @@
 pub mod Judging
 pub mod Acceptance
-pub mod Order
+pub mod RefusalNumbers

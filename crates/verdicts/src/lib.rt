@@ -1,4 +1,4 @@
-// Judging a bundle.
+// The verdict on a bundle, and its four counts. Judging itself is crate judging.
 use refusals::Refusal;
 
 // The four counts of an accepted bundle: rows, allowed steps, kind 0 and kind 1 certificates.

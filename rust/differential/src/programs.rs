@@ -5,6 +5,7 @@
 
 use std::env;
 use std::ffi::OsStr;
+use std::fs::File;
 use std::io::{ErrorKind, Write};
 use std::path::{Path, PathBuf};
 use std::process::{Command, Stdio};
@@ -50,20 +51,18 @@ pub fn command<A: AsRef<OsStr>>(name: &str, arguments: &[A]) -> Command {
     command
 }
 
-/// Runs a program with this standard input, in pieces of this many bytes.
-///
-/// # Panics
-///
-/// When it does not end by itself with status 0, the only one that it has.
-pub fn run_in_pieces<A: AsRef<OsStr>>(
+/// Runs a program with this standard input, in pieces of this many bytes, and this
+/// standard output, of which all is returned where it is a pipe.
+fn run_to<A: AsRef<OsStr>>(
     name: &str,
     arguments: &[A],
     input: &[u8],
     piece: usize,
+    output: Stdio,
 ) -> Done {
     let mut running = command(name, arguments)
         .stdin(Stdio::piped())
-        .stdout(Stdio::piped())
+        .stdout(output)
         .stderr(Stdio::piped())
         .spawn()
         .expect("the program starts");
@@ -84,7 +83,32 @@ pub fn run_in_pieces<A: AsRef<OsStr>>(
     }
 }
 
+/// Runs a program with this standard input, in pieces of this many bytes.
+///
+/// # Panics
+///
+/// When it does not end by itself with status 0, the only one that it has.
+pub fn run_in_pieces<A: AsRef<OsStr>>(
+    name: &str,
+    arguments: &[A],
+    input: &[u8],
+    piece: usize,
+) -> Done {
+    run_to(name, arguments, input, piece, Stdio::piped())
+}
+
 /// Runs a program with this standard input.
 pub fn run<A: AsRef<OsStr>>(name: &str, arguments: &[A], input: &[u8]) -> Done {
     run_in_pieces(name, arguments, input, input.len().max(1))
+}
+
+/// Runs a program with this standard input and a standard output that takes
+/// nothing, and returns what it wrote to standard error.
+///
+/// # Panics
+///
+/// As [`run_in_pieces`] does, and when there is no `/dev/full`.
+pub fn errors_when_full<A: AsRef<OsStr>>(name: &str, arguments: &[A], input: &[u8]) -> String {
+    let full = File::create("/dev/full").expect("a device that is full");
+    run_to(name, arguments, input, input.len().max(1), full.into()).errors
 }

@@ -5,7 +5,7 @@ use differential::faults::BlockFault;
 use differential::files::build;
 use differential::limits::{LARGEST, MOST_WORDS};
 use differential::nets::small_certified;
-use differential::programs::{command, path, run_in_pieces, MAX_FILE};
+use differential::programs::{command, errors_when_full, path, run, run_in_pieces, MAX_FILE};
 use differential::rng::Rng;
 use differential::run::{refusal, Run};
 use differential::{samples, vectors};
@@ -90,6 +90,17 @@ fn failed_read() {
         .expect("the program ends");
     assert_eq!(String::from_utf8_lossy(&done.stdout), "refused 1 0\n");
     assert!(!done.stderr.is_empty(), "a word on standard error");
+}
+
+/// A line that was not written whole is told from one that was.
+#[test]
+fn failed_write() {
+    for input in [build(&SAMPLE_A), build(&SAMPLE_F), vec![]] {
+        assert_eq!(run::<&str>("judge", &[], &input).errors, "");
+        let errors = errors_when_full::<&str>("judge", &[], &input);
+        assert!(errors.starts_with("standard output: "), "{errors}");
+        assert_eq!(errors.lines().count(), 1, "{errors}");
+    }
 }
 
 /// The same file in pieces of every kind of size.

@@ -3,7 +3,7 @@
 use differential::bundles::{SAMPLE_A, SAMPLE_H};
 use differential::faults::{BlockFault, LengthFault};
 use differential::files::{build, random_bundle, Filling, MAX_BUNDLE};
-use differential::programs::{command, path, run, run_in_pieces, Done, MAX_FILE};
+use differential::programs::{command, errors_when_full, path, run, run_in_pieces, Done, MAX_FILE};
 use differential::rng::Rng;
 use differential::run::{refusal, Outcome, Run};
 use differential::screening::{any_net, Kind, MAX_WORD};
@@ -54,6 +54,12 @@ fn expect_message(done: &Done, words: &str) {
     assert!(done.errors.contains(words), "{words}: {done:?}");
     assert_eq!(done.errors.lines().count(), 1, "{done:?}");
     assert!(done.errors.ends_with('\n'), "{done:?}");
+}
+
+/// Checks that this is the message about a standard output that is full.
+fn expect_full(errors: &str) {
+    assert!(errors.starts_with("standard output: "), "{errors}");
+    assert_eq!(errors.lines().count(), 1, "{errors}");
 }
 
 /// A file with these bytes, of a name that no other test uses.
@@ -240,19 +246,25 @@ fn failed_read() {
     }
 }
 
-/// A result that was not written whole is told from one that was.
+/// An answer that was not written whole is told from one that was.
 #[test]
 fn failed_write() {
-    for (name, input) in [("seal", SAMPLE_A.to_vec()), ("unseal", build(&SAMPLE_A))] {
-        assert_eq!(run(name, &NO_ARGUMENTS, &input).errors, "");
-        let given = written(&format!("full.{name}"), &input);
-        let done = command(name, &NO_ARGUMENTS)
-            .stdin(File::open(given).expect("the input opens"))
-            .stdout(File::create("/dev/full").expect("a device that is full"))
-            .output()
-            .expect("the program ends");
-        let errors = String::from_utf8(done.stderr).expect("text");
-        assert!(errors.starts_with("standard output: "), "{name}: {errors}");
+    let a = sample("a.sealed");
+    let a = a.to_str().expect("a name in text");
+    for (name, arguments, input) in [
+        ("seal", vec![], SAMPLE_A.to_vec()),
+        ("unseal", vec![], build(&SAMPLE_A)),
+        ("screen", vec![a, "0", "1"], vec![]),
+        ("screen", vec![a, "0", "0", "0"], vec![]),
+        ("screen", vec![a, "2"], vec![]),
+    ] {
+        assert_eq!(run(name, &arguments, &input).errors, "");
+        expect_full(&errors_when_full(name, &arguments, &input));
+    }
+    // A refusal's line still goes to standard error.
+    for (name, line) in [("seal", "refused 4 0\n"), ("unseal", "refused 1 0\n")] {
+        let errors = errors_when_full(name, &NO_ARGUMENTS, &[]);
+        expect_full(errors.strip_suffix(line).expect("the line"));
     }
 }
 

@@ -7,7 +7,8 @@ use native.Mathlib.Omega.{arith}
 use borrow.Author.Tests.{not-true, not-false}
 use lib.ListN.{length}
 use Rattle.refusals.specs.Laws.{ends-refused, ends-short, ends-written}
-use Rattle.block.specs.File.{blocksFor, rightSize, sealedFile}
+use Rattle.refusals.specs.Table.{rightSize}
+use Rattle.block.specs.File.{blocksFor, sealedFile}
 use Rattle.block.specs.SealLaws.{rightSize-bounds, sealed-length, sealed-file, length-sealedFile}
 use Rattle.block.proofs.seal.Statement.{statement}
 use Rattle.block.proofs.seal.Tie as tie

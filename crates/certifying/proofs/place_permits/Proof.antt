@@ -7,7 +7,7 @@ use borrow.Author.Needs.{needs}
 use lib.IntN.{ℤ, pos, subℕ, _-ℤ_}
 use lib.Signed.{nonNeg}
 use mir.Syntax.{w64}
-use mir.Val.{toZ}
+use mir.Val.{toZ, ofZ}
 use mir.Facts.{toZ-ofZ}
 use Rattle.nets.proofs.Signed.{difference-fits, minus}
 use Rattle.certifying.specs.PlaceTests.{Tested, tested-start, tested-next, tested-done}
@@ -40,27 +40,36 @@ loop-again c =
     (omega arith, tested-next _ _ _ (loop .loop .inv .1) (count .before .before .loop-test .taken) (count .wide .ensures) (c .before .number-at2 .ensures) (c .number-at3 .ensures))
 
 -- the sums are far from the bounds of an `i64`
-few : (c : tie.After-loop Inv-loop μ-loop) → (c .before .loop .given < 2 ^ 63) × (c .before .loop .taken < 2 ^ 63)
+few : (c : tie.After-loop Inv-loop μ-loop) → (c .before .loop .given < 2 ^ 62) × (c .before .loop .taken < 2 ^ 62)
 few c =
     let loop = c .before .loop in
     let start = c .before .before .before .before .before in
     (omega (arith, loop .inv .1 .few .0, loop .inv .0, start .pre .0), omega (arith, loop .inv .1 .few .1, loop .inv .0, start .pre .0))
 
 cast-tokens : tie.Need-cast-tokens Inv-loop μ-loop
-cast-tokens c = record { sfits = few c .0 }
+cast-tokens c = record { sfits = omega (arith, few c .0) }
 
 cast-tokens-2 : tie.Need-cast-tokens-2 Inv-loop μ-loop
-cast-tokens-2 c = record { sfits = few c .1 }
+cast-tokens-2 c = record { sfits = omega (arith, few c .1) }
 
 -- what the loop left, as signed numbers
 tokens : (c : tie.After-loop Inv-loop μ-loop) → toZ w64 (c .before .loop .given) -ℤ toZ w64 (c .before .loop .taken) ≡ subℕ (c .before .loop .given) (c .before .loop .taken)
-tokens c = minus (c .before .loop .given) (c .before .loop .taken) (few c .0) (few c .1)
+tokens c = minus (c .before .loop .given) (c .before .loop .taken) (omega (arith, few c .0)) (omega (arith, few c .1))
 
 sub-tokens : tie.Need-sub-tokens Inv-loop μ-loop
-sub-tokens c = rw (tokens c) (difference-fits (c .before .loop .given) (c .before .loop .taken) (few c .0) (few c .1))
+sub-tokens c = rw (tokens c) (difference-fits (c .before .loop .given) (c .before .loop .taken) (omega (arith, few c .0)) (omega (arith, few c .1)))
+
+-- the tokens, read back from their bits
+back : (c : tie.After-loop Inv-loop μ-loop) → toZ w64 (ofZ w64 (toZ w64 (c .before .loop .given) -ℤ toZ w64 (c .before .loop .taken))) ≡ subℕ (c .before .loop .given) (c .before .loop .taken)
+back c = toZ-ofZ (sub-tokens c) ∙ tokens c
 
 cast-covers : tie.Need-cast-covers Inv-loop μ-loop
 cast-covers c = record { fits = c .number-at4 .ensures .1 }
+
+covers-requires : tie.Need-covers-requires Inv-loop μ-loop
+covers-requires c κs =
+    let done = c .before in
+    record { plus = done .before .loop .given; minus = done .before .loop .taken; is = back done; far = few done }
 
 returns : tie.Need-returns Inv-loop μ-loop
 returns c =
@@ -68,7 +77,7 @@ returns c =
     let done = read .before in
     let start = done .before .before .before .before .before in
     c .covers .ensures
-    ∙ ap (λ (z : ℤ). nonNeg (z -ℤ pos (read .number-at4 .result))) (toZ-ofZ (sub-tokens done) ∙ tokens done)
+    ∙ ap (λ (z : ℤ). nonNeg (z -ℤ pos (read .number-at4 .result))) (back done)
     ∙ tested-done _ _ _ (done .before .loop .inv .1) (done .loop-test .left) (done .before .loop .inv .0) (start .args .event) (start .pre .1) (read .number-at4 .ensures .0)
 
 pub place-permits-spec : {M : Type 1} → statement M
@@ -105,5 +114,5 @@ place-permits-spec =
     (λ c. omega arith)
     (λ c κs. omega arith)
     cast-covers
-    (λ c κs. search needs)
+    covers-requires
     returns)

@@ -20,8 +20,6 @@ write-answer-spec =
     (λ c. search needs)
     slice-aggregate-write-all
     (λ c κs. search needs)
-    (λ c. search needs)
     (λ c κs. search needs)
-    (λ c. search needs)
     (λ c. search needs)
     (λ c. search needs))

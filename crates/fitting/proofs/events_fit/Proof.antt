@@ -1,5 +1,5 @@
 -- `fitting::events_fit` meets its contract. The invariant: `fit` says whether the events below e fit.
-use mathlib.Core.Path.{sym, ap, _∙_}
+use mathlib.Core.Path.{sym, ap, _∙_, subst}
 use Prim.Native.Nat.{_-_, _≤_}
 use native.Mathlib.Omega.{arith}
 use borrow.Author.Needs.{needs}
@@ -7,7 +7,7 @@ use lib.IntN.{ℤ}
 use mir.Syntax.{w64}
 use mir.Val.{toZ}
 use mir.Facts.{toZ-ofZ}
-use Rattle.nets.specs.Machine.{COUNTS}
+use Rattle.nets.specs.Machine.{COUNTS, Held}
 use Rattle.fitting.specs.Fitting.{eventsFit}
 use Rattle.fitting.specs.FittingLaws.{EventsBelow, events-start, events-next, events-end}
 use Rattle.fitting.proofs.events_fit.Statement.{statement}
@@ -21,6 +21,11 @@ abbrev μ-loop : tie.MeasureT-loop
 
 loop-holds : tie.Need-loop-holds Inv-loop μ-loop
 loop-holds c = (search needs, events-start _ _ _)
+
+covers-requires : tie.Need-covers-requires Inv-loop μ-loop
+covers-requires c κs =
+    let start = c .before .before .before in
+    subst Held (sym (toZ-ofZ (start .fits .tokens))) (start .pre)
 
 loop-again : tie.Need-loop-again Inv-loop μ-loop
 loop-again c =
@@ -43,7 +48,7 @@ events-fit-spec =
     (λ c κs. search needs)
     (λ c. search needs)
     (λ c. search needs)
-    (λ c κs. search needs)
+    covers-requires
     (λ c. search needs)
     (λ c. search needs)
     loop-again

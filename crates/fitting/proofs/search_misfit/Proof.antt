@@ -2,22 +2,20 @@
 use mathlib.Core.Path.{_≡_, sym, ap, _∙_}
 use mathlib.Core.Bool.{Bool}
 use mathlib.Core.List.{List, []}
-use Prim.Native.Nat.{ℕ, _+_, _*_, _-_, _≤_, _<_}
-use native.Mathlib.Nat.{zero-add, zero-mul, suc-mul}
-use native.Mathlib.Numerals.{add-one}
+use Prim.Native.Nat.{ℕ, _+_, _-_, _<_}
+use native.Mathlib.Nat.{zero-add}
 use native.Mathlib.Omega.{arith}
 use borrow.Author.Needs.{needs}
 use borrow.Author.Tests.{not-true, not-false}
 use lib.ListN.{length, getD, drop}
 use Rattle.laws.specs.Scans.{firstFailing, failing-here, failing-again, failing-end}
-use Rattle.nets.specs.declared.Place.{Place}
-use Rattle.nets.specs.Machine.{placeOf}
+use Rattle.nets.specs.Nets.{Place}
 use Rattle.bundles.specs.Layout.{PlaceFields, toPlace}
-use Rattle.bundles.specs.NumberSteps.{itemsAt, items-length}
-use Rattle.bundles.specs.PlaceSteps.{placeSize, fieldsAt, place-inside}
+use Rattle.bundles.specs.NumberSteps.{itemsAt, items-length, getD-items}
+use Rattle.bundles.specs.PlaceSteps.{placeSize, fieldsAt}
 use Rattle.logs.specs.Rows.{rowsOf}
 use Rattle.fitting.specs.Fitting.{fitsRows}
-use Rattle.fitting.specs.FittingLaws.{place-fits}
+use Rattle.fitting.proofs.Places.{Next, next-start, next-is, next-inside, next-again}
 use Rattle.fitting.proofs.search_misfit.Statement.{statement}
 use Rattle.fitting.proofs.search_misfit.Tie as tie
 
@@ -35,30 +33,21 @@ none = record { initial = 0; produced = []; consumed = [] }
 
 abbrev Inv-loop : tie.InvT-loop
 Inv-loop bundle n table rows size count at₀ j₀ at j =
-    (j ≤ count)
-    × (at ≡ at₀ + 2 * (j * placeSize n))
+    Next n at₀ count at j
     × (firstFailing (test rows table) (items n count bundle at₀) ≡ j + firstFailing (test rows table) (drop j (items n count bundle at₀)))
 
 abbrev μ-loop : tie.MeasureT-loop
 μ-loop bundle n table rows size count at₀ j₀ at j = count - j
 
-loop-holds : tie.Need-loop-holds Inv-loop μ-loop
-loop-holds c = (search needs, omega (arith, zero-mul (placeSize (c .before .before .args .n))), rw zero-add)
-
--- the place of a turn is there
-inside : (c : tie.In-loop Inv-loop μ-loop)
-    → let args = c .before .before .before .before .args in
-    c .before .loop .at + 2 * placeSize (args .n) ≤ length (args .bundle .now)
-inside c =
-    let start = c .before .before .before .before in
-    let loop = c .before .loop in
-    omega (arith, place-inside (start .args .n) (start .args .places .first) (start .args .places .count) (loop .j) (length (start .args .bundle .now)) (c .loop-test .taken) (start .pre .1), loop .inv .1)
-
 place-at-requires : tie.Need-place-at-requires Inv-loop μ-loop
-place-at-requires c κs = (c .before .before .before .before .pre .0, inside c)
+place-at-requires c κs =
+    let start = c .before .before .before .before in
+    (start .pre .0, next-inside (c .before .loop .inv .0) (c .loop-test .taken) (start .pre .1))
 
 add-at : tie.Need-add-at Inv-loop μ-loop
-add-at c = omega (arith, inside (c .before .before .before))
+add-at c =
+    let turn = c .before .before .before in
+    omega (arith, next-inside (turn .before .loop .inv .0) (turn .loop-test .taken) (turn .before .before .before .before .pre .1))
 
 -- the place of a turn is place j of the bundle, and is tested
 tested : (c : tie.After-fits2 Inv-loop μ-loop)
@@ -68,10 +57,8 @@ tested : (c : tie.After-fits2 Inv-loop μ-loop)
 tested c =
     let at = c .before .before .before in
     let args = at .before .before .before .args in
-    place-fits (args .n) (args .bundle .now) (args .places .first) (args .places .count) (at .loop .j) (c .before .before .loop-test .taken)
-    (rowsOf (args .rows) (args .table .now)) (at .loop .at) none (at .loop .inv .1)
-    ∙ ap (λ (q : Place). fitsRows (placeOf q) (rowsOf (args .rows) (args .table .now))) (sym (c .before .place-at .ensures))
-    ∙ sym (c .fits2 .ensures)
+    let listed = getD-items (placeSize (args .n)) (fieldsAt (args .n)) (args .places .count) (args .bundle .now) (args .places .first) (at .loop .j) none (c .before .before .loop-test .taken) in
+    ap (λ (p : Place). fitsRows p (rowsOf (args .rows) (args .table .now))) (ap toPlace listed ∙ sym (next-is (at .loop .inv .0) (args .bundle .now) (c .before .place-at .ensures))) ∙ sym (c .fits2 .ensures)
 
 -- place j is one of the bundle's
 listed : (c : tie.In-loop Inv-loop μ-loop)
@@ -85,15 +72,14 @@ returns : tie.Need-returns Inv-loop μ-loop
 returns c =
     let turn = c .before .before .before in
     let at = turn .before in
-    sym (failing-here _ none _ (at .loop .j) (listed turn) (at .loop .inv .2) (tested (c .before) ∙ not-true _ (c .if1 .taken)))
+    sym (failing-here _ none _ (at .loop .j) (listed turn) (at .loop .inv .1) (tested (c .before) ∙ not-true _ (c .if1 .taken)))
 
 loop-again : tie.Need-loop-again Inv-loop μ-loop
 loop-again c =
     let turn = c .before .before .before in
     let at = turn .before in (
-      omega arith,
-      omega (arith, at .loop .inv .1, suc-mul (at .loop .j) (placeSize (at .before .before .before .args .n)), add-one (at .loop .j)),
-      failing-again _ none _ (at .loop .j) (listed turn) (at .loop .inv .2) (tested (c .before) ∙ not-false _ (c .if1 .left)),
+      next-again (at .loop .inv .0) (turn .loop-test .taken),
+      failing-again _ none _ (at .loop .j) (listed turn) (at .loop .inv .1) (tested (c .before) ∙ not-false _ (c .if1 .left)),
     )
 
 returns-2 : tie.Need-returns-2 Inv-loop μ-loop
@@ -102,7 +88,7 @@ returns-2 c =
     let args = at .before .before .before .args in
     let size = items-length (placeSize (args .n)) (fieldsAt (args .n)) (args .places .count) (args .bundle .now) (args .places .first) in
     let end : at .loop .j ≡ args .places .count = omega arith in
-    sym (failing-end _ (items (args .n) (args .places .count) (args .bundle .now) (args .places .first)) (at .loop .j) (at .loop .inv .2) (omega arith) ∙ end)
+    sym (failing-end _ (items (args .n) (args .places .count) (args .bundle .now) (args .places .first)) (at .loop .j) (at .loop .inv .1) (omega arith) ∙ end)
 
 pub search-misfit-spec : {M : Type 1} → statement M
 search-misfit-spec =
@@ -113,7 +99,7 @@ search-misfit-spec =
     (λ c. search needs)
     (λ c. search needs)
     (λ c. search needs)
-    loop-holds
+    (λ c. (next-start _ _ _, rw zero-add))
     place-at-requires
     (λ c κs. search needs)
     returns

@@ -6,7 +6,7 @@ use Rattle.bundles.specs.Reading.{got, byte}
 use Rattle.bundles.specs.Readers.{anything}
 use Rattle.bundles.specs.FieldSteps.{readOf}
 use Rattle.bundles.specs.HeadSteps.{after-failed}
-use Rattle.verdicts.specs.Judging.{rowsBelowLimit}
+use Rattle.verdicts.specs.Judging.{rowsInLimit}
 use Rattle.heads.specs.Taken.{AllTaken}
 use Rattle.heads.specs.Heads.{log-refused, places-missing, places-taken}
 use Rattle.heads.proofs.take_after.Statement.{statement}
@@ -19,7 +19,7 @@ counted c = sym (c .before .before .any-byte .ensures) ∙ ap readOf (c .count .
 
 returns : tie.Need-returns
 unfolding readOf
-returns c = (after-failed rowsBelowLimit _ _ _ (sym (c .before .before .before .any-byte .ensures) ∙ ap readOf (c .before .refusal .given .1)), refl)
+returns c = (after-failed rowsInLimit _ _ _ (sym (c .before .before .before .any-byte .ensures) ∙ ap readOf (c .before .refusal .given .1)), refl)
 
 returns-2 : tie.Need-returns-2
 returns-2 c =

@@ -6,7 +6,7 @@ use denote.Ref.{now}
 use Rattle.bundles.specs.Reading.{got, byte}
 use Rattle.bundles.specs.FieldSteps.{readOf, between, between-true, byte-got}
 use Rattle.bundles.specs.HeadSteps.{head-failed}
-use Rattle.verdicts.specs.Judging.{rowsBelowLimit}
+use Rattle.verdicts.specs.Judging.{rowsInLimit}
 use Rattle.heads.specs.Heads.{head-whole}
 use Rattle.heads.proofs.take_head.Statement.{statement}
 use Rattle.heads.proofs.take_head.Tie as tie
@@ -24,7 +24,7 @@ take-after-requires c κs =
 
 returns : tie.Need-returns
 unfolding readOf
-returns c = (head-failed rowsBelowLimit _ (sym (c .before .before .before .byte-between .ensures) ∙ ap readOf (c .before .refusal .given .1)), refl)
+returns c = (head-failed rowsInLimit _ (sym (c .before .before .before .byte-between .ensures) ∙ ap readOf (c .before .refusal .given .1)), refl)
 
 returns-2 : tie.Need-returns-2
 returns-2 c =

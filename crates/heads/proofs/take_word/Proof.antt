@@ -1,24 +1,24 @@
 -- `heads::take_word` meets its contract: the word's tests are those of `word`, and its rows are taken where there is room.
 use mathlib.Core.Path.{_≡_, sym, ap, _∙_}
-use Prim.Native.Nat.{_-_, _≤_, _<_}
+use Prim.Native.Nat.{_≤_}
 use native.Mathlib.Omega.{arith}
 use borrow.Author.Needs.{needs}
-use borrow.Author.Tests.{leb-true, leb-false, not-true, not-false}
 use denote.Ref.{now}
-use lib.ListN.{length}
+use lib.ListN.{length, length-take}
 use Rattle.nets.specs.Events.{EventsBelow}
 use Rattle.nets.specs.Machine.{COUNTS}
-use Rattle.logs.specs.Rows.{rowsOf, newRows, none}
-use Rattle.logs.specs.Answers.{MAX-ROWS, MAX-EVENTS}
+use Rattle.logs.specs.Answers.{MAX-LOG-EVENTS}
+use Rattle.logs.specs.IndexLaws.{index-taken}
 use Rattle.bundles.specs.FieldSteps.{readOf}
-use Rattle.heads.specs.Taken.{WordRead, word-read, word-refused, no-room, room-size, word-taken}
+use Rattle.bundles.specs.WordSteps.{eventsAt}
+use Rattle.heads.specs.Taken.{WordRead, word-read, word-refused, no-room, word-taken}
 use Rattle.heads.proofs.take_word.Statement.{statement}
 use Rattle.heads.proofs.take_word.Tie as tie
 
 -- the word that was read
-read : (c : tie.After-size) → let a = c .before .before .before .before .before .args in WordRead (a .n) (a .events) (now (a .bundle)) (a .at) (c .size .given .0 .0) (c .size .given .0 .1 .0)
+read : (c : tie.After-size) → let a = c .before .before .before .before .before .before .before .args in WordRead (a .n) (a .events) (now (a .bundle)) (a .at) (c .size .given .0 .0) (c .size .given .0 .1 .0)
 unfolding readOf
-read c = word-read _ _ _ _ _ _ (c .before .before .before .before .before .pre .0) (sym (c .before .before .read-word .ensures) ∙ ap readOf (c .size .given .1))
+read c = word-read _ _ _ _ _ _ (c .before .before .before .before .before .before .before .pre .0) (sym (c .before .before .read-word .ensures) ∙ ap readOf (c .size .given .1))
 
 -- it is the part of the bundle that was taken out
 word : (c : tie.After-word-at) → now (c .word-at .result) ≡ read (c .before .before) .w
@@ -27,55 +27,55 @@ word c = c .word-at .ensures ∙ read (c .before .before) .part
 word-at-requires : tie.Need-word-at-requires
 word-at-requires c κs = read (c .before) .within
 
-short : (c : tie.After-word-at) → length (now (c .word-at .result)) ≤ MAX-EVENTS
+short : (c : tie.After-word-at) → length (now (c .word-at .result)) ≤ MAX-LOG-EVENTS
 short c = omega (arith, ap length (word c), read (c .before .before) .limit)
+
+-- its length is a byte
+byte : (c : tie.After-word-at) → length (now (c .word-at .result)) ≤ 255
+unfolding eventsAt
+byte c =
+    let first = c .before .before .before .before .before .before .before .before in
+    let start = first .before in
+    rw (c .word-at .ensures, length-take) (omega (arith, first .shared-slice-known .given (start .args .at)))
 
 below : (c : tie.After-word-at) → EventsBelow COUNTS (now (c .word-at .result))
 below c = rw (word c) (read (c .before .before) .below)
 
-has-room-requires : tie.Need-has-room-requires
-has-room-requires c κs =
-    let p = c .before .before .before .before .before .before .before .before .pre in
-    (p .1, (omega (arith, p .1, p .3), short (c .before), below (c .before)))
+add-word-requires : tie.Need-add-word-requires
+add-word-requires c κs =
+    let d = c .before .before .before in
+    let p = d .before .before .before .before .before .before .before .before .before .pre in
+    (p .1, p .3, short d, below d, p .6, omega (arith, p .5, byte d))
 
 returns : tie.Need-returns
-returns c log t₀ h =
-    let call = c .before in
-    let start = call .before .before .before .before .before .before .before .before .before in
-    let a = start .args in
-    let more : MAX-ROWS - a .rows < newRows (rowsOf (a .rows) (now (a .table))) none (now (call .before .before .word-at .result)) = leb-false _ _ (sym (call .has-room .ensures) ∙ not-true _ (c .if1 .taken)) in
-    (no-room h (start .pre .0) _ _ (read (call .before .before .before .before)) (rw (word (call .before .before)) at more), h)
+returns c =
+    let call = c .before .before .before .before .before in
+    let d = call .before .before .before .before in
+    (λ log t₀ h. no-room h (d .before .before .before .before .before .before .before .before .before .pre .0) _ _ (read (d .before .before)) _ _ (rw (word d) at (call .add-word .ensures)) (c .if1 .taken), tt)
 
--- there is room for its rows
-room : (c : tie.Else1) → let a = c .before .before .before .before .before .before .before .before .before .before .args in
-    newRows (rowsOf (a .rows) (now (a .table))) none (now (c .before .before .before .word-at .result)) ≤ MAX-ROWS - a .rows
-room c = leb-true _ _ (sym (c .before .has-room .ensures) ∙ not-false _ (c .if1 .left))
+index-rows-requires : tie.Need-index-rows-requires
+index-rows-requires c κs =
+    let e = c .before .before in
+    let call = e .before .before .before .before .before in
+    let p = call .before .before .before .before .before .before .before .before .before .before .before .before .before .pre in
+    let a = call .add-word .ensures in
+    (omega (arith, a .size), e .if1 .left, p .4, omega (arith, e .if1 .left, call .add-word .kept .0, p .3), index-taken _ _ _ _ _ _ (a .fits (e .if1 .left)) (p .6))
 
-write-word-requires : tie.Need-write-word-requires
-write-word-requires c κs =
-    let d = c .before .before .before .before in
-    let start = d .before .before .before .before .before .before .before in
-    let a = start .args in
-    let p = start .pre in
-    let few = room-size (a .rows) (now (a .table)) (now (d .word-at .result)) (p .1) (below d) (room (c .before)) in
-    (short d, below d, omega (arith, p .1, p .3), omega (arith, p .3, few))
-
-add-t21 : tie.Need-add-t21
-add-t21 c = omega (arith, read (c .before .before .before .before .before .before .before .before .before) .limit, read (c .before .before .before .before .before .before .before .before .before) .size)
+add-t29 : tie.Need-add-t29
+add-t29 c = let r = read (c .before .before .before .before .before .before .before .before .before .before .before .before .before .before .before .before) in omega (arith, r .limit, r .size)
 
 returns-2 : tie.Need-returns-2
 unfolding readOf
-returns-2 c log t₀ h =
+returns-2 c =
     let call = c .before .before .before in
-    (word-refused h (call .before .before .before .pre .0) _ _ (sym (call .read-word .ensures) ∙ ap readOf (c .before .refusal .given .1)), h)
+    (λ log t₀ h. (word-refused h (call .before .before .before .before .before .pre .0) _ _ (sym (call .read-word .ensures) ∙ ap readOf (c .before .refusal .given .1)), h), tt)
 
 returns-3 : tie.Need-returns-3
-returns-3 c log t₀ h =
-    let call = c .before .before in
-    let d = call .before .before in
-    let w = d .before .before .before in
-    let p = w .before .before .before .before .before .before .before .pre in
-    word-taken h (p .0) _ _ (read (w .before .before)) (rw (word w) at (room d)) _ _ (call .write-word .kept .0) (rw (word w) at (call .write-word .ensures))
+returns-3 c =
+    let e = c .before .before .before .before .before in
+    let call = e .before .before .before .before .before in
+    let d = call .before .before .before .before in
+    (λ log t₀ h. word-taken h (d .before .before .before .before .before .before .before .before .before .pre .0) _ _ (read (d .before .before)) _ _ (rw (word d) at (call .add-word .ensures)) (e .if1 .left) (call .add-word .kept .0), c .before .before .index-rows .ensures)
 
 pub take-word-spec : {M : Type 1} → statement M
 take-word-spec =
@@ -85,11 +85,15 @@ take-word-spec =
     (λ c. search needs)
     (λ c. search needs)
     word-at-requires
-    has-room-requires
+    add-word-requires
+    (λ c. search needs)
+    (λ c. search needs)
     (λ c. search needs)
     returns
-    write-word-requires
-    add-t21
+    index-rows-requires
+    add-t29
     returns-2
+    (λ c. search needs)
+    (λ c. search needs)
     (λ c. search needs)
     returns-3)

@@ -8,21 +8,21 @@ use Rattle.bundles.specs.HeadSteps.{HeadAt, kept-of}
 use Rattle.bundles.specs.declared.Head as declared
 use Rattle.heads.specs.Heads.{HeadIs}
 use Rattle.heads.specs.declared.HeadTaken.the-variants as head-taken
-use Rattle.verdicts.specs.Judging.{rowsBelowLimit, verdictOn}
+use Rattle.verdicts.specs.Judging.{rowsInLimit, verdictOn}
 use Rattle.judging.specs.Steps.{judging-failed, judging-got, head-held, table-left, table-refused}
 use Rattle.judging.proofs.judge_fields.Statement.{statement}
 use Rattle.judging.proofs.judge_fields.Tie as tie
 
 -- the head that was taken
 taken : (c : tie.After-head) → let start = c .before .before .before .before .before .before .before .before in
-    HeadIs (head rowsBelowLimit (now (start .args .bundle)) 0) (now (start .args .table)) (c .before .before .before .before .take-head .last .1 .0) (head-taken.Taken (c .head .given .0 .0) (c .head .given .0 .1 .0))
+    HeadIs (head rowsInLimit (now (start .args .bundle)) 0) (now (start .args .table)) (c .before .before .before .before .take-head .last .1 .0) (head-taken.Taken (c .head .given .0 .0) (c .head .given .0 .1 .0))
 taken c =
     let start = c .before .before .before .before .before .before .before .before in
-    subst (HeadIs (head rowsBelowLimit (now (start .args .bundle)) 0) (now (start .args .table)) (c .before .before .before .before .take-head .last .1 .0)) (c .head .given .1) (c .before .before .before .before .take-head .ensures)
+    subst (HeadIs (head rowsInLimit (now (start .args .bundle)) 0) (now (start .args .table)) (c .before .before .before .before .take-head .last .1 .0)) (c .head .given .1) (c .before .before .before .before .take-head .ensures)
 
 -- what the code keeps of it
-kept : (c : tie.After-head) → HeadAt rowsBelowLimit (now (c .before .before .before .before .before .before .before .before .args .bundle)) (c .head .given .0 .0) (taken c .0)
-kept c = subst (λ (k : declared.Head). HeadAt rowsBelowLimit (now (c .before .before .before .before .before .before .before .before .args .bundle)) k (taken c .0)) (sym (taken c .3)) (kept-of rowsBelowLimit _ (taken c .0) (taken c .1) (taken c .2))
+kept : (c : tie.After-head) → HeadAt rowsInLimit (now (c .before .before .before .before .before .before .before .before .args .bundle)) (c .head .given .0 .0) (taken c .0)
+kept c = subst (λ (k : declared.Head). HeadAt rowsInLimit (now (c .before .before .before .before .before .before .before .before .args .bundle)) k (taken c .0)) (sym (taken c .3)) (kept-of rowsInLimit _ (taken c .0) (taken c .1) (taken c .2))
 
 judge-net-requires : tie.Need-judge-net-requires
 judge-net-requires c κs =
@@ -38,7 +38,7 @@ returns c =
     let call = c .before .before .before .before .before in
     let start = call .before .before .before .before in
     let b = now (start .args .bundle) in
-    let a = subst (HeadIs (head rowsBelowLimit b 0) (now (start .args .table)) (call .take-head .last .1 .0)) (c .before .refusal .given .1) (call .take-head .ensures) in
+    let a = subst (HeadIs (head rowsInLimit b 0) (now (start .args .table)) (call .take-head .last .1 .0)) (c .before .refusal .given .1) (call .take-head .ensures) in
     (sym (ap verdictOn (judging-failed b (a .0))), table-refused b (a .0) (now (start .args .table)) (call .take-head .last .1 .0) (a .1))
 
 returns-2 : tie.Need-returns-2

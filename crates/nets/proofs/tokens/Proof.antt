@@ -1,5 +1,5 @@
 -- `nets::tokens` meets its contract. The loop's invariant: `total` is what the place holds after the events below `i`.
-use mathlib.Core.Path.{_≡_, sym, ap, ap₂, _∙_}
+use mathlib.Core.Path.{_≡_, sym, ap, ap₂, _∙_, subst}
 use Prim.Native.Nat.{ℕ, _+_, _-_, _≤_}
 use native.Mathlib.Omega.{arith}
 use borrow.Author.Needs.{needs}
@@ -10,8 +10,8 @@ use mir.Val.{Fits, toZ, ofZ}
 use mir.Facts.{toZ-ofZ}
 use Rattle.nets.specs.Nets.{tokens}
 use Rattle.nets.specs.Surplus.{tokens-first, tokens-next}
-use Rattle.nets.specs.Machine.{COUNTS, placeOf}
-use Rattle.nets.proofs.Bounds.{Small, tokens-fits}
+use Rattle.nets.specs.Machine.{COUNTS, placeOf, Held}
+use Rattle.nets.proofs.Bounds.{Small, tokens-held, tokens-fits}
 use Rattle.nets.proofs.tokens.Statement.{statement}
 use Rattle.nets.proofs.tokens.Tie as tie
 
@@ -64,7 +64,8 @@ returns c =
     let place = at .before .before .args .t1 in
     let counts = at .before .before .args .counts .now in
     let done : at .loop .i ≡ COUNTS = omega arith in
-    total-is at ∙ ap (λ (n : ℕ). tokens n (placeOf place) counts) done
+    let total = total-is at ∙ ap (λ (n : ℕ). tokens n (placeOf place) counts) done in
+    (total, subst Held (sym total) (tokens-held (placeOf place) counts (small (at .before)) COUNTS (omega arith)))
 
 pub tokens-spec : {M : Type 1} → statement M
 tokens-spec =

@@ -1,4 +1,4 @@
--- `screen::main` is safe: what was read lies in the buffers.
+-- `screen::main` is safe: what was read lies in the buffers, and that of the file is longer than every file.
 use mathlib.Core.Path.{sym}
 use Prim.Native.Nat.{_≤_}
 use borrow.Author.Needs.{needs}
@@ -14,17 +14,14 @@ word-came c = within-bytes _ _ _ (c .events .given .1) (c .before .before .befor
 file-came : (c : tie.After-n) → c .n .given .0 .0 ≤ length (c .before .before .before .read-file .last .0)
 file-came c = within-bytes _ _ _ (c .n .given .1) (c .before .before .before .read-file .ensures)
 
-array-share-prefix-file : tie.Need-array-share-prefix-file
-array-share-prefix-file c = file-came (c .before)
-
-slice-aggregate-screen-file : tie.Need-slice-aggregate-screen-file
-slice-aggregate-screen-file c = sym (length-take-le _ _ (file-came (c .before .before)))
-
 array-share-prefix-word : tie.Need-array-share-prefix-word
 array-share-prefix-word c = word-came (c .before .before .before .before .before .before .before .before)
 
 slice-aggregate-screen-file-2 : tie.Need-slice-aggregate-screen-file-2
 slice-aggregate-screen-file-2 c = sym (length-take-le _ _ (word-came (c .before .before .before .before .before .before .before .before .before)))
+
+screen-file-requires : tie.Need-screen-file-requires
+screen-file-requires c κs = (file-came (c .before .before .before), search needs)
 
 pub main-spec : {M : Type 1} → statement M
 main-spec =
@@ -44,10 +41,9 @@ main-spec =
     (λ c. search needs)
     (λ c. search needs)
     (λ c. search needs)
-    array-share-prefix-file
-    slice-aggregate-screen-file
+    (λ c. search needs)
     array-share-prefix-word
     slice-aggregate-screen-file-2
-    (λ c κs. search needs)
+    screen-file-requires
     (λ c κs. search needs)
     (λ c. search needs))

@@ -8,10 +8,10 @@ use native.Mathlib.Omega.{arith}
 use borrow.Author.Needs.{needs}
 use lib.ListN.{length, take}
 use Rattle.nets.specs.Nets.{Net}
-use Rattle.bundles.specs.PlaceSteps.{placeSize}
+use Rattle.bundles.specs.PlaceSteps.{placeSize, placeOn}
 use Rattle.screening.specs.Positions.{Best}
 use Rattle.screening.specs.Replay.{reach}
-use Rattle.screening.specs.Searching.{placeOn, netAt, net-start, firstOf, stop-place, pair-second-at, pair-next-at, pair-inside, pair-stays, pair-earlier}
+use Rattle.screening.specs.Searching.{netAt, net-start, firstOf, stop-place, pair-second-at, pair-next-at, pair-inside, pair-stays, pair-earlier}
 use Rattle.screening.specs.declared.Stop.{Stop}
 use Rattle.screening.proofs.search_pairs.Statement.{statement}
 use Rattle.screening.proofs.search_pairs.Tie as tie

@@ -3,11 +3,13 @@ use mathlib.Core.Path.{_≡_, refl, _∙_}
 use Prim.Native.Nat.{_-_, _≤_}
 use native.Mathlib.Omega.{arith}
 use borrow.Author.Needs.{needs}
-use lib.ListN.{length}
+use lib.ListN.{length, getD}
+use mir.Syntax.{w16}
+use mir.Val.{Fits}
 use Rattle.nets.specs.Machine.{COUNTS}
 use Rattle.fitting.specs.Columns.{Between}
 use Rattle.fitting.specs.ColumnLaws.{between-start, between-next, between-end}
-use Rattle.fitting.proofs.Moderate.{between-moderate}
+use Rattle.fitting.proofs.Moderate.{Short, between-moderate}
 use Rattle.fitting.proofs.columns.advance.Statement.{statement}
 use Rattle.fitting.proofs.columns.advance.Tie as tie
 
@@ -19,19 +21,22 @@ abbrev μ-loop : tie.MeasureT-loop
 
 loop-holds : tie.Need-loop-holds Inv-loop μ-loop
 loop-holds c =
-    let start = c .before .before .before in
-    (omega arith, refl, between-start (start .pre .7))
+    let start = c .before .before in
+    (omega arith, refl, between-start (start .pre .4))
 
 recount-requires : tie.Need-recount-requires Inv-loop μ-loop
 recount-requires c κs =
     let loop = c .before .before .before .loop in
-    let start = c .before .before .before .before .before .before .before in
-    (start .pre .0, search needs, start .pre .2, omega arith, start .pre .5 (loop .i) (omega arith), start .pre .6 (loop .i) (omega arith), start .pre .4, between-moderate (start .pre .4) (start .pre .5) (start .pre .6) (loop .inv .0) (loop .inv .2))
+    let rows = c .before .before .before .before in
+    let numbers = rows .before in
+    let start = numbers .before in
+    let few : Short (start .args .t4) = λ k. let f : Fits w16 (getD (start .args .t4) k 0) = search needs in f .fits in
+    (start .pre .0, search needs, start .pre .2, omega arith, between-moderate (λ k. omega (arith, numbers .shared-slice-known .given k)) few (λ k. omega (arith, rows .shared-slice-known2 .given k)) (loop .inv .0) (loop .inv .2))
 
 loop-again : tie.Need-loop-again Inv-loop μ-loop
 loop-again c =
-    let loop = c .before .before .before .before .before .before .loop in
-    (omega arith, c .before .before .recount .kept .0 ∙ loop .inv .1, between-next (loop .inv .2) (c .before .before .recount .ensures))
+    let loop = c .before .before .before .before .before .loop in
+    (omega arith, c .before .recount .kept .0 ∙ loop .inv .1, between-next (loop .inv .2) (c .before .recount .ensures))
 
 same-length : tie.Need-same-length Inv-loop μ-loop
 same-length c = c .before .loop .inv .1

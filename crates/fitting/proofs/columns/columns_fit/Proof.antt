@@ -1,20 +1,20 @@
 -- `fitting::columns::columns_fit` meets its contract. The invariant: the tokens are those after the counts `before`, and each column fits the rows below r.
 use mathlib.Core.Path.{_≡_, refl, sym, ap, _∙_, subst}
 use mathlib.Core.List.{List}
-use Prim.Native.Nat.{ℕ, _*_, _-_, _≤_, _<_}
+use Prim.Native.Nat.{ℕ, _+_, _*_, _-_, _≤_, _<_}
 use native.Mathlib.Omega.{arith}
 use borrow.Author.Needs.{needs}
 use borrow.Author.Tests.{not-false}
 use lib.Dec.{T}
-use lib.ListN.{length, take, drop, length-drop, getD-replicate}
+use lib.ListN.{length, take, drop, length-drop}
 use lib.Seq.{take-all, getD-drop}
 use Rattle.laws.specs.Bits.{bit}
 use Rattle.nets.specs.Machine.{COUNTS}
 use Rattle.logs.specs.Rows.{ROW}
 use Rattle.fitting.specs.FittingLaws.{RowsBelow, rows-start, rows-next, rows-end}
-use Rattle.fitting.specs.Columns.{column, Few, Marking}
+use Rattle.fitting.specs.Columns.{column, Marking}
 use Rattle.fitting.specs.ColumnLaws.{marking-row, row-covered}
-use Rattle.fitting.proofs.Moderate.{marking-moderate}
+use Rattle.fitting.proofs.Moderate.{Short, marking-moderate}
 use Rattle.fitting.proofs.columns.columns_fit.Statement.{statement}
 use Rattle.fitting.proofs.columns.columns_fit.Tie as tie
 
@@ -22,7 +22,6 @@ abbrev Inv-loop : tie.InvT-loop
 Inv-loop tokens₀ count matrix table rows before₀ r₀ tokens before r =
     (r ≤ rows)
     × (length tokens ≡ length tokens₀)
-    × Few before
     × Marking count matrix tokens before
     × ((j : ℕ) → j < count → RowsBelow (column matrix j) rows table r)
 
@@ -30,14 +29,7 @@ abbrev μ-loop : tie.MeasureT-loop
 μ-loop tokens₀ count matrix table rows before₀ r₀ tokens before r = rows - r
 
 loop-holds : tie.Need-loop-holds Inv-loop μ-loop
-loop-holds c =
-    (omega arith, refl, λ i b. omega (arith, getD-replicate {A = ℕ} COUNTS i 0 0 b), c .before .before .before .pre .5, λ j b. rows-start _ _ _)
-
-same-length : tie.Need-same-length Inv-loop μ-loop
-same-length c = c .before .before .before .before .loop .inv .1
-
-returns : tie.Need-returns Inv-loop μ-loop
-returns c = λ yes. absurd (subst T (sym yes) tt)
+loop-holds c = (omega arith, refl, c .before .before .pre .4, λ j b. rows-start _ _ _)
 
 -- the part of a list from an index on
 abbrev part : List ℕ → ℕ → List ℕ
@@ -46,55 +38,57 @@ part l k = take (length l - k) (drop k l)
 part-is : (l : List ℕ) (k : ℕ) → part l k ≡ drop k l
 part-is l k = take-all (length l - k) (drop k l) (omega (arith, length-drop k l))
 
--- the counts of a turn's row are few
-few : (c : tie.Else1 Inv-loop μ-loop) → Few (part (c .before .before .before .before .before .before .before .before .args .table .now) (ROW * c .before .before .before .before .loop .r))
-few c = c .before .counts-few .ensures (not-false _ (c .if1 .left))
+part-short : (l : List ℕ) → Short l → (k : ℕ) → Short (part l k)
+part-short l short k i = rw (part-is l k) (rw (getD-drop k l i 0) (short (k + i)))
 
 advance-requires : tie.Need-advance-requires Inv-loop μ-loop
 advance-requires c κs =
-    let loop = c .before .before .before .before .before .before .loop in
-    let start = c .before .before .before .before .before .before .before .before .before .before in
+    let loop = c .before .before .before .loop in
+    let start = c .before .before .before .before .before .before in
     let table = start .args .table .now in
     let whole = ap length (part-is table (ROW * loop .r)) ∙ length-drop (ROW * loop .r) table in
-    (start .pre .0, search needs, start .pre .2, omega (arith, whole, start .pre .3), start .pre .4, loop .inv .2, few (c .before .before), loop .inv .3)
+    (start .pre .0, search needs, start .pre .2, omega (arith, whole, start .pre .3), loop .inv .2)
 
-size : (c : tie.After-advance Inv-loop μ-loop) → length (c .advance .last .0) ≡ length (c .before .before .before .before .before .before .before .before .before .before .before .args .tokens .now)
-size c = c .advance .kept .0 ∙ c .before .before .before .before .before .before .before .loop .inv .1
+size : (c : tie.After-advance Inv-loop μ-loop) → length (c .advance .last .0) ≡ length (c .before .before .before .before .before .before .before .args .tokens .now)
+size c = c .advance .kept .0 ∙ c .before .before .before .before .loop .inv .1
 
 covers-mask-requires : tie.Need-covers-mask-requires Inv-loop μ-loop
 covers-mask-requires c κs =
-    let turn = c .before .before .before .before in
-    let start = turn .before .before .before .before .before .before .before .before .before .before .before in
-    (start .pre .0, omega (arith, size turn, start .pre .1), start .pre .2, start .pre .4, marking-moderate (start .pre .4) (few (turn .before .before .before)) (turn .advance .ensures))
+    let turn = c .before .before .before in
+    let loop = turn .before .before .before .before .loop in
+    let rows = turn .before .before .before .before .before in
+    let numbers = rows .before in
+    let start = numbers .before in
+    let short : Short (start .args .table .now) = λ k. omega (arith, rows .shared-slice-known2 .given k) in
+    (start .pre .0, omega (arith, size turn, start .pre .1), start .pre .2, marking-moderate (λ k. omega (arith, numbers .shared-slice-known .given k)) (part-short (start .args .table .now) short (ROW * loop .r)) (turn .advance .ensures))
 
-same-length-2 : tie.Need-same-length-2 Inv-loop μ-loop
-same-length-2 c = size (c .before .before .before .before .before .before)
+same-length : tie.Need-same-length Inv-loop μ-loop
+same-length c = size (c .before .before .before .before .before)
 
-returns-2 : tie.Need-returns-2 Inv-loop μ-loop
-returns-2 c = λ yes. absurd (subst T (sym yes) tt)
+returns : tie.Need-returns Inv-loop μ-loop
+returns c = λ yes. absurd (subst T (sym yes) tt)
 
 loop-again : tie.Need-loop-again Inv-loop μ-loop
 loop-again c =
-    let turn = c .before .before .before .before .before .before .before .before in
-    let loop = turn .before .before .before .before .before .before .before .loop in
-    let start = turn .before .before .before .before .before .before .before .before .before .before .before in
+    let turn = c .before .before .before .before .before .before .before in
+    let loop = turn .before .before .before .before .loop in
+    let start = turn .before .before .before .before .before .before .before in
     let table = start .args .table .now in
     let at = ROW * loop .r in
     let marked = subst (Marking (start .args .count) (start .args .matrix .now) (turn .advance .last .0)) (part-is table at) (turn .advance .ensures) in
-    let covered = c .before .before .before .covers-mask .ensures (not-false _ (c .before .before .if2 .left)) in (
+    let covered = c .before .before .before .covers-mask .ensures (not-false _ (c .before .before .if1 .left)) in (
       omega arith,
       size turn,
-      λ i b. omega (arith, c .counts-of .ensures i b, few (turn .before .before .before) i b),
       marking-row (λ i b. sym (c .counts-of .ensures i b)) (turn .advance .ensures),
-      λ j b. rows-next _ _ _ (loop .r) (omega arith) (loop .inv .4 j b)
+      λ j b. rows-next _ _ _ (loop .r) (omega arith) (loop .inv .3 j b)
           (row-covered marked (λ e h set. covered e h (subst (λ (x : ℕ). T (bit x e)) (getD-drop at table COUNTS 0) set)) j b),
     )
 
-same-length-3 : tie.Need-same-length-3 Inv-loop μ-loop
-same-length-3 c = c .before .loop .inv .1
+same-length-2 : tie.Need-same-length-2 Inv-loop μ-loop
+same-length-2 c = c .before .loop .inv .1
 
-returns-3 : tie.Need-returns-3 Inv-loop μ-loop
-returns-3 c = λ yes j b. rows-end _ _ _ (c .before .loop .r) (omega arith) (c .before .loop .inv .4 j b)
+returns-2 : tie.Need-returns-2 Inv-loop μ-loop
+returns-2 c = λ yes j b. rows-end _ _ _ (c .before .loop .r) (omega arith) (c .before .loop .inv .3 j b)
 
 pub columns-fit-spec : {M : Type 1} → statement M
 columns-fit-spec =
@@ -108,20 +102,13 @@ columns-fit-spec =
     (λ c. search needs)
     (λ c. search needs)
     (λ c. search needs)
-    (λ c κs. search needs)
-    same-length
-    returns
-    (λ c. search needs)
-    (λ c. search needs)
-    (λ c. search needs)
-    (λ c. search needs)
     advance-requires
     (λ c. search needs)
     (λ c. search needs)
     (λ c. search needs)
     covers-mask-requires
-    same-length-2
-    returns-2
+    same-length
+    returns
     (λ c. search needs)
     (λ c. search needs)
     (λ c. search needs)
@@ -130,5 +117,5 @@ columns-fit-spec =
     (λ c. search needs)
     (λ c. search needs)
     loop-again
-    same-length-3
-    returns-3)
+    same-length-2
+    returns-2)

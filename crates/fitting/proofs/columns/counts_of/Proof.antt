@@ -21,7 +21,7 @@ loop-holds c = (omega arith, search needs, λ k b. absurd (omega arith))
 loop-again : tie.Need-loop-again Inv-loop μ-loop
 loop-again c =
     let l = c .before .before .loop in
-    (omega arith, simp length-set (l .inv .1), each-set (λ i x. x ≡ getD (c .before .before .before .args .row .now) i 0) (l .counts) (l .i) _ (omega arith) (l .inv .2) refl)
+    (omega arith, simp length-set (l .inv .1), each-set 0 (λ i x. x ≡ getD (c .before .before .before .args .row .now) i 0) (l .counts) (l .i) _ (omega arith) (l .inv .2) refl)
 
 returns : tie.Need-returns Inv-loop μ-loop
 returns c = λ i b. c .before .loop .inv .2 i (omega arith)

@@ -1,47 +1,84 @@
--- `fitting::columns::covers_row` meets its contract. The invariant: what is left in a column below j is at least `left`, bit by bit.
-use Prim.Native.Nat.{ℕ, _+_, _-_, _≤_, _<_}
+-- `fitting::columns::covers_row` meets its contract. The invariant: where the sign of `all` is clear, the surplus of each column below j is 0 or more.
+use mathlib.Core.Path.{_≡_, refl, sym, ap, _∙_, subst}
+use Prim.Native.Nat.{ℕ, suc, _+_, _-_, _^_, _≤_, _<_}
 use native.Mathlib.Omega.{arith}
 use borrow.Author.Needs.{needs}
-use lib.Bits.{bitAnd, and-le-l, and-le-r}
-use borrow.Author.Tests.{leb-true}
+use borrow.Author.Tests.{ltb-true}
+use lib.Bits.{bitOr, or-add-and, and-le-l, and-le-r}
+use lib.Dec.{T, ltb}
+use lib.IntN.{ℤ, pos, negsuc, _-ℤ_}
 use lib.ListN.{getD}
+use lib.Signed.{nonNeg}
+use mathlib.Core.Bool.{Bool, true, false}
+use mir.Syntax.{w64}
+use mir.Val.{SFits, sel, toZ, ofZ}
+use mir.Facts.{toZ-ofZ}
+use Rattle.laws.specs.Differences.{zero-leZ}
+use Rattle.nets.specs.Machine.{Held}
 use Rattle.fitting.specs.ColumnLaws.{each-next}
 use Rattle.fitting.proofs.columns.covers_row.Statement.{statement}
 use Rattle.fitting.proofs.columns.covers_row.Tie as tie
 
+-- bits that are 0 or more as a signed number have a clear sign
+sign-clear : (n : ℕ) → nonNeg (toZ w64 n) ≡ true → n < 2 ^ 63
+sign-clear n e = go (ltb n (2 ^ 63)) refl e
+  where
+    go : (b : Bool) → ltb n (2 ^ 63) ≡ b → nonNeg (sel b (pos n) (negsuc (2 ^ 64 - suc n))) ≡ true → n < 2 ^ 63
+    go true q h = ltb-true n (2 ^ 63) q
+    go false q h = absurd (subst T (sym h) tt)
+
+-- and the other way round
+clear-sign : (z : ℤ) → SFits w64 z → ofZ w64 z < 2 ^ 63 → T (nonNeg z)
+clear-sign (pos n) f h = tt
+clear-sign (negsuc n) f h = absurd (omega (arith, f .sfits))
+
+-- no bit is lost
+or-left : (a b : ℕ) → a ≤ bitOr a b
+or-left a b = omega (arith, or-add-and a b, and-le-r a b)
+
+or-right : (a b : ℕ) → b ≤ bitOr a b
+or-right a b = omega (arith, or-add-and a b, and-le-l a b)
+
 abbrev Inv-loop : tie.InvT-loop
-Inv-loop tokens count matrix at left₀ j₀ left j = (j ≤ count) × ((i : ℕ) → i < j → left + getD matrix (at + i) 0 ≤ getD tokens i 0)
+Inv-loop tokens count matrix at all₀ j₀ all j =
+    (j ≤ count) × ((i : ℕ) → i < j → all < 2 ^ 63 → T (nonNeg (getD tokens i (pos 0) -ℤ pos (getD matrix (at + i) 0))))
 
 abbrev μ-loop : tie.MeasureT-loop
-μ-loop tokens count matrix at left₀ j₀ left j = count - j
+μ-loop tokens count matrix at all₀ j₀ all j = count - j
 
 loop-holds : tie.Need-loop-holds Inv-loop μ-loop
 loop-holds c = (omega arith, λ i b. absurd (omega arith))
 
-sub-left : tie.Need-sub-left Inv-loop μ-loop
-sub-left c =
-    let loop = c .before .before .before .loop in
-    let start = c .before .before .before .before in
-    omega (arith, start .pre .2 (start .args .at + loop .j), start .pre .3 (loop .j) (omega arith) .0)
+-- the tokens of a turn's column, read back from their bits
+back : (c : tie.After-surplus-arg Inv-loop μ-loop)
+    → let loop = c .before .before .loop in
+    let tokens = getD (c .before .before .before .before .args .tokens .now) (loop .j) (pos 0) in
+    toZ w64 (ofZ w64 tokens) ≡ tokens
+back c = toZ-ofZ {w = w64} (record { sfits = c .surplus-arg .given })
+
+surplus-requires : tie.Need-surplus-requires Inv-loop μ-loop
+surplus-requires c κs =
+    let turn = c .before .before in
+    subst Held (sym (back (c .before))) (turn .before .before .before .pre .2 (turn .before .loop .j) (turn .loop-test .taken))
 
 loop-again : tie.Need-loop-again Inv-loop μ-loop
 loop-again c =
-    let loop = c .before .before .before .loop in
-    let start = c .before .before .before .before in
-    let here = getD (start .args .tokens .now) (loop .j) 0 - getD (start .args .matrix .now) (start .args .at + loop .j) 0 in
-    let l = and-le-l (loop .left) here in
-    let r = and-le-r (loop .left) here in
-    let enough = sub-left c in (
+    let turn = c .before .before .before in
+    let loop = turn .before .loop in
+    let args = turn .before .before .before .args in
+    let here = c .surplus .result in
+    let bits = ofZ w64 here in
+    let is = c .surplus .ensures ∙ ap (λ (t : ℤ). t -ℤ pos (getD (args .matrix .now) (args .at + loop .j) 0)) (back (c .before .before)) in (
       omega arith,
-      each-next (λ i. bitAnd (loop .left) here + getD (start .args .matrix .now) (start .args .at + i) 0 ≤ getD (start .args .tokens .now) i 0) (loop .j)
-          (λ i b. omega (arith, l, loop .inv .1 i b)) (omega (arith, r, enough)),
+      each-next (λ i. bitOr (loop .all) bits < 2 ^ 63 → T (nonNeg (getD (args .tokens .now) i (pos 0) -ℤ pos (getD (args .matrix .now) (args .at + i) 0)))) (loop .j)
+          (λ i b clear. loop .inv .1 i b (omega (arith, or-left (loop .all) bits)))
+          (λ clear. subst (λ (z : ℤ). T (nonNeg z)) is (clear-sign here (record { sfits = c .surplus .ok }) (omega (arith, or-right (loop .all) bits)))),
     )
 
 returns : tie.Need-returns Inv-loop μ-loop
 returns c = λ yes j b.
     let loop = c .before .loop in
-    let whole = leb-true _ (loop .left) yes in
-    omega (arith, whole, loop .inv .1 j (omega arith))
+    loop .inv .1 j (omega arith) (sign-clear (loop .all) (sym (zero-leZ (toZ w64 (loop .all))) ∙ yes))
 
 pub covers-row-spec : {M : Type 1} → statement M
 covers-row-spec =
@@ -55,7 +92,7 @@ covers-row-spec =
     (λ c. search needs)
     (λ c. search needs)
     (λ c. search needs)
-    sub-left
+    surplus-requires
     (λ c. search needs)
     (λ c. search needs)
     loop-again

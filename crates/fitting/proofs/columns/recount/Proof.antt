@@ -1,32 +1,25 @@
 -- `fitting::columns::recount` meets its contract: the difference of the counts is added or taken off.
-use mathlib.Core.Path.{_≡_, sym}
 use Prim.Native.Nat.{_-_}
 use native.Mathlib.Omega.{arith}
 use borrow.Author.Needs.{needs}
-use Rattle.fitting.specs.ColumnLaws.{recounted}
+use Rattle.fitting.specs.ColumnLaws.{recounted, recounted-back, recounted-same}
 use Rattle.fitting.proofs.columns.recount.Statement.{statement}
 use Rattle.fitting.proofs.columns.recount.Tie as tie
 
 returns : tie.Need-returns
-returns c = λ j b.
-    let args = c .before .before .before .before .before .before .before .before .args in
-    recounted _ _ _ _ (args .before) 1 (args .after) (omega arith) (c .before .before .shift .ensures j b)
+returns c =
+    let args = c .before .before .before .before .before .args in
+    recounted _ (args .matrix .now) (args .tokens .now) (args .i) (c .before .shift .last .0) (args .before) (args .after - args .before) (args .after) (omega arith) (c .before .shift .ensures)
 
 returns-2 : tie.Need-returns-2
-returns-2 c = λ j b.
-    let args = c .before .before .before .before .before .before .before .before .args in
-    recounted _ _ _ _ (args .before) (args .after - args .before) (args .after) (omega arith) (c .before .before .shift2 .ensures j b)
+returns-2 c =
+    let args = c .before .before .before .before .before .before .args in
+    recounted-back _ (args .matrix .now) (args .tokens .now) (args .i) (c .before .shift2 .last .0) (args .after) (args .before - args .after) (args .before) (omega arith) (c .before .shift2 .ensures)
 
 returns-3 : tie.Need-returns-3
-returns-3 c = λ j b.
-    let args = c .before .before .before .before .before .before .before .before .args in
-    sym (recounted _ _ _ _ (args .after) (args .before - args .after) (args .before) (omega arith) (sym (c .before .before .shift3 .ensures j b)))
-
-returns-4 : tie.Need-returns-4
-returns-4 c = λ j b.
-    let args = c .before .before .before .before .args in
-    let same : args .after ≡ args .before = omega arith in
-    rw same
+returns-3 c =
+    let args = c .before .before .before .args in
+    recounted-same _ (args .matrix .now) (args .tokens .now) (args .i) (args .before) (args .after) (omega arith)
 
 pub recount-spec : {M : Type 1} → statement M
 recount-spec =
@@ -41,12 +34,7 @@ recount-spec =
     (λ c κs. search needs)
     (λ c. search needs)
     returns
-    (λ c. search needs)
     (λ c κs. search needs)
     (λ c. search needs)
     returns-2
-    (λ c. search needs)
-    (λ c κs. search needs)
-    (λ c. search needs)
-    returns-3
-    returns-4)
+    returns-3)

@@ -3,9 +3,7 @@ use mathlib.Core.Path.{_∙_}
 use Prim.Native.Nat.{_-_, _≤_}
 use native.Mathlib.Omega.{arith}
 use borrow.Author.Needs.{needs}
-use lib.ListN.{getD, length-set}
-use mir.Syntax.{w16}
-use mir.Val.{Fits}
+use lib.ListN.{length-set}
 use Rattle.nets.specs.Machine.{COUNTS, placeOf}
 use Rattle.fitting.specs.ColumnLaws.{Storing, storing-start, storing-next, stored}
 use Rattle.fitting.proofs.columns.write_column.Statement.{statement}
@@ -18,7 +16,7 @@ abbrev μ-loop : tie.MeasureT-loop
 μ-loop matrix₀ j place e₀ matrix e = COUNTS - e
 
 loop-holds : tie.Need-loop-holds Inv-loop μ-loop
-loop-holds c = (omega arith, storing-start (c .pre .2))
+loop-holds c = (omega arith, storing-start)
 
 slice-write-matrix : tie.Need-slice-write-matrix Inv-loop μ-loop
 slice-write-matrix c = omega (arith, c .before .before .loop .inv .1 .size, c .before .before .before .pre .1)
@@ -30,9 +28,7 @@ loop-again : tie.Need-loop-again Inv-loop μ-loop
 loop-again c =
     let loop = c .before .before .before .loop in
     let start = c .before .before .before .before in
-    let few₁ : Fits w16 (getD (start .args .t3 .produced) (loop .e) 0) = search needs in
-    let few₂ : Fits w16 (getD (start .args .t3 .consumed) (loop .e) 0) = search needs in
-    (omega arith, storing-next (start .pre .0) (start .pre .1) (omega arith) (loop .inv .1) (few₁ .fits) (few₂ .fits))
+    (omega arith, storing-next (start .pre .0) (start .pre .1) (omega arith) (loop .inv .1))
 
 slice-write-matrix-3 : tie.Need-slice-write-matrix-3 Inv-loop μ-loop
 slice-write-matrix-3 c = omega (arith, c .before .loop .inv .1 .size, c .before .before .pre .1)
@@ -43,7 +39,7 @@ same-length c = length-set (c .before .loop .matrix) (c .before .before .args .j
 returns : tie.Need-returns Inv-loop μ-loop
 returns c =
     let start = c .before .before in
-    stored (start .pre .0) (start .pre .1) (omega arith) (c .before .loop .inv .1) (omega arith)
+    stored (start .pre .0) (start .pre .1) (omega arith) (c .before .loop .inv .1)
 
 pub write-column-spec : {M : Type 1} → statement M
 write-column-spec =
@@ -58,9 +54,7 @@ write-column-spec =
     (λ c. search needs)
     (λ c. search needs)
     (λ c. search needs)
-    (λ c. search needs)
     slice-write-matrix
-    (λ c. search needs)
     (λ c. search needs)
     (λ c. search needs)
     (λ c. search needs)
@@ -72,7 +66,6 @@ write-column-spec =
     (λ c. search needs)
     (λ c. search needs)
     loop-again
-    (λ c. search needs)
     (λ c. search needs)
     slice-write-matrix-3
     same-length

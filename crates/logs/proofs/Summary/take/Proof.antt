@@ -2,11 +2,9 @@
 use borrow.Author.Needs.{needs}
 use mathlib.Core.Path.{_≡_, sym, _∙_}
 use mathlib.Core.Bool.{false}
-use Prim.Native.Nat.{_-_, _≤_}
-use borrow.Author.Tests.{leb-true, leb-false, not-true, not-false}
-use Rattle.logs.specs.Rows.{rowsOf, newRows, none}
-use Rattle.logs.specs.Answers.{MAX-ROWS, badSummary}
-use Rattle.logs.specs.AnswerLaws.{Admitted, Readable, good, refused-table, answer-5, answer-16, answer-8, answer-7, rows-most, short, events-below, rows-fit, answer-9, rows-room, answer-next}
+use native.Mathlib.Omega.{arith}
+use Rattle.logs.specs.Answers.{badSummary}
+use Rattle.logs.specs.AnswerLaws.{Admitted, Readable, good, refused-table, answer-5, answer-16, answer-8, answer-7, rows-most, short, events-below, answer-9, answer-next}
 use Rattle.logs.proofs.Summary.take.Statement.{statement}
 use Rattle.logs.proofs.Summary.take.Tie as tie
 
@@ -48,35 +46,28 @@ returns-4 c =
 readable : (c : tie.Else4) → let a = c .before .before .before .before .before .before .before .before .args in Readable (a .self) (a .table .now) (a .word .now)
 readable c = record { admitted = admitted (c .before .before); events = rw (c .before .first-bad .ensures) at (c .if4 .left) }
 
-has-room-requires : tie.Need-has-room-requires
-has-room-requires c κs =
+add-alone-requires : tie.Need-add-alone-requires
+add-alone-requires c κs =
     let r = readable (c .before) in
-    (rows-most _ _ _ r, (rows-fit _ _ _ r, short _ _ _ r, events-below _ _ _ r))
+    (rows-most _ _ _ r, r .admitted .long, short _ _ _ r, events-below _ _ _ r)
 
 returns-5 : tie.Need-returns-5
 returns-5 c =
     let t = c .before in
-    let call = t .before in
-    let r = readable (call .before .before) in
-    let a = call .before .before .before .before .before .before .before .before .before .before .args in
-    let e = answer-9 (a .self) (a .table .now) (a .word .now) r (leb-false _ _ (sym (call .has-room .ensures) ∙ not-true _ (t .if5 .taken))) in
-    (c .refused5 .ensures ∙ sym e, refused-table (a .self) (a .table .now) (a .word .now) _ e)
-
--- past the fifth there is room
-room : (c : tie.Else5) → let a = c .before .before .before .before .before .before .before .before .before .before .before .args in newRows (rowsOf (a .self .rows) (a .table .now)) none (a .word .now) ≤ MAX-ROWS - a .self .rows
-room c = leb-true _ _ (sym (c .before .has-room .ensures) ∙ not-false _ (c .if5 .left))
-
-write-word-requires : tie.Need-write-word-requires
-write-word-requires c κs =
-    let d = c .before in
-    let r = readable (d .before .before .before) in
-    (short _ _ _ r, events-below _ _ _ r, rows-fit _ _ _ r, rows-room _ _ _ r (room d))
+    let call = t .before .before .before in
+    let d = call .before .before in
+    let r = readable d in
+    let a = d .before .before .before .before .before .before .before .before .args in
+    let added = call .add-alone .ensures in
+    let e = answer-9 (a .self) (a .table .now) (a .word .now) r (omega (arith, added .size, t .if5 .taken, rows-most _ _ _ r)) in
+    (c .refused5 .ensures ∙ sym e, added .full (t .if5 .taken) ∙ refused-table (a .self) (a .table .now) (a .word .now) _ e)
 
 returns-6 : tie.Need-returns-6
 returns-6 c =
-    let w = c .before .before in
-    let d = w .before .before in
-    answer-next _ _ _ (readable (d .before .before .before)) (room d) _ _ (w .write-word .kept .0) (w .write-word .ensures)
+    let call = c .before .before .before in
+    let r = readable (call .before .before) in
+    let added = call .add-alone .ensures in
+    answer-next _ _ _ r (omega (arith, added .size, c .if5 .left, rows-most _ _ _ r)) _ _ (call .add-alone .kept .0) (added .fits (c .if5 .left))
 
 pub take-spec : {M : Type 1} → statement M
 take-spec =
@@ -93,11 +84,10 @@ take-spec =
     (λ c κs. search needs)
     (λ c κs. search needs)
     returns-4
-    has-room-requires
+    add-alone-requires
     (λ c κs. search needs)
     (λ c. search needs)
     returns-5
-    write-word-requires
     (λ c. search needs)
     (λ c. search needs)
     returns-6)

@@ -5,21 +5,15 @@ use Rattle.logs.proofs.rows.use_row.Statement.{statement}
 use Rattle.logs.proofs.rows.use_row.Tie as tie
 
 returns : tie.Need-returns
-returns c =
-    let e = c .before .find-row .ensures in
-    (e, use-found _ _ _ _ e (c .if1 .taken))
+returns c = use-found _ _ _ _ (c .before .before .pre .0) (c .if1 .taken)
 
 append-row-requires : tie.Need-append-row-requires
 append-row-requires c κs =
-    let e = c .before .before .find-row .ensures in
-    use-room _ _ _ _ e (c .before .if1 .left) _ (c .before .before .before .before .before .pre .1)
+    let p = c .before .before .before .pre in
+    use-room _ _ _ _ (p .0) (c .before .if1 .left) _ (p .2)
 
 returns-2 : tie.Need-returns-2
-returns-2 c =
-    let e = c .before .before .before .before .before .find-row .ensures in
-    (e, use-new _ _ _ _ e (c .before .before .before .before .if1 .left) _ (c .before .before .append-row .ensures))
+returns-2 c = use-new _ _ _ _ (c .before .before .before .before .before .before .pre .0) (c .before .before .before .before .if1 .left) _ (c .before .before .append-row .ensures)
 
 pub use-row-spec : {M : Type 1} → statement M
-use-row-spec =
-    tie.close
-    (tie.spec (λ c κs. search needs) (λ c. search needs) returns append-row-requires (λ c. search needs) returns-2)
+use-row-spec = tie.close (tie.spec returns append-row-requires (λ c. search needs) (λ c. search needs) returns-2)

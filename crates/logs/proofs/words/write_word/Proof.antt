@@ -1,67 +1,83 @@
 -- `logs::words::write_word` meets its contract.
 use borrow.Author.Needs.{needs}
-use Prim.Native.Nat.{_-_}
-use mathlib.Core.Path.{_∙_}
+use Prim.Native.Nat.{_+_, _-_, _<_}
+use mathlib.Core.Path.{_≡_, refl, sym, _∙_}
 use native.Mathlib.Omega.{arith}
-use lib.ListN.{length, getD}
-use Rattle.logs.specs.Rows.{rowsOf, takeWord, none}
-use Rattle.logs.specs.Flat.{end-found, end-new}
-use Rattle.logs.specs.Taking.{Taking, taking-none, taking-room, taking-again, taking-end}
+use lib.ListN.{length, getD, take}
+use lib.Seq.{getD-take}
+use Rattle.nets.specs.Machine.{COUNTS}
+use Rattle.logs.specs.Rows.{rowsOf, addEvent, findRow, takeWord, none}
+use Rattle.logs.specs.Taking.{Taking, taking-none, taking-row, taking-room, taking-again, taking-end}
 use Rattle.logs.proofs.words.write_word.Statement.{statement}
 use Rattle.logs.proofs.words.write_word.Tie as tie
 
 abbrev Inv-loop : tie.InvT-loop
-Inv-loop table₀ rows word counts₀ k₀ i₀ table counts k i = Taking table₀ word (takeWord (rowsOf rows table₀) none word) table k counts i
+Inv-loop table₀ rows word numbers counts₀ k₀ i₀ table counts k i =
+    Taking table₀ word (take (length word + 1) numbers) (takeWord (rowsOf rows table₀) none word) table k counts i
 
 abbrev μ-loop : tie.MeasureT-loop
-μ-loop table₀ rows word counts₀ k₀ i₀ table counts k i = length word - i
+μ-loop table₀ rows word numbers counts₀ k₀ i₀ table counts k i = length word - i
 
 loop-holds : tie.Need-loop-holds Inv-loop μ-loop
-loop-holds c = taking-none _ _ _ (c .before .before .pre .2)
+loop-holds c = let p = c .before .before .before .pre in taking-none _ _ _ _ (p .2) (p .5)
 
 cast-e : tie.Need-cast-e Inv-loop μ-loop
-cast-e c = omega (arith, c .shared-slice-known2 .given (c .before .before .loop .i))
+cast-e c = omega (arith, c .shared-slice-known3 .given (c .before .before .loop .i))
+
+cast-step : tie.Need-cast-step Inv-loop μ-loop
+cast-step c = omega (arith, c .shared-slice-known4 .given (c .before .before .before .before .loop .i))
+
+-- the number noted for the prefix at hand is that of its row
+row : (c : tie.At-loop Inv-loop μ-loop) → let a = c .before .before .before .before .args in let l = c .loop in
+    getD (a .numbers .now) (l .i) 0 ≡ findRow (l .counts) (rowsOf (l .k) (l .table))
+row c =
+    let a = c .before .before .before .before .args in
+    let l = c .loop in
+    sym (getD-take (length (a .word .now) + 1) (a .numbers .now) (l .i) 0 (omega (arith, l .inv .passed))) ∙ taking-row _ _ _ _ _ _ _ _ (l .inv)
 
 step-requires : tie.Need-step-requires Inv-loop μ-loop
 step-requires c κs =
-    let l = c .before .before .before .loop in
-    let s = c .before .before .before .before .before .before in
-    (s .pre .1 (l .i) (omega arith), l .inv .room, taking-room _ _ _ _ _ _ _ (l .inv) _ (omega arith))
+    let here = c .before .before .before .before in
+    let l = here .loop in
+    let s = here .before .before .before .before in
+    (row here, s .pre .1 (l .i) (omega arith), l .inv .room, taking-room _ _ _ _ _ _ _ _ (l .inv) _ (omega arith))
 
-bumped-requires : tie.Need-bumped-requires Inv-loop μ-loop
-bumped-requires c κs =
-    let l = c .before .before .before .before .before .before .loop in
-    let s = c .before .before .before .before .before .before .before .before .before in
-    (s .pre .1 (l .i) (omega arith), omega (arith, l .inv .counted .few (getD (s .args .word .now) (l .i) 0)))
+-- the event at hand
+event : (c : tie.After-slice-known2 Inv-loop μ-loop) → let here = c .before .before .before .before .before .before .before in
+    getD (here .before .before .before .before .args .word .now) (here .loop .i) 0 < COUNTS
+event c =
+    let here = c .before .before .before .before .before .before .before in
+    here .before .before .before .before .pre .1 (here .loop .i) (omega arith)
+
+add-counts : tie.Need-add-counts Inv-loop μ-loop
+add-counts c =
+    let here = c .before .before .before .before .before .before .before in
+    omega (arith, here .loop .inv .counted .few (getD (here .before .before .before .before .args .word .now) (here .loop .i) 0))
 
 loop-again : tie.Need-loop-again Inv-loop μ-loop
+unfolding addEvent
 loop-again c =
-    let l = c .before .before .before .before .before .before .before .loop in
-    let s = c .before .before .before .before .before .before .before .before .before .before in
-    taking-again _ _ _ _ _ _ _ (l .inv) _ _ _ (omega arith) (s .pre .1 (l .i) (omega arith)) (c .before .before .before .step .kept .0) (omega arith) (c .before .before .before .step .ensures) (c .bumped .ensures)
+    let call = c .before .before in
+    let l = call .before .before .before .before .before .loop in
+    taking-again _ _ _ _ _ _ _ _ (l .inv) _ _ _ (omega arith) (event c) (call .step .kept .0) (omega arith) (call .step .ensures) refl
+
+cast-use-row : tie.Need-cast-use-row Inv-loop μ-loop
+cast-use-row c = omega (arith, c .shared-slice-known5 .given (c .before .before .before .loop .i))
 
 use-row-requires : tie.Need-use-row-requires Inv-loop μ-loop
 use-row-requires c κs =
-    let l = c .before .before .loop in
-    (l .inv .room, taking-room _ _ _ _ _ _ _ (l .inv) _ (omega arith))
+    let here = c .before .before .before in
+    let l = here .loop in
+    (row here, l .inv .room, taking-room _ _ _ _ _ _ _ _ (l .inv) _ (omega arith))
 
 same-length : tie.Need-same-length Inv-loop μ-loop
-same-length c = c .before .before .before .use-row .kept .0 ∙ c .before .before .before .before .before .before .loop .inv .size
+same-length c = let call = c .before .before in call .use-row .kept .0 ∙ call .before .before .before .before .loop .inv .size
 
 returns : tie.Need-returns Inv-loop μ-loop
 returns c =
-    let l = c .before .before .before .before .before .before .loop in
-    let u = c .before .before .before .use-row .ensures in
-    taking-end _ _ _ _ _ _ _ (l .inv) _ _ (omega arith) (end-found _ _ _ _ (u .0) (c .if1 .taken) _ (u .1))
-
-same-length-2 : tie.Need-same-length-2 Inv-loop μ-loop
-same-length-2 c = c .before .before .before .use-row .kept .0 ∙ c .before .before .before .before .before .before .loop .inv .size
-
-returns-2 : tie.Need-returns-2 Inv-loop μ-loop
-returns-2 c =
-    let l = c .before .before .before .before .before .before .loop in
-    let u = c .before .before .before .use-row .ensures in
-    taking-end _ _ _ _ _ _ _ (l .inv) _ _ (omega arith) (end-new _ _ _ _ (u .0) (c .if1 .left) _ (u .1))
+    let call = c .before .before in
+    let l = call .before .before .before .before .loop in
+    taking-end _ _ _ _ _ _ _ _ (l .inv) _ _ (omega arith) (call .use-row .ensures)
 
 pub write-word-spec : {M : Type 1} → statement M
 write-word-spec =
@@ -72,14 +88,21 @@ write-word-spec =
     loop-holds
     (λ c. search needs)
     cast-e
+    (λ c. search needs)
+    (λ c. search needs)
+    cast-step
     step-requires
-    bumped-requires
+    (λ c. omega (arith, event c))
+    (λ c. omega (arith, event c))
+    add-counts
+    (λ c. omega (arith, event c))
+    (λ c. omega (arith, event c))
     (λ c. search needs)
     (λ c. search needs)
     loop-again
+    (λ c. search needs)
+    (λ c. search needs)
+    cast-use-row
     use-row-requires
     same-length
-    returns
-    (λ c. search needs)
-    same-length-2
-    returns-2)
+    returns)

@@ -1,0 +1,70 @@
+// The places of a net. Any two bytes are a number, so they are there when so many numbers are. All are inner
+// functions.
+use crate::Field;
+use crate::Places;
+use crate::PlacesRead;
+use crate::fields::byte_up_to;
+use crate::fields::numbers_left;
+use nets::Place;
+use refusals::BUNDLE_END;
+use refusals::Refusal;
+use slices::number_at;
+ghost use mathlib.Core.Path.{_≡_};
+ghost use Prim.Native.Nat.{_+_, _*_, _≤_};
+ghost use lib.ListN.{length};
+ghost use Rattle.bundles.specs.Readers.{places};
+ghost use Rattle.bundles.specs.PlaceSteps.{placeSize, numbersAt, fieldsAt, padded, machinePlace, placesRead};
+
+// The numbers of n events from an offset on; zero from n on.
+fn row_at(bundle: &[u8], at: usize, n: usize) -> [u16; 12]
+    requires { ⌜ (n ≤ 12) × (at + 2 * n ≤ length (now bundle)) ⌝ }
+    ensures { λ r. ⌜ r ≡ padded (numbersAt n (now (bundle .entry)) at) ⌝ }
+{
+    let mut row = [0u16; 12];
+    let mut i = 0;
+    while i < n {
+        row[i] = number_at(bundle, at + 2 * i) as u16;
+        i += 1;
+    }
+    row
+}
+
+// The place of n events at an offset.
+pub fn place_at(bundle: &[u8], at: usize, n: usize) -> Place
+    requires { ⌜ (n ≤ 12) × (at + 2 * placeSize n ≤ length (now bundle)) ⌝ }
+    ensures { λ r. ⌜ r ≡ machinePlace (fieldsAt n (now (bundle .entry)) at) ⌝ }
+{
+    let initial = number_at(bundle, at) as u16;
+    let produced = row_at(bundle, at + 2, n);
+    let consumed = row_at(bundle, at + 2 + 2 * n, n);
+    Place {
+        initial,
+        produced,
+        consumed,
+    }
+}
+
+// The place count at an offset, and the places of n events behind it.
+pub fn read_places(bundle: &[u8], at: usize, n: usize) -> PlacesRead
+    requires { ⌜ n ≤ 12 ⌝ }
+    ensures { λ r. ⌜ r ≡ placesRead n (places n (now (bundle .entry)) at) ⌝ }
+{
+    match byte_up_to(bundle, at, 64) {
+        Field::Refused(refusal) => PlacesRead::Refused(refusal),
+        Field::Value(count, first) => {
+            let left = numbers_left(bundle, first);
+            let numbers = count * (1 + 2 * n);
+            if left < numbers {
+                return PlacesRead::Refused(Refusal {
+                    number: BUNDLE_END,
+                    spot: first + 2 * left,
+                });
+            }
+            PlacesRead::Read(Places {
+                count,
+                first,
+                next: first + 2 * numbers,
+            })
+        }
+    }
+}

@@ -1,0 +1,79 @@
+// The words of a log: their events, each below n, at most 1,024 in the whole log. All are inner functions.
+use crate::Field;
+use crate::fields::any_byte;
+use crate::fields::byte_below;
+use refusals::EVENTS;
+use refusals::Refusal;
+use slices::byte_at;
+ghost use mathlib.Core.Path.{_≡_};
+ghost use Prim.Native.Nat.{_+_, _≤_};
+ghost use lib.ListN.{length, getD};
+ghost use Rattle.bundles.specs.Reading.{byte, times, following};
+ghost use Rattle.bundles.specs.Readers.{anyRows, word, wordAfter};
+ghost use Rattle.bundles.specs.FieldSteps.{readOf, below};
+ghost use Rattle.bundles.specs.WordSteps.{mapRead, eventsAt};
+ghost use Rattle.nets.specs.Nets.{eventCount};
+
+// The events of a word, checked one by one: how many they are, and the offset behind them.
+fn read_events(bundle: &[u8], at: usize, size: usize, n: usize) -> Field
+    ensures { λ r. ⌜ readOf r ≡ mapRead length (times size (byte (below n)) (now (bundle .entry)) at) ⌝ }
+{
+    let mut next = at;
+    let mut left = size;
+    while 0 < left {
+        let event = byte_below(bundle, next, n);
+        let Field::Value(_, after) = event else {
+            return event;
+        };
+        next = after;
+        left -= 1;
+    }
+    Field::Value(size, next)
+}
+
+// The word whose length byte stands at an offset, where `events` come before it in the log: its length, and the offset behind it.
+pub fn read_word(bundle: &[u8], at: usize, n: usize, events: usize) -> Field
+    requires { ⌜ events ≤ 1024 ⌝ }
+    ensures { λ r. ⌜ readOf r ≡ mapRead length (wordAfter n events (now (bundle .entry)) at) ⌝ }
+{
+    let length = any_byte(bundle, at);
+    let Field::Value(size, start) = length else {
+        return length;
+    };
+    if 1024 - events < size {
+        return Field::Refused(Refusal {
+            number: EVENTS,
+            spot: at,
+        });
+    }
+    read_events(bundle, start, size, n)
+}
+
+// The events of the word whose length byte stands at an offset: the part of the bundle that they occupy.
+pub fn word_at(bundle: &[u8], at: usize) -> &[u8]
+    requires { ⌜ at + 1 + getD (now bundle) at 0 ≤ length (now bundle) ⌝ }
+    ensures { λ r. ⌜ now r ≡ eventsAt (now (bundle .entry)) at ⌝ }
+{
+    let start = at + 1;
+    let end = start + byte_at(bundle, at);
+    &bundle[start..end]
+}
+
+// The words of a log over n events: how many events they have, and the offset behind them.
+pub fn read_words(bundle: &[u8], at: usize, n: usize, count: usize) -> Field
+    ensures { λ r. ⌜ readOf r ≡ mapRead eventCount (following count (word (anyRows n) n) (now (bundle .entry)) at) ⌝ }
+{
+    let mut next = at;
+    let mut events = 0;
+    let mut left = count;
+    while 0 < left {
+        let read = read_word(bundle, next, n, events);
+        let Field::Value(size, after) = read else {
+            return read;
+        };
+        events += size;
+        next = after;
+        left -= 1;
+    }
+    Field::Value(events, next)
+}

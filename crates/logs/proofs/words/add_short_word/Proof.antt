@@ -1,0 +1,15 @@
+-- `logs::words::add_short_word` meets its contract.
+use borrow.Author.Needs.{needs}
+use native.Mathlib.Omega.{arith}
+use Rattle.logs.specs.IndexLaws.{index-short}
+use Rattle.logs.proofs.words.add_short_word.Statement.{statement}
+use Rattle.logs.proofs.words.add_short_word.Tie as tie
+
+add-word-requires : tie.Need-add-word-requires
+add-word-requires c κs =
+    let p = c .before .before .before .before .before .pre in
+    (p .0, p .1, omega (arith, p .2), p .3, index-short _ _ _ (omega arith), omega (arith, p .2))
+
+pub add-short-word-spec : {M : Type 1} → statement M
+add-short-word-spec =
+    tie.close (tie.spec (λ c. search needs) (λ c. search needs) add-word-requires (λ c. search needs) (λ c. search needs))

@@ -1,0 +1,71 @@
+-- `logs::words::add_word` meets its contract.
+use borrow.Author.Needs.{needs}
+use mathlib.Core.Path.{_≡_, refl, sym, _∙_}
+use native.Mathlib.Omega.{arith}
+use lib.ListN.{length}
+use denote.Ref.{now}
+use Rattle.logs.specs.Rows.{rowsOf, takeWord, none}
+use Rattle.logs.specs.Flat.{length-rows, held}
+use Rattle.logs.specs.Growth.{length-take}
+use Rattle.logs.specs.Numbering.{numbered-used}
+use Rattle.logs.proofs.words.add_word.Statement.{statement}
+use Rattle.logs.proofs.words.add_word.Tie as tie
+
+number-rows-requires : tie.Need-number-rows-requires
+number-rows-requires c κs =
+    let p = c .before .before .before .before .before .before .pre in
+    (p .0, omega (arith, p .0, p .1), p .2, p .3, p .4, p .5)
+
+returns : tie.Need-returns
+returns c =
+    let e = c .before .before .before .number-rows .ensures in
+    record { size = e .0; fits = λ h. absurd (omega (arith, c .if1 .taken)); full = λ h. refl }
+
+-- the rows after the word are as many as were counted
+counted : (c : tie.Else1) → let a = c .before .before .before .before .before .before .before .before .before .before .args in
+    length (takeWord (rowsOf (a .rows) (now (a .table))) none (now (a .word))) ≡ c .before .before .before .number-rows .result
+counted c =
+    let call = c .before .before .before in
+    let s = call .before .before .before .before .before .before .before in
+    let a = s .args in
+    length-take (rowsOf (a .rows) (now (a .table))) none (now (a .word)) refl (s .pre .3) ∙ rw length-rows (sym (call .number-rows .ensures .0))
+
+write-word-requires : tie.Need-write-word-requires
+write-word-requires c κs =
+    let d = c .before .before in
+    let call = d .before .before .before in
+    let s = call .before .before .before .before .before .before .before in
+    let p = s .pre in
+    let a = s .args in
+    let rows = rowsOf (a .rows) (now (a .table)) in (
+      p .2,
+      p .3,
+      omega (arith, p .0, p .1),
+      omega (arith, counted d, d .if1 .left, p .1),
+      omega (arith, call .number-rows .kept, p .5),
+      call .number-rows .ensures .1 ∙ rw length-rows at (numbered-used rows none (now (a .word)) refl (p .3)),
+    )
+
+returns-2 : tie.Need-returns-2
+returns-2 c =
+    let call = c .before .before in
+    let d = call .before .before .before in
+    let number = d .before .before .before in
+    record {
+      size = held _ _ _ _ (call .write-word .ensures) ∙ counted d ∙ number .number-rows .ensures .0;
+      fits = λ h. call .write-word .ensures;
+      full = λ h. absurd (omega (arith, held _ _ _ _ (call .write-word .ensures), counted d, d .if1 .left));
+    }
+
+pub add-word-spec : {M : Type 1} → statement M
+add-word-spec =
+    tie.close
+    (tie.spec
+    number-rows-requires
+    (λ c. search needs)
+    (λ c. search needs)
+    returns
+    write-word-requires
+    (λ c. search needs)
+    (λ c. search needs)
+    returns-2)
