@@ -9,7 +9,12 @@ use native.Mathlib.Omega.{arith}
 use lib.ListN.{length, take, length-take}
 use lib.Seq.{take-all}
 use Rattle.laws.specs.Booleans.{lt-or-le}
-use Rattle.refusals.specs.Answers.{Result}
+use Rattle.refusals.specs.Answers.{Result, answer, written}
+use Rattle.refusals.specs.Answers.Result.{bytes, refused}
+use Rattle.refusals.specs.Laws.{answer-taken}
+use Rattle.refusals.specs.declared.Refusal.{Refusal}
+use Rattle.refusals.specs.declared.Written.the-variants.{Length, Refused}
+use Rattle.block.specs.Rooms.{open-refused}
 use Rattle.refusals.specs.Table.{rightSize}
 use Rattle.block.specs.File.{opened, rightLength, sealed}
 use Rattle.block.specs.OpenLaws.{rightLength-whole, opened-length}
@@ -51,3 +56,11 @@ module _ (input buffer : List ℕ) (n : ℕ) (came : InputRead input buffer n) w
   seal-whole room =
       ap sealed (sym came)
       ∙ cut sealed _ 64512 (λ l long. sealed-length l (refuses rightSize 64512 (λ k e. rightSize-bounds k e .1) (length l) long)) (length buffer) room input
+
+  -- what an opening of what came, into a long enough output, says of the input
+  module _ (room : 65536 < length buffer) where
+    pub whole-refused : (size : ℕ) → 64512 ≤ size → (r : Refusal) → answer (opened (take n buffer)) size ≡ Refused r → opened input ≡ refused r
+    whole-refused size long r e = sym (open-whole room) ∙ open-refused (take n buffer) size long r e
+
+    pub whole-opened : (output : List ℕ) (size : ℕ) → answer (opened (take n buffer)) (length output) ≡ Length size → opened input ≡ bytes (take size (written (opened (take n buffer)) output))
+    whole-opened output size e = sym (open-whole room) ∙ answer-taken (opened (take n buffer)) output size e

@@ -48,7 +48,7 @@ fn sums_match(block: &[u8]) -> bool
     number_at(block, 510) == sums.position
 }
 
-// The number of the first rule that a block breaks, 0 where it keeps them all.
+// The refusal's number for the first rule that a block breaks, 0 where it keeps them all.
 fn fault_of(block: &[u8], number: usize, last: bool) -> u8
     requires { ⌜ length (now block) ≡ 512 ⌝ }
     ensures { λ r. ⌜ r ≡ fault last number (now (block .entry)) ⌝ }

@@ -7,10 +7,8 @@ use borrow.Author.Needs.{needs}
 use denote.Ref.{now}
 use lib.ListN.{length, take}
 use lib.Seq.{length-take-le}
-use Rattle.refusals.specs.Laws.{answer-within, answer-taken}
-use Rattle.block.specs.File.{opened}
-use Rattle.block.specs.Rooms.{open-refused}
-use Rattle.block.specs.Whole.{open-whole}
+use Rattle.refusals.specs.Laws.{answer-within}
+use Rattle.block.specs.Whole.{whole-refused, whole-opened}
 use Rattle.logs.specs.Answers.{TABLE}
 use Rattle.verdicts.specs.Judging.{verdict}
 use Rattle.judge.specs.Files.{fileVerdict}
@@ -42,9 +40,7 @@ returns c input came =
     let told = c .before in
     let call = told .before .before .before in
     let start = call .before .before .before .before .before in
-    let args = start .args in
-    let whole = open-whole input (now (args .buffer)) (args .n) came (start .pre .1) in
-    sym (ap fileVerdict (sym whole ∙ open-refused (take (args .n) (now (args .buffer))) _ (room call) (told .refusal .given .0 .0) (sym (call .«open» .ensures .0) ∙ told .refusal .given .1)))
+    sym (ap fileVerdict (whole-refused input (now (start .args .buffer)) (start .args .n) came (start .pre .1) _ (room call) (told .refusal .given .0 .0) (sym (call .«open» .ensures .0) ∙ told .refusal .given .1)))
 
 returns-2 : tie.Need-returns-2
 unfolding fileVerdict
@@ -52,11 +48,9 @@ returns-2 c input came =
     let told = c .before .before .before .before .before in
     let call = told .before .before .before in
     let start = call .before .before .before .before .before in
-    let args = start .args in
-    let whole = open-whole input (now (args .buffer)) (args .n) came (start .pre .1) in
     let size = told .size .given .0 .0 in
-    let got = answer-taken (opened (take (args .n) (now (args .buffer)))) (call .before .before .before .large-buffer .result) size (sym (call .«open» .ensures .0) ∙ told .size .given .1) in
-    c .before .judge .ensures .0 ∙ ap (verdict TABLE) (ap (take size) (call .«open» .ensures .1)) ∙ sym (ap fileVerdict (sym whole ∙ got))
+    let got = whole-opened input (now (start .args .buffer)) (start .args .n) came (start .pre .1) (call .before .before .before .large-buffer .result) size (sym (call .«open» .ensures .0) ∙ told .size .given .1) in
+    c .before .judge .ensures .0 ∙ ap (verdict TABLE) (ap (take size) (call .«open» .ensures .1)) ∙ sym (ap fileVerdict got)
 
 pub judge-file-spec : {M : Type 1} → statement M
 judge-file-spec =

@@ -9,10 +9,8 @@ use denote.Ref.{now}
 use lib.ListN.{length, take}
 use lib.Seq.{length-take-le}
 use Rattle.refusals.specs.Answers.{Result}
-use Rattle.refusals.specs.Laws.{answer-within, answer-taken}
-use Rattle.block.specs.File.{opened}
-use Rattle.block.specs.Rooms.{open-refused}
-use Rattle.block.specs.Whole.{open-whole}
+use Rattle.refusals.specs.Laws.{answer-within}
+use Rattle.block.specs.Whole.{whole-refused, whole-opened}
 use Rattle.screening.specs.Screening.{screened}
 use Rattle.screen.specs.Files.{fileScreened}
 use Rattle.screen.proofs.screen_file.Statement.{statement}
@@ -43,10 +41,8 @@ returns c input came =
     let told = c .before in
     let call = told .before .before .before in
     let start = call .before .before .before .before .before .before in
-    let args = start .args in
-    let whole = open-whole input (now (args .buffer)) (args .n) came (start .pre .1) in
-    let got = open-refused (take (args .n) (now (args .buffer))) _ (room call) (told .refusal .given .0 .0) (sym (call .«open» .ensures .0) ∙ told .refusal .given .1) in
-    sym (ap (λ (r : Result). fileScreened r (now (args .word))) (sym whole ∙ got))
+    let got = whole-refused input (now (start .args .buffer)) (start .args .n) came (start .pre .1) _ (room call) (told .refusal .given .0 .0) (sym (call .«open» .ensures .0) ∙ told .refusal .given .1) in
+    sym (ap (λ (r : Result). fileScreened r (now (start .args .word))) got)
 
 returns-2 : tie.Need-returns-2
 unfolding fileScreened
@@ -54,11 +50,9 @@ returns-2 c input came =
     let told = c .before .before .before in
     let call = told .before .before .before in
     let start = call .before .before .before .before .before .before in
-    let args = start .args in
-    let whole = open-whole input (now (args .buffer)) (args .n) came (start .pre .1) in
     let size = told .size .given .0 .0 in
-    let got = answer-taken (opened (take (args .n) (now (args .buffer)))) (call .before .before .before .large-buffer .result) size (sym (call .«open» .ensures .0) ∙ told .size .given .1) in
-    c .screen .ensures ∙ ap (λ (b : List ℕ). screened (take size b) (now (args .word))) (call .«open» .ensures .1) ∙ sym (ap (λ (r : Result). fileScreened r (now (args .word))) (sym whole ∙ got))
+    let got = whole-opened input (now (start .args .buffer)) (start .args .n) came (start .pre .1) (call .before .before .before .large-buffer .result) size (sym (call .«open» .ensures .0) ∙ told .size .given .1) in
+    c .screen .ensures ∙ ap (λ (b : List ℕ). screened (take size b) (now (start .args .word))) (call .«open» .ensures .1) ∙ sym (ap (λ (r : Result). fileScreened r (now (start .args .word))) got)
 
 pub screen-file-spec : {M : Type 1} → statement M
 screen-file-spec =
