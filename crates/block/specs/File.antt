@@ -7,9 +7,10 @@ use lib.ListN.{length, take, drop}
 use lib.Dec.{eqb, leb}
 use Rattle.laws.specs.Pieces.{joined}
 use Rattle.laws.specs.Scans.{firstFalse}
-use Rattle.refusals.specs.Table.{FILE-LENGTH, BUNDLE-LENGTH, rightSize}
-use Rattle.refusals.specs.Answers.{refusal, Result}
-use Rattle.refusals.specs.Answers.Result.{bytes, refused}
+use Rattle.limits.specs.Limits.{rightSize}
+use Rattle.refusals.specs.Table.{FILE-LENGTH, BUNDLE-LENGTH}
+use Rattle.refusals.specs.Results.{Result, value, _>>_, require}
+use Rattle.refusals.specs.Answers.{refusal}
 use Rattle.refusals.specs.declared.Refusal.{Refusal}
 use Rattle.block.specs.Block.{isZero, block, fault, usedContents}
 
@@ -47,12 +48,12 @@ bundleOf file = joined (contentsAt file) (blockCount file)
 unfoldable pub rightLength : ℕ → Bool
 rightLength n = leb 1 n && (eqb (n % 512) 0 && leb n 65536)
 
--- what opening gives: refusal 1, then that of the lowest faulty block, else the bundle
-unfoldable pub opened : List ℕ → Result
-opened file =
-    cond (rightLength (length file))
-    (cond (isZero (firstFault file .number)) (bytes (bundleOf file)) (refused (firstFault file)))
-    (refused (refusal FILE-LENGTH 0))
+-- what opening gives: 1, then the refusal of the lowest faulty block; else the bundle
+unfoldable pub opened : List ℕ → Result (List ℕ)
+opened file = do
+  require (rightLength (length file)) FILE-LENGTH 0
+  require (isZero (firstFault file .number)) (firstFault file .number) (firstFault file .spot)
+  value (bundleOf file)
 
 -- a file of whole blocks that all keep the rules
 pub record Sound (file : List ℕ) : Type 0 where
@@ -79,6 +80,8 @@ blocksFor n = (n + 503) / 504
 unfoldable pub sealedFile : List ℕ → List ℕ
 sealedFile bundle = joined (sealedBlockAt bundle) (blocksFor (length bundle))
 
--- what sealing gives: refusal 4, else the file
-unfoldable pub sealed : List ℕ → Result
-sealed bundle = cond (rightSize (length bundle)) (bytes (sealedFile bundle)) (refused (refusal BUNDLE-LENGTH 0))
+-- what sealing gives: 4; else the file
+unfoldable pub sealed : List ℕ → Result (List ℕ)
+sealed bundle = do
+  require (rightSize (length bundle)) BUNDLE-LENGTH 0
+  value (sealedFile bundle)

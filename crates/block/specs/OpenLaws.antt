@@ -15,8 +15,8 @@ use Rattle.laws.specs.Parts.{take-drop-take}
 use Rattle.laws.specs.Pieces.{joined, joined-next, length-joined}
 use Rattle.laws.specs.Scans.{firstFalse-all, firstFalse-at, firstFalse-none, firstFalse-fails, firstFalse-most}
 use Rattle.refusals.specs.Table.{FILE-LENGTH}
+use Rattle.refusals.specs.Results.{value, refused, passes, fails, passed}
 use Rattle.refusals.specs.Answers.{refusal}
-use Rattle.refusals.specs.Answers.Result.{bytes, refused}
 use Rattle.block.specs.Block.{isZero, usedCount, usedContents, rightCount}
 use Rattle.block.specs.File.{blockCount, blockAt, faultAt, firstFaulty, firstFault, contentsAt, bundleOf, rightLength, opened, Sound}
 use Rattle.block.specs.BlockLaws.{Rules, rules, rightCount-most}
@@ -111,17 +111,26 @@ rightLength-whole n e =
     (leb-true _ _ (and-left (leb 1 n) _ e), omega arith, leb-true _ _ (and-right (eqb (n % 512) 0) _ rest))
 
 module _ (file : List ℕ) where
-  pub opened-length : rightLength (length file) ≡ false → opened file ≡ refused (refusal FILE-LENGTH 0)
+  pub opened-length : rightLength (length file) ≡ false → opened file ≡ refused FILE-LENGTH 0
   unfolding opened
-  opened-length e = rw e
+  opened-length e = fails _ _ _ _ e
 
-  pub opened-fault : rightLength (length file) ≡ true → (firstFault file .number ≡ 0 → ⊥) → opened file ≡ refused (firstFault file)
+  pub opened-fault : rightLength (length file) ≡ true → (firstFault file .number ≡ 0 → ⊥) → opened file ≡ refused (firstFault file .number) (firstFault file .spot)
   unfolding opened
-  opened-fault e bad = rw (e, ne-eqb (firstFault file .number) 0 bad)
+  opened-fault e bad = passes _ _ _ _ e ∙ fails _ _ _ _ (ne-eqb (firstFault file .number) 0 bad)
 
-  pub opened-bundle : rightLength (length file) ≡ true → firstFault file .number ≡ 0 → opened file ≡ bytes (bundleOf file)
+  pub opened-bundle : rightLength (length file) ≡ true → firstFault file .number ≡ 0 → opened file ≡ value (bundleOf file)
   unfolding opened
-  opened-bundle e none = rw (e, eq-eqb (firstFault file .number) 0 none)
+  opened-bundle e none = passes _ _ _ _ e ∙ passes _ _ _ _ (eq-eqb (firstFault file .number) 0 none)
+
+  -- and back
+  pub opened→ : (bundle : List ℕ) → opened file ≡ value bundle → (rightLength (length file) ≡ true) × (firstFault file .number ≡ 0) × (bundleOf file ≡ bundle)
+  unfolding opened
+  opened→ bundle e =
+      let p = passed _ _ _ _ bundle e in
+      let q = passed _ _ _ _ bundle (p .1) in
+      let is = q .1 in
+      (p .0, eqb-true _ _ (q .0), cc)
 
   pub opened-sound : rightLength (length file) ≡ true → firstFault file .number ≡ 0 → Sound file
   unfolding blockCount

@@ -1,6 +1,6 @@
 -- Sealing and opening undo each other.
-use mathlib.Core.Path.{_≡_, refl, sym, ap, _∙_, subst}
-use mathlib.Core.Bool.{Bool, true, false, cond}
+use mathlib.Core.Path.{_≡_, sym, ap, _∙_, subst}
+use mathlib.Core.Bool.{true}
 use mathlib.Core.Logic.{⊎-elim}
 use mathlib.Core.List.{List, _++_}
 use Prim.Native.Nat.{ℕ, _+_, _-_, _*_, _%_, _≤_, _<_, min}
@@ -9,24 +9,24 @@ use native.Mathlib.Omega.{arith}
 use lib.ListN.{length, take, drop, replicate, length-drop}
 use lib.Seq.{take-all}
 use lib.Dec.{eqb}
-use borrow.Author.Tests.{eqb-true, eqb-false, eq-eqb, le-leb}
+use borrow.Author.Tests.{eqb-false, eq-eqb, le-leb}
 use Rattle.laws.specs.Parts.{front, take-min}
 use Rattle.laws.specs.Pieces.{joined-same, joined-parts, part-joined}
 use Rattle.laws.specs.Numbers.{Bytes, bytes-take, bytes-drop, bytes-append, bytes-joined, bytes-zeros, le16, bytes-le16}
-use Rattle.refusals.specs.Table.{FILE-LENGTH, BUNDLE-LENGTH, rightSize}
-use Rattle.refusals.specs.Answers.{refusal, Result, answer, written}
-use Rattle.refusals.specs.Answers.Result.{bytes, refused}
+use Rattle.limits.specs.Limits.{MAX-BUNDLE-SIZE, rightSize-bounds, rightSize-intro}
+use Rattle.refusals.specs.Results.{Result, value}
+use Rattle.refusals.specs.Answers.{refusal, answer, written}
 use Rattle.refusals.specs.Laws.{Ends, ends-written, answer-taken}
 use Rattle.refusals.specs.declared.Written.the-variants.{Length}
-use Rattle.block.specs.Block.{plainSum, positionSum, padded, summedBytes, withSums, block, isZero, rightCount, usedCount, usedContents}
+use Rattle.block.specs.Block.{plainSum, positionSum, padded, summedBytes, withSums, block, rightCount, usedCount, usedContents}
 use Rattle.block.specs.File.{blockCount, blockAt, faultAt, firstFault, contentsAt, bundleOf, rightLength, opened, Sound, partAt, sealedBlockAt, blocksFor, sealedFile, sealed}
 use Rattle.block.specs.BlockLaws.{rightCount-some, rightCount-intro, block-contents, block-sound, block-unique}
-use Rattle.block.specs.OpenLaws.{length-blockAt, keeps, used-most, used-full, length-contentsAt, length-before, length-bundle, firstFault-none, opened-bundle, opened-sound}
-use Rattle.block.specs.SealLaws.{rightSize-bounds, rightSize-intro, length-partAt, length-sealedBlockAt, length-blocksBefore, length-sealedFile, sealed-file}
+use Rattle.block.specs.OpenLaws.{length-blockAt, keeps, used-most, used-full, length-contentsAt, length-before, length-bundle, firstFault-none, opened-bundle, opened→, opened-sound}
+use Rattle.block.specs.SealLaws.{length-partAt, length-sealedBlockAt, length-blocksBefore, length-sealedFile, sealed-file, sealed→}
 
 -- ---- Opening what sealing wrote
 
-module _ (bundle : List ℕ) (some : 1 ≤ length bundle) (most : length bundle ≤ 64512) where
+module _ (bundle : List ℕ) (some : 1 ≤ length bundle) (most : length bundle ≤ MAX-BUNDLE-SIZE) where
   count-sealed : blockCount (sealedFile bundle) ≡ blocksFor (length bundle)
   unfolding blockCount
   count-sealed = omega (arith, length-sealedFile bundle)
@@ -74,40 +74,21 @@ module _ (bundle : List ℕ) (some : 1 ≤ length bundle) (most : length bundle 
   none-sealed : firstFault (sealedFile bundle) ≡ refusal 0 (blockCount (sealedFile bundle))
   none-sealed = firstFault-none (sealedFile bundle) (λ k h. faultAt-sealed k (omega (arith, count-sealed)))
 
-  opened-sealedFile : opened (sealedFile bundle) ≡ bytes bundle
-  opened-sealedFile = opened-bundle (sealedFile bundle) fits-sealed (rw none-sealed) ∙ ap bytes bundle-sealed
-
--- a bundle that is sealed: its length is right, and the file is its blocks
-sealed-bytes : (bundle file : List ℕ) → sealed bundle ≡ bytes file → (rightSize (length bundle) ≡ true) × (sealedFile bundle ≡ file)
-unfolding sealed
-sealed-bytes bundle file e = go (rightSize (length bundle)) e
-  where
-    go : (b : Bool) → cond b (bytes (sealedFile bundle)) (refused (refusal BUNDLE-LENGTH 0)) ≡ bytes file → (b ≡ true) × (sealedFile bundle ≡ file)
-    go true e = (refl, cc)
-    go false e = absurd (let z : _≡_ {A = ℕ} 0 1 = cc in omega arith)
+  opened-sealedFile : opened (sealedFile bundle) ≡ value bundle
+  opened-sealedFile = opened-bundle (sealedFile bundle) fits-sealed (rw none-sealed) ∙ ap value bundle-sealed
 
 -- opening what sealing gave gives the bundle back
-pub opened-sealed : (bundle file : List ℕ) → sealed bundle ≡ bytes file → opened file ≡ bytes bundle
+pub opened-sealed : (bundle file : List ℕ) → sealed bundle ≡ value file → opened file ≡ value bundle
 opened-sealed bundle file e =
-    let s = sealed-bytes bundle file e in
+    let s = sealed→ bundle file e in
     let size = rightSize-bounds (length bundle) (s .0) in
     ap opened (sym (s .1)) ∙ opened-sealedFile bundle (size .0) (size .1)
 
 -- ---- Sealing what opening gave
 
 -- a file that opens: its blocks keep the rules, and the bundle is theirs
-pub opened-bytes : (file bundle : List ℕ) → opened file ≡ bytes bundle → Sound file × (bundleOf file ≡ bundle)
-unfolding opened
-opened-bytes file bundle e = finish (go (rightLength (length file)) (isZero (firstFault file .number)) e)
-  where
-    go : (p q : Bool) → cond p (cond q (bytes (bundleOf file)) (refused (firstFault file))) (refused (refusal FILE-LENGTH 0)) ≡ bytes bundle
-        → (p ≡ true) × (q ≡ true) × (bundleOf file ≡ bundle)
-    go true true e = (refl, refl, cc)
-    go true false e = absurd (let z : _≡_ {A = ℕ} 0 1 = cc in omega arith)
-    go false q e = absurd (let z : _≡_ {A = ℕ} 0 1 = cc in omega arith)
-
-    finish : (rightLength (length file) ≡ true) × (isZero (firstFault file .number) ≡ true) × (bundleOf file ≡ bundle) → Sound file × (bundleOf file ≡ bundle)
-    finish t = (opened-sound file (t .0) (eqb-true _ _ (t .1)), t .2)
+pub opened-bytes : (file bundle : List ℕ) → opened file ≡ value bundle → Sound file × (bundleOf file ≡ bundle)
+opened-bytes file bundle e = let o = opened→ file bundle e in (opened-sound file (o .0) (o .1), o .2)
 
 module _ (file : List ℕ) (sound : Sound file) where
   -- the last block's used count
@@ -159,20 +140,20 @@ module _ (file : List ℕ) (sound : Sound file) (small : Bytes file) where
       ∙ take-all (512 * blockCount file) file (omega arith))
 
 -- opening gives 1 to 64,512 bytes
-pub opened-size : (file bundle : List ℕ) → opened file ≡ bytes bundle → (1 ≤ length bundle) × (length bundle ≤ 64512)
+pub opened-size : (file bundle : List ℕ) → opened file ≡ value bundle → (1 ≤ length bundle) × (length bundle ≤ MAX-BUNDLE-SIZE)
 opened-size file bundle e =
     let o = opened-bytes file bundle e in
     (omega (arith, used-last file (o .0), length-bundle file (o .0), ap length (o .1)), omega (arith, used-last file (o .0), length-bundle file (o .0), ap length (o .1)))
 
 -- sealing what opening gave gives the file back
-pub sealed-opened : (file bundle : List ℕ) → Bytes file → opened file ≡ bytes bundle → sealed bundle ≡ bytes file
+pub sealed-opened : (file bundle : List ℕ) → Bytes file → opened file ≡ value bundle → sealed bundle ≡ value file
 sealed-opened file bundle small e =
     let o = opened-bytes file bundle e in
     let size = opened-size file bundle e in
-    sealed-file bundle (rightSize-intro (length bundle) (size .0) (size .1)) ∙ ap bytes (ap sealedFile (sym (o .1)) ∙ sealedFile-bundle file (o .0) small)
+    sealed-file bundle (rightSize-intro (length bundle) (size .0) (size .1)) ∙ ap value (ap sealedFile (sym (o .1)) ∙ sealedFile-bundle file (o .0) small)
 
 -- the bundle of a file of bytes has bytes
-pub opened-small : (file bundle : List ℕ) → Bytes file → opened file ≡ bytes bundle → Bytes bundle
+pub opened-small : (file bundle : List ℕ) → Bytes file → opened file ≡ value bundle → Bytes bundle
 unfolding bundleOf contentsAt usedContents blockAt
 opened-small file bundle small e =
     subst Bytes (opened-bytes file bundle e .1)
@@ -195,13 +176,13 @@ sealed-small bundle small = bytes-joined (sealedBlockAt bundle) (blocksFor (leng
 -- ---- As a caller sees it
 
 -- two calls of which the second undoes the first: what the first wrote to a long enough output, the second takes back to where it came from
-undone : (f g : List ℕ → Result) (x : List ℕ) → ((y : List ℕ) → f x ≡ bytes y → g y ≡ bytes x)
+undone : (f g : List ℕ → Result (List ℕ)) (x : List ℕ) → ((y : List ℕ) → f x ≡ value y → g y ≡ value x)
     → (first second : List ℕ) (n : ℕ) → answer (f x) (length first) ≡ Length n → length x ≤ length second
     → Ends (g (take n (written (f x) first))) second (Length (length x)) (front x second)
 undone f g x back first second n e room = ends-written _ second x (back _ (answer-taken (f x) first n e)) room
 
 -- a bundle of 1 to 64,512 bytes is sealed into a long enough output
-pub seals : (bundle output : List ℕ) → 1 ≤ length bundle → length bundle ≤ 64512 → 512 * blocksFor (length bundle) ≤ length output
+pub seals : (bundle output : List ℕ) → 1 ≤ length bundle → length bundle ≤ MAX-BUNDLE-SIZE → 512 * blocksFor (length bundle) ≤ length output
     → answer (sealed bundle) (length output) ≡ Length (512 * blocksFor (length bundle))
 seals bundle output some most room =
     let size = length-sealedFile bundle in

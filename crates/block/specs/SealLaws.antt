@@ -2,28 +2,16 @@
 use mathlib.Core.Path.{_≡_}
 use mathlib.Core.Bool.{true, false}
 use mathlib.Core.List.{List}
-use Prim.Native.Nat.{ℕ, _-_, _*_, _≤_, min}
+use Prim.Native.Nat.{ℕ, _-_, _*_, min}
 use native.Mathlib.Omega.{arith}
 use lib.ListN.{length, length-append, length-take, length-drop}
-use lib.Dec.{leb}
-use borrow.Author.Tests.{leb-true, le-leb}
-use Rattle.laws.specs.Booleans.{and-left, and-right}
 use Rattle.laws.specs.Pieces.{joined, length-joined}
-use Rattle.refusals.specs.Table.{BUNDLE-LENGTH, rightSize}
-use Rattle.refusals.specs.Answers.{refusal}
-use Rattle.refusals.specs.Answers.Result.{bytes, refused}
+use Rattle.limits.specs.Limits.{rightSize}
+use Rattle.refusals.specs.Table.{BUNDLE-LENGTH}
+use Rattle.refusals.specs.Results.{value, refused, passes, fails, passed}
 use Rattle.block.specs.Block.{block, withSums}
 use Rattle.block.specs.File.{partAt, sealedBlockAt, blocksFor, sealedFile, sealed}
 use Rattle.block.specs.BlockLaws.{length-summedBytes}
-
--- 1 to 64,512 bytes
-pub rightSize-bounds : (n : ℕ) → rightSize n ≡ true → (1 ≤ n) × (n ≤ 64512)
-unfolding rightSize
-rightSize-bounds n e = (leb-true 1 n (and-left (leb 1 n) (leb n 64512) e), leb-true n 64512 (and-right (leb 1 n) (leb n 64512) e))
-
-pub rightSize-intro : (n : ℕ) → 1 ≤ n → n ≤ 64512 → rightSize n ≡ true
-unfolding rightSize
-rightSize-intro n some most = rw (le-leb 1 n some, le-leb n 64512 most)
 
 module _ (bundle : List ℕ) where
   pub length-partAt : (k : ℕ) → length (partAt bundle k) ≡ min 504 (length bundle - 504 * k)
@@ -42,10 +30,15 @@ module _ (bundle : List ℕ) where
   unfolding sealedFile
   length-sealedFile = length-blocksBefore (blocksFor (length bundle))
 
-  pub sealed-length : rightSize (length bundle) ≡ false → sealed bundle ≡ refused (refusal BUNDLE-LENGTH 0)
+  pub sealed-length : rightSize (length bundle) ≡ false → sealed bundle ≡ refused BUNDLE-LENGTH 0
   unfolding sealed
-  sealed-length e = rw e
+  sealed-length e = fails _ _ _ _ e
 
-  pub sealed-file : rightSize (length bundle) ≡ true → sealed bundle ≡ bytes (sealedFile bundle)
+  pub sealed-file : rightSize (length bundle) ≡ true → sealed bundle ≡ value (sealedFile bundle)
   unfolding sealed
-  sealed-file e = rw e
+  sealed-file e = passes _ _ _ _ e
+
+  -- and back
+  pub sealed→ : (file : List ℕ) → sealed bundle ≡ value file → (rightSize (length bundle) ≡ true) × (sealedFile bundle ≡ file)
+  unfolding sealed
+  sealed→ file e = let p = passed _ _ _ _ file e in let is = p .1 in (p .0, cc)

@@ -9,16 +9,16 @@ use native.Mathlib.Omega.{arith}
 use lib.ListN.{length, take, length-take}
 use lib.Seq.{take-all}
 use Rattle.laws.specs.Booleans.{lt-or-le}
-use Rattle.refusals.specs.Answers.{Result, answer, written}
-use Rattle.refusals.specs.Answers.Result.{bytes, refused}
+use Rattle.limits.specs.Limits.{MAX-BUNDLE-SIZE, rightSize, rightSize-bounds}
+use Rattle.refusals.specs.Results.{Result, value, refused}
+use Rattle.refusals.specs.Answers.{answer, written}
 use Rattle.refusals.specs.Laws.{answer-taken}
 use Rattle.refusals.specs.declared.Refusal.{Refusal}
 use Rattle.refusals.specs.declared.Written.the-variants.{Length, Refused}
 use Rattle.block.specs.Rooms.{open-refused}
-use Rattle.refusals.specs.Table.{rightSize}
 use Rattle.block.specs.File.{opened, rightLength, sealed}
 use Rattle.block.specs.OpenLaws.{rightLength-whole, opened-length}
-use Rattle.block.specs.SealLaws.{rightSize-bounds, sealed-length}
+use Rattle.block.specs.SealLaws.{sealed-length}
 
 -- the first n bytes of a buffer are what it holds of the input: all of it, or as much as there is room for
 abbrev pub InputRead : List ℕ → List ℕ → ℕ → Type 0
@@ -37,7 +37,7 @@ refuses test most bound n h = go (test n) refl
     go false e = e
 
 -- the same result for every length above `most`
-module _ (f : List ℕ → Result) (r : Result) (most : ℕ) (long : (l : List ℕ) → most < length l → f l ≡ r) where
+module _ (f : List ℕ → Result (List ℕ)) (r : Result (List ℕ)) (most : ℕ) (long : (l : List ℕ) → most < length l → f l ≡ r) where
   cut : (room : ℕ) → most < room → (l : List ℕ) → f (take room l) ≡ f l
   cut room h l = ⊎-elim
       (λ longer. long (take room l) (omega (arith, length-take room l)) ∙ sym (long l (omega arith)))
@@ -52,15 +52,15 @@ module _ (input buffer : List ℕ) (n : ℕ) (came : InputRead input buffer n) w
       ∙ cut opened _ 65536 (λ l long. opened-length l (refuses rightLength 65536 (λ k e. rightLength-whole k e .2) (length l) long)) (length buffer) room input
 
   -- and sealing likewise
-  pub seal-whole : 64512 < length buffer → sealed (take n buffer) ≡ sealed input
+  pub seal-whole : MAX-BUNDLE-SIZE < length buffer → sealed (take n buffer) ≡ sealed input
   seal-whole room =
       ap sealed (sym came)
-      ∙ cut sealed _ 64512 (λ l long. sealed-length l (refuses rightSize 64512 (λ k e. rightSize-bounds k e .1) (length l) long)) (length buffer) room input
+      ∙ cut sealed _ MAX-BUNDLE-SIZE (λ l long. sealed-length l (refuses rightSize MAX-BUNDLE-SIZE (λ k e. rightSize-bounds k e .1) (length l) long)) (length buffer) room input
 
   -- what an opening of what came, into a long enough output, says of the input
   module _ (room : 65536 < length buffer) where
-    pub whole-refused : (size : ℕ) → 64512 ≤ size → (r : Refusal) → answer (opened (take n buffer)) size ≡ Refused r → opened input ≡ refused r
+    pub whole-refused : (size : ℕ) → MAX-BUNDLE-SIZE ≤ size → (r : Refusal) → answer (opened (take n buffer)) size ≡ Refused r → opened input ≡ refused (r .number) (r .spot)
     whole-refused size long r e = sym (open-whole room) ∙ open-refused (take n buffer) size long r e
 
-    pub whole-opened : (output : List ℕ) (size : ℕ) → answer (opened (take n buffer)) (length output) ≡ Length size → opened input ≡ bytes (take size (written (opened (take n buffer)) output))
+    pub whole-opened : (output : List ℕ) (size : ℕ) → answer (opened (take n buffer)) (length output) ≡ Length size → opened input ≡ value (take size (written (opened (take n buffer)) output))
     whole-opened output size e = sym (open-whole room) ∙ answer-taken (opened (take n buffer)) output size e

@@ -5,6 +5,7 @@ ghost use mathlib.Core.Path.{_≡_};
 ghost use Prim.Native.Nat.{_*_, min, _≤_};
 ghost use lib.ListN.{length};
 ghost use Rattle.laws.specs.Parts.{front};
+ghost use Rattle.limits.specs.Limits.{MAX-BUNDLE-SIZE};
 ghost use Rattle.block.specs.Block.{summedBytes, block, blank};
 ghost use Rattle.block.specs.File.{partAt, blocksFor, sealedFile};
 
@@ -66,7 +67,7 @@ fn part_of(bundle: &[u8], k: usize) -> &[u8]
 
 // Writes the blocks of a bundle to the front of the output.
 pub fn write_blocks(bundle: &[u8], output: &mut [u8])
-    requires { ⌜ (1 ≤ length (now bundle)) × (length (now bundle) ≤ 64512) ⌝ }
+    requires { ⌜ (1 ≤ length (now bundle)) × (length (now bundle) ≤ MAX-BUNDLE-SIZE) ⌝ }
     requires { ⌜ 512 * blocksFor (length (now bundle)) ≤ length (now output) ⌝ }
     ensures { λ _. ⌜ now (output .exit) ≡ front (sealedFile (now (bundle .entry))) (now (output .entry)) ⌝ }
 {

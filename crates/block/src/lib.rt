@@ -2,12 +2,13 @@
 // The contracts cite specs/Block.antt, a block, and specs/File.antt, a file.
 pub mod building; // the blocks of a bundle
 pub mod contents; // the bundle of a file
-pub mod rules; // what a block, a file and a bundle must keep
+pub mod rules; // what a block and a file must keep
 pub mod sums; // the two sums of a block
 
 use building::write_blocks;
 use contents::bundle_length;
 use contents::write_bundle;
+use limits::size_fits;
 use refusals::BUNDLE_LENGTH;
 use refusals::FILE_LENGTH;
 use refusals::OUTPUT_SHORT;
@@ -15,7 +16,6 @@ use refusals::Written;
 use refusals::refused;
 use rules::first_fault;
 use rules::length_fits;
-use rules::size_fits;
 ghost use mathlib.Core.Path.{_≡_};
 ghost use lib.ListN.{length};
 ghost use Rattle.refusals.specs.Answers.{answer, written};

@@ -1,4 +1,4 @@
-// What a block, a file and a bundle must keep to be taken. (Inner functions.)
+// What a block and a file must keep to be taken. (Inner functions.)
 use crate::sums::sums_of;
 use refusals::BLOCK;
 use refusals::Refusal;
@@ -8,7 +8,6 @@ ghost use Prim.Native.Nat.{_*_};
 ghost use lib.ListN.{length};
 ghost use Rattle.laws.specs.Lists.{all};
 ghost use Rattle.block.specs.Block.{isZero, rightCount, rightSums, fault};
-ghost use Rattle.refusals.specs.Table.{rightSize};
 ghost use Rattle.block.specs.File.{blockCount, firstFault, rightLength};
 
 fn all_zero(bytes: &[u8]) -> bool
@@ -101,14 +100,4 @@ pub fn first_fault(file: &[u8]) -> Refusal
         number: 0,
         spot: blocks,
     }
-}
-
-// Whether a bundle may have this length.
-pub fn size_fits(size: usize) -> bool
-    ensures { λ r. ⌜ r ≡ rightSize size ⌝ }
-{
-    if size < 1 {
-        return false;
-    }
-    size <= 64512
 }

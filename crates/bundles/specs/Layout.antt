@@ -6,8 +6,8 @@ use Prim.Native.Nat.{ℕ, _+_, _≤_, _<_}
 use lib.ListN.{length, getD}
 use Rattle.laws.specs.Every.{Every}
 use Rattle.laws.specs.Numbers.{le16}
-use Rattle.refusals.specs.Table.{rightSize}
-use Rattle.nets.specs.Nets.{Word, Log, eventCount, Place, Net, Term, Certificate, byPlace, byWeights, Bundle, at, rows}
+use Rattle.limits.specs.Limits.{MAX-BUNDLE-SIZE, MAX-EVENTS, MAX-LOG-EVENTS, MAX-ROWS, MAX-PLACES, MAX-TERMS}
+use Rattle.nets.specs.Nets.{Word, Log, Counts, Step, eventCount, Place, Net, Term, Weights, Certificate, byPlace, byWeights, Bundle, at, rows, allowed, wrongContinuations, fits, solves}
 
 -- the initial tokens, and the in and out numbers of each event
 pub record PlaceFields : Type 0 where
@@ -21,12 +21,17 @@ pub record TermFields : Type 0 where
   pub event : ℕ
   pub weight : ℕ
 
+-- k and the terms
+pub record WeightFields : Type 0 where
+  pub k : ℕ
+  pub terms : List TermFields
+
 -- a certificate, by its kind byte
 pub data CertificateFields : Type 0 where
   -- kind 0: a place's number
   kind0 : ℕ → CertificateFields
-  -- kind 1: k and the terms
-  kind1 : ℕ → List TermFields → CertificateFields
+  -- kind 1: weights
+  kind1 : WeightFields → CertificateFields
 
 -- a bundle up to its last place
 pub record Head : Type 0 where
@@ -49,14 +54,38 @@ toPlace p = record { initial = p .initial; produced = at (p .produced); consumed
 unfoldable pub toNet : Head → Net
 toNet h = map toPlace (h .places)
 
+-- the rows of the log
+abbrev pub rowsIn : Head → List Counts
+rowsIn h = rows (h .events) (h .log)
+
+-- an allowed step
+abbrev pub allowedIn : Head → Step → Bool
+allowedIn h = allowed (h .events) (h .log)
+
+-- the wrong continuations, by row, then event
+abbrev pub wrongIn : Head → List Step
+wrongIn h = wrongContinuations (h .events) (h .log)
+
+-- a place fits the log
+abbrev pub fitsIn : Head → Place → Bool
+fitsIn h = fits (h .events) (h .log)
+
 -- a term's step: the row of that number, and the event
 unfoldable pub toTerm : Head → TermFields → Term
-toTerm h t = record { step = record { row = getD (rows (h .events) (h .log)) (t .row) []; event = t .event }; weight = t .weight }
+toTerm h t = record { step = record { row = getD (rowsIn h) (t .row) []; event = t .event }; weight = t .weight }
 
--- a certificate, with its terms' rows looked up
+-- weights, with their terms' rows looked up
+abbrev pub toWeights : Head → WeightFields → Weights
+toWeights h w = record { k = w .k; terms = map (toTerm h) (w .terms) }
+
+-- a certificate
 unfoldable pub toCertificate : Head → CertificateFields → Certificate
 toCertificate h (kind0 j) = byPlace j
-toCertificate h (kind1 k ts) = byWeights k (map (toTerm h) ts)
+toCertificate h (kind1 w) = byWeights (toWeights h w)
+
+-- a certificate solves a step
+abbrev pub solvesIn : Head → Step → CertificateFields → Bool
+solvesIn h s c = solves (h .events) (h .log) (toNet h) s (toCertificate h c)
 
 -- the bundle of the definitions
 unfoldable pub toBundle : Contents → Bundle
@@ -85,10 +114,14 @@ placesBytes ps = length ps ∷ flatMap placeBytes ps
 unfoldable pub termBytes : TermFields → List ℕ
 termBytes t = le16 (t .row) ++ (t .event ∷ le16 (t .weight))
 
--- a certificate: its kind, then a place's number, or k and the terms
+-- weights: k, the term count, then each term
+unfoldable pub weightBytes : WeightFields → List ℕ
+weightBytes w = le16 (w .k) ++ (length (w .terms) ∷ flatMap termBytes (w .terms))
+
+-- a certificate: its kind, then a place's number, or weights
 unfoldable pub certificateBytes : CertificateFields → List ℕ
 certificateBytes (kind0 j) = 0 ∷ j ∷ []
-certificateBytes (kind1 k ts) = 1 ∷ (le16 k ++ (length ts ∷ flatMap termBytes ts))
+certificateBytes (kind1 w) = 1 ∷ weightBytes w
 
 -- n, the words, the places
 unfoldable pub headBytes : Head → List ℕ
@@ -99,10 +132,6 @@ unfoldable pub bytesOf : Contents → List ℕ
 bytesOf c = headBytes (c .head) ++ flatMap certificateBytes (c .certificates)
 
 -- ---- the limits
-
--- a bundle's length is in its range
-unfoldable pub sizeFits : List ℕ → Bool
-sizeFits b = rightSize (length b)
 
 -- a number of two bytes
 abbrev pub TwoBytes : ℕ → Type 0
@@ -123,27 +152,34 @@ pub record PlaceInLimits (n : ℕ) (p : PlaceFields) : Type 0 where
 
 -- 1 to 12 events, at most 255 words with 1,024 events in all, at most 64 places
 pub record HeadInLimits (h : Head) : Type 0 where
-  pub events : (1 ≤ h .events) × (h .events ≤ 12)
+  pub events : (1 ≤ h .events) × (h .events ≤ MAX-EVENTS)
   pub logSize : length (h .log) ≤ 255
   pub words : Every (WordInLimits (h .events)) (h .log)
-  pub logEvents : eventCount (h .log) ≤ 1024
-  pub placesSize : length (h .places) ≤ 64
+  pub logEvents : eventCount (h .log) ≤ MAX-LOG-EVENTS
+  pub placesSize : length (h .places) ≤ MAX-PLACES
   pub places : Every (PlaceInLimits (h .events)) (h .places)
 
 -- a term's row and event are there
 pub record TermInLimits (h : Head) (t : TermFields) : Type 0 where
-  pub row : t .row < length (rows (h .events) (h .log))
+  pub row : t .row < length (rowsIn h)
   pub event : t .event < h .events
   pub weight : TwoBytes (t .weight)
 
--- kind 0: the place is there; kind 1: k is at least 1, and there are at most 64 terms
+-- k is at least 1, and there are at most 64 terms
+pub record WeightsInLimits (h : Head) (w : WeightFields) : Type 0 where
+  pub positive : 1 ≤ w .k
+  pub factor : TwoBytes (w .k)
+  pub termsSize : length (w .terms) ≤ MAX-TERMS
+  pub terms : Every (TermInLimits h) (w .terms)
+
+-- kind 0: the place is there; kind 1: the weights are in their limits
 abbrev pub CertificateInLimits : Head → CertificateFields → Type 0
 CertificateInLimits h (kind0 j) = j < length (h .places)
-CertificateInLimits h (kind1 k ts) = (1 ≤ k) × TwoBytes k × (length ts ≤ 64) × Every (TermInLimits h) ts
+CertificateInLimits h (kind1 w) = WeightsInLimits h w
 
 -- and at most 256 rows and 64,512 bytes
 pub record InLimits (c : Contents) : Type 0 where
   pub head : HeadInLimits (c .head)
-  pub rowCount : length (rows (c .head .events) (c .head .log)) ≤ 256
+  pub rowCount : length (rowsIn (c .head)) ≤ MAX-ROWS
   pub certificates : Every (CertificateInLimits (c .head)) (c .certificates)
-  pub size : length (bytesOf c) ≤ 64512
+  pub size : length (bytesOf c) ≤ MAX-BUNDLE-SIZE

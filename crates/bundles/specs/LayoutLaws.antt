@@ -7,13 +7,15 @@ use native.Mathlib.Omega.{arith}
 use lib.Dec.{T, leb, ltb, leb→le, le→leb, ltb→lt, lt→ltb}
 use lib.Ieee.Fits.{and-i, and-l, and-r}
 use lib.ListN.{length}
+use Rattle.laws.specs.Booleans.{impossible}
 use Rattle.laws.specs.Every.{Every}
+use Rattle.limits.specs.Limits.{MAX-EVENTS, MAX-LOG-EVENTS, MAX-ROWS, MAX-PLACES, MAX-TERMS}
 use Rattle.nets.specs.Nets.{Word, Log, rows}
 use Rattle.bundles.specs.Reading.{byte, number}
-use Rattle.bundles.specs.Layout.{PlaceFields, TermFields, CertificateFields, kind0, kind1, Head, TwoBytes, WordInLimits, PlaceInLimits, TermInLimits, CertificateInLimits, wordBytes, placeBytes, placesBytes, termBytes, certificateBytes, headBytes}
+use Rattle.bundles.specs.Layout.{PlaceFields, TermFields, CertificateFields, kind0, kind1, Head, TwoBytes, WordInLimits, PlaceInLimits, TermInLimits, CertificateInLimits, wordBytes, placeBytes, placesBytes, termBytes, certificateBytes, headBytes, WeightFields, weightBytes, rowsIn}
 use Rattle.nets.specs.Nets.{eventCount}
 use Rattle.laws.specs.Numbers.{le16}
-use Rattle.bundles.specs.Readers.{anything, wordAfter, word, place, places, head, term, weights, ofKind, certificate}
+use Rattle.bundles.specs.Readers.{anything, wordAfter, word, place, places, headAfter, head, term, weights, ofKind, certificate}
 use Rattle.laws.specs.Numbers.{Bytes}
 use Rattle.bundles.specs.ReadingLaws.{Law, Following, law-then, law-give, law-same, law-require, law-tested, law-offset, law-byte, law-number, law-following, law-times}
 
@@ -30,37 +32,37 @@ flatMap-bytes (x ∷ xs) = ap (λ (l : List ℕ). x ∷ l) (flatMap-bytes xs)
 -- a word in its place behind those of `log`
 pub record WordValid (rowsFit : Log → Bool) (n : ℕ) (log : Log) (w : Word) : Type 0 where
   pub word : WordInLimits n w
-  pub logEvents : eventCount log + length w ≤ 1024
+  pub logEvents : eventCount log + length w ≤ MAX-LOG-EVENTS
   pub rows : T (rowsFit (log ++ w ∷ []))
 
 pub record HeadValid (rowsFit : ℕ → Log → Bool) (h : Head) : Type 0 where
-  pub events : (1 ≤ h .events) × (h .events ≤ 12)
+  pub events : (1 ≤ h .events) × (h .events ≤ MAX-EVENTS)
   pub logSize : length (h .log) ≤ 255
   pub words : Following (WordValid (rowsFit (h .events)) (h .events)) [] (h .log)
-  pub placesSize : length (h .places) ≤ 64
+  pub placesSize : length (h .places) ≤ MAX-PLACES
   pub places : Every (PlaceInLimits (h .events)) (h .places)
 
 -- the parts of a certificate, by kind
 kindOf : CertificateFields → ℕ
 kindOf (kind0 j) = 0
-kindOf (kind1 k ts) = 1
+kindOf (kind1 w) = 1
 
 placeNumber : CertificateFields → ℕ
 placeNumber (kind0 j) = j
-placeNumber (kind1 k ts) = 0
+placeNumber (kind1 w) = 0
 
 factor : CertificateFields → ℕ
 factor (kind0 j) = 0
-factor (kind1 k ts) = k
+factor (kind1 w) = w .k
 
 terms : CertificateFields → List TermFields
 terms (kind0 j) = []
-terms (kind1 k ts) = ts
+terms (kind1 w) = w .terms
 
 -- the bytes behind the kind
 kindBytes : CertificateFields → List ℕ
 kindBytes (kind0 j) = j ∷ []
-kindBytes (kind1 k ts) = le16 k ++ (length ts ∷ flatMap termBytes ts)
+kindBytes (kind1 w) = weightBytes w
 
 module _ (b : List ℕ) (bytes : Bytes b) where
   -- a number of any value
@@ -75,7 +77,7 @@ module _ (b : List ℕ) (bytes : Bytes b) where
   law-size : (most : ℕ) → most ≤ 255 → Law b (byte (λ k. leb k most)) (λ k. k ∷ []) (λ k. k ≤ most)
   law-size most small = law-same b (law-byte b bytes (λ k. leb k most)) (λ k v. refl) (λ k v. leb→le k most (v .0)) (λ k v. (le→leb k most v, omega arith))
 
-  pub law-wordAfter : (n : ℕ) → n ≤ 256 → (count : ℕ) → Law b (wordAfter n count) wordBytes (λ w. WordInLimits n w × (count + length w ≤ 1024))
+  pub law-wordAfter : (n : ℕ) → n ≤ 256 → (count : ℕ) → Law b (wordAfter n count) wordBytes (λ w. WordInLimits n w × (count + length w ≤ MAX-LOG-EVENTS))
   unfolding wordAfter wordBytes
   law-wordAfter n small count =
       law-same b
@@ -110,23 +112,23 @@ module _ (b : List ℕ) (bytes : Bytes b) where
       (λ p v. (v .initial, ((v .producedSize, v .produced), ((v .consumedSize, v .consumed), refl))))
 
   -- the event count
-  law-events : Law b (byte (λ n. leb 1 n && leb n 12)) (λ n. n ∷ []) (λ n. (1 ≤ n) × (n ≤ 12))
-  law-events = law-same b (law-byte b bytes (λ n. leb 1 n && leb n 12)) (λ n v. refl)
-      (λ n v. (leb→le 1 n (and-l (leb 1 n) (leb n 12) (v .0)), leb→le n 12 (and-r (leb 1 n) (leb n 12) (v .0))))
-      (λ n v. (and-i (leb 1 n) (leb n 12) (le→leb 1 n (v .0)) (le→leb n 12 (v .1)), omega arith))
+  law-events : Law b (byte (λ n. leb 1 n && leb n MAX-EVENTS)) (λ n. n ∷ []) (λ n. (1 ≤ n) × (n ≤ MAX-EVENTS))
+  law-events = law-same b (law-byte b bytes (λ n. leb 1 n && leb n MAX-EVENTS)) (λ n v. refl)
+      (λ n v. (leb→le 1 n (and-l (leb 1 n) (leb n MAX-EVENTS) (v .0)), leb→le n MAX-EVENTS (and-r (leb 1 n) (leb n MAX-EVENTS) (v .0))))
+      (λ n v. (and-i (leb 1 n) (leb n MAX-EVENTS) (le→leb 1 n (v .0)) (le→leb n MAX-EVENTS (v .1)), omega arith))
 
   -- the place count and the places
-  law-places : (n : ℕ) → Law b (places n) placesBytes (λ ps. (length ps ≤ 64) × Every (PlaceInLimits n) ps)
+  law-places : (n : ℕ) → Law b (places n) placesBytes (λ ps. (length ps ≤ MAX-PLACES) × Every (PlaceInLimits n) ps)
   unfolding places placesBytes
   law-places n =
       law-same b
-      (law-then b (law-size 64 (omega arith)) (λ (ps : List PlaceFields). length ps) (λ count _. law-times b (law-place n) count) (λ count ps v. v .0))
+      (law-then b (law-size MAX-PLACES (omega arith)) (λ (ps : List PlaceFields). length ps) (λ count _. law-times b (law-place n) count) (λ count ps v. v .0))
       (λ ps v. refl)
       (λ ps v. (v .0, v .1 .1))
       (λ ps v. (v .0, (refl, v .1)))
 
   pub law-head : (rowsFit : ℕ → Log → Bool) → Law b (head rowsFit) headBytes (HeadValid rowsFit)
-  unfolding head headBytes
+  unfolding headAfter head headBytes
   law-head rowsFit =
       law-same b
       (law-then b law-events (λ (h : Head). h .events)
@@ -148,12 +150,12 @@ module _ (b : List ℕ) (bytes : Bytes b) where
 
   -- ---- certificates, behind a head in its limits
 
-  module _ (h : Head) (events : h .events ≤ 12) (rowCount : length (rows (h .events) (h .log)) ≤ 256) (placesSize : length (h .places) ≤ 64) where
-    law-term : Law b (term (h .events) (length (rows (h .events) (h .log)))) termBytes (TermInLimits h)
+  module _ (h : Head) (events : h .events ≤ MAX-EVENTS) (rowCount : length (rowsIn h) ≤ MAX-ROWS) (placesSize : length (h .places) ≤ MAX-PLACES) where
+    law-term : Law b (term (h .events) (length (rowsIn h))) termBytes (TermInLimits h)
     unfolding term termBytes
     law-term =
         law-same b
-        (law-then b (law-number b bytes (λ r. ltb r (length (rows (h .events) (h .log))))) (λ (t : TermFields). t .row)
+        (law-then b (law-number b bytes (λ r. ltb r (length (rowsIn h)))) (λ (t : TermFields). t .row)
         (λ row _. law-then b (law-below (h .events) (omega arith)) (λ (t : TermFields). t .event)
         (λ event _. law-give b law-any (λ (t : TermFields). t .weight) (λ weight. refl))
         (λ event t v. ap (λ (u : TermFields). u .event) (v .1)))
@@ -173,32 +175,32 @@ module _ (b : List ℕ) (bytes : Bytes b) where
         (law-give b (law-below (length (h .places)) (omega arith)) placeNumber (λ j. refl))
         (λ c v. rw (v .1))
         (λ c v. rw (v .1) (refl, v .0))
-        (elim [ kind0 j ↦ λ v. (v .1, refl) | kind1 k ts ↦ λ v. absurd (omega (arith, v .0)) ])
+        (elim [ kind0 j ↦ λ v. (v .1, refl) | kind1 w ↦ λ v. absurd (omega (arith, v .0)) ])
 
     law-kind1 : Law b (ofKind h 1) kindBytes (OfKind 1)
-    unfolding ofKind weights kindBytes OfKind kindOf factor terms
+    unfolding ofKind weights kindBytes weightBytes OfKind kindOf factor terms
     law-kind1 =
         law-same b
         (law-then b (law-number b bytes (leb 1)) factor
-        (λ k _. law-then b (law-size 64 (omega arith)) (λ c. length (terms c))
+        (λ k _. law-then b (law-size MAX-TERMS (omega arith)) (λ c. length (terms c))
         (λ count _. law-give b (law-times b law-term count) terms (λ ts. refl))
         (λ count c v. v .0 .0))
         (λ k c v. ap factor (v .1 .1)))
-        (elim [ kind0 j ↦ λ v. absurd (other (v .1 .1 .1)) | kind1 k ts ↦ λ v. refl ])
-        (elim [ kind0 j ↦ λ v. absurd (other (v .1 .1 .1)) | kind1 k ts ↦ λ v. (refl, (leb→le 1 k (v .0 .0), v .0 .1, v .1 .0, v .1 .1 .0 .1)) ])
-        (elim [ kind0 j ↦ λ v. absurd (omega (arith, v .0)) | kind1 k ts ↦ λ v. ((le→leb 1 k (v .1 .0), v .1 .1), (v .1 .2, ((refl, v .1 .3), refl))) ])
+        (elim [ kind0 j ↦ λ v. absurd (other (v .1 .1 .1)) | kind1 w ↦ λ v. refl ])
+        (elim [ kind0 j ↦ λ v. absurd (other (v .1 .1 .1)) | kind1 w ↦ λ v. (refl, record { positive = leb→le 1 (w .k) (v .0 .0); factor = v .0 .1; termsSize = v .1 .0; terms = v .1 .1 .0 .1 }) ])
+        (elim [ kind0 j ↦ λ v. absurd (omega (arith, v .0)) | kind1 w ↦ λ v. ((le→leb 1 (w .k) (v .1 .positive), v .1 .factor), (v .1 .termsSize, ((refl, v .1 .terms), refl))) ])
       where
-        other : {j k : ℕ} {ts : List TermFields} → kind0 j ≡ kind1 k ts → ⊥
-        other e = let z : _≡_ {A = ℕ} 0 1 = cc in omega arith
+        other : {j : ℕ} {w : WeightFields} → kind0 j ≡ kind1 w → ⊥
+        other e = impossible cc
 
     pub law-certificate : Law b (certificate h) certificateBytes (CertificateInLimits h)
     unfolding certificate certificateBytes OfKind kindOf kindBytes
     law-certificate =
         law-same b
         (law-then b (law-size 1 (omega arith)) kindOf ofEither (λ kind c v. v .0))
-        (elim [ kind0 j ↦ λ v. refl | kind1 k ts ↦ λ v. refl ])
+        (elim [ kind0 j ↦ λ v. refl | kind1 w ↦ λ v. refl ])
         (λ c v. v .1 .1)
-        (elim [ kind0 j ↦ λ v. (omega arith, (refl, v)) | kind1 k ts ↦ λ v. (omega arith, (refl, v)) ])
+        (elim [ kind0 j ↦ λ v. (omega arith, (refl, v)) | kind1 w ↦ λ v. (omega arith, (refl, v)) ])
       where
         ofEither : (kind : ℕ) → kind ≤ 1 → Law b (ofKind h kind) kindBytes (OfKind kind)
         ofEither zero v = law-kind0

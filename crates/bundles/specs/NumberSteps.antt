@@ -1,26 +1,19 @@
 -- Runs of two-byte numbers of any value. Whether they are there is one comparison, and where the first missing one stands is one division.
 use mathlib.Core.Path.{_≡_, refl, sym, ap, ap₂, _∙_}
-use mathlib.Core.Bool.{Bool, true, false}
 use mathlib.Core.Logic.{_⊎_, inl, inr}
 use mathlib.Core.List.{List, [], _∷_, _++_, append-assoc, append-nil}
 use Prim.Native.Nat.{ℕ, zero, suc, _+_, _-_, _*_, _/_, _≤_, _<_}
 use native.Mathlib.Nat.{not-suc-le-zero, suc-mul, zero-mul}
 use native.Mathlib.Omega.{arith}
-use lib.Dec.{ltb}
 use lib.ListN.{length, getD, replicate}
-use borrow.Author.Tests.{ltb-true, ltb-false}
+use Rattle.laws.specs.Booleans.{lt-or-le}
 use Rattle.refusals.specs.Table.{BUNDLE-END}
-use Rattle.bundles.specs.Reading.{got, failed, Reader, andThen, _>>=_, give, number, each, times}
+use Rattle.bundles.specs.Reading.{got, Reader, andThen, _>>=_, give, number, each, times, onward}
+use Rattle.refusals.specs.Results.{refused, bind}
 use Rattle.bundles.specs.Readers.{anything}
 use Rattle.laws.specs.Numbers.{numberAt}
-use Rattle.bundles.specs.FieldSteps.{ranged, number-missing, number-there}
-
-pub lt-or-ge : (m n : ℕ) → (m < n) ⊎ (n ≤ m)
-lt-or-ge m n = go (ltb m n) refl
-  where
-    go : (t : Bool) → ltb m n ≡ t → (m < n) ⊎ (n ≤ m)
-    go true e = inl (ltb-true m n e)
-    go false e = inr (ltb-false m n e)
+use Rattle.bundles.specs.FieldSteps.{number-missing, number-there}
+use Rattle.bundles.specs.ReadingLaws.{ranged}
 
 -- how many whole numbers stand from an offset on
 abbrev pub numbersLeft : List ℕ → ℕ → ℕ
@@ -29,13 +22,13 @@ numbersLeft b at = (length b - at) / 2
 -- r reads a run of k numbers, whatever they are; the value is made of the bytes
 pub record Spans {A : Type 0} (r : Reader A) (k : ℕ) (value : List ℕ → ℕ → A) : Type 0 where
   pub there : (b : List ℕ) (at : ℕ) → k ≤ numbersLeft b at → r b at ≡ got (value b at) (at + 2 * k)
-  pub missing : (b : List ℕ) (at : ℕ) → numbersLeft b at < k → r b at ≡ failed BUNDLE-END (at + 2 * numbersLeft b at)
+  pub missing : (b : List ℕ) (at : ℕ) → numbersLeft b at < k → r b at ≡ refused BUNDLE-END (at + 2 * numbersLeft b at)
 
 pub spans-number : Spans (number anything) 1 numberAt
 unfolding ranged
 spans-number = record {
   there = λ b at h. number-there anything b at (omega arith);
-  missing = λ b at h. number-missing anything b at (omega arith) ∙ ap (failed BUNDLE-END) (omega arith);
+  missing = λ b at h. number-missing anything b at (omega arith) ∙ ap (refused BUNDLE-END) (omega arith);
 }
 
 -- the same in other words
@@ -50,8 +43,8 @@ spans-give x = record { there = λ b at h. ap (got x) (omega arith); missing = �
 
 pub spans-then : {A B : Type 0} {r : Reader A} {f : A → Reader B} {j k : ℕ} {v : List ℕ → ℕ → A} {w : A → List ℕ → ℕ → B}
     → Spans r j v → ((x : A) → Spans (f x) k (w x)) → Spans (r >>= f) (j + k) (λ b at. w (v b at) b (at + 2 * j))
-unfolding andThen
-spans-then {A} {B} {r} {f} {j} {k} {v} {w} s t = record { there = there; missing = λ b at h. missing b at h (lt-or-ge (numbersLeft b at) j) }
+unfolding bind onward
+spans-then {A} {B} {r} {f} {j} {k} {v} {w} s t = record { there = there; missing = λ b at h. missing b at h (lt-or-le (numbersLeft b at) j) }
   where
     there : (b : List ℕ) (at : ℕ) → j + k ≤ numbersLeft b at → andThen (r b at) f b ≡ got (w (v b at) b (at + 2 * j)) (at + 2 * (j + k))
     there b at h =
@@ -60,12 +53,12 @@ spans-then {A} {B} {r} {f} {j} {k} {v} {w} s t = record { there = there; missing
         let end : at + 2 * j + 2 * k ≡ at + 2 * (j + k) = omega arith in
         rw (s .there b at first) (t (v b at) .there b (at + 2 * j) second ∙ rw end)
 
-    missing : (b : List ℕ) (at : ℕ) → numbersLeft b at < j + k → (numbersLeft b at < j) ⊎ (j ≤ numbersLeft b at) → andThen (r b at) f b ≡ failed BUNDLE-END (at + 2 * numbersLeft b at)
+    missing : (b : List ℕ) (at : ℕ) → numbersLeft b at < j + k → (numbersLeft b at < j) ⊎ (j ≤ numbersLeft b at) → andThen (r b at) f b ≡ refused BUNDLE-END (at + 2 * numbersLeft b at)
     missing b at h (inl less) = rw (s .missing b at less)
     missing b at h (inr more) =
         let second : numbersLeft b (at + 2 * j) < k = omega arith in
         let spot : at + 2 * j + 2 * numbersLeft b (at + 2 * j) ≡ at + 2 * numbersLeft b at = omega arith in
-        rw (s .there b at more) (t (v b at) .missing b (at + 2 * j) second ∙ ap (failed BUNDLE-END) spot)
+        rw (s .there b at more) (t (v b at) .missing b (at + 2 * j) second ∙ ap (refused BUNDLE-END) spot)
 
 -- ---- items of one size
 
@@ -99,7 +92,7 @@ module _ {A : Type 0} (size : ℕ) (value : List ℕ → ℕ → A) where
   module _ {r : Reader A} (s : Spans r size value) where
     each-there : (k : ℕ) (before : List A) (b : List ℕ) (at : ℕ) → k * size ≤ numbersLeft b at
         → each (λ (u : Unit {0}) items. r) (replicate k (tt {0})) before b at ≡ got (before ++ itemsAt size value k b at) (at + 2 * (k * size))
-    unfolding each andThen itemsAt
+    unfolding each bind onward itemsAt
     each-there zero before b at h = ap₂ got (sym (append-nil before)) (omega (arith, zero-mul size))
     each-there (suc k) before b at h =
         let more = suc-mul k size in
@@ -110,20 +103,20 @@ module _ {A : Type 0} (size : ℕ) (value : List ℕ → ℕ → A) where
         (each-there k (before ++ value b at ∷ []) b (at + 2 * size) others ∙ ap₂ got (append-assoc before (value b at ∷ []) (itemsAt size value k b (at + 2 * size))) end)
 
     each-missing : (k : ℕ) (before : List A) (b : List ℕ) (at : ℕ) → numbersLeft b at < k * size
-        → each (λ (u : Unit {0}) items. r) (replicate k (tt {0})) before b at ≡ failed BUNDLE-END (at + 2 * numbersLeft b at)
-    unfolding each andThen
+        → each (λ (u : Unit {0}) items. r) (replicate k (tt {0})) before b at ≡ refused BUNDLE-END (at + 2 * numbersLeft b at)
+    unfolding each bind onward
     each-missing zero before b at h = absurd (omega (arith, zero-mul size))
-    each-missing (suc k) before b at h = go (lt-or-ge (numbersLeft b at) size) (each-missing k)
+    each-missing (suc k) before b at h = go (lt-or-le (numbersLeft b at) size) (each-missing k)
       where
         go : (numbersLeft b at < size) ⊎ (size ≤ numbersLeft b at)
-            → ((items : List A) (b′ : List ℕ) (at′ : ℕ) → numbersLeft b′ at′ < k * size → each (λ (u : Unit {0}) before′. r) (replicate k (tt {0})) items b′ at′ ≡ failed BUNDLE-END (at′ + 2 * numbersLeft b′ at′))
-            → andThen (r b at) (λ x. each (λ (u : Unit {0}) items. r) (replicate k (tt {0})) (before ++ x ∷ [])) b ≡ failed BUNDLE-END (at + 2 * numbersLeft b at)
+            → ((items : List A) (b′ : List ℕ) (at′ : ℕ) → numbersLeft b′ at′ < k * size → each (λ (u : Unit {0}) before′. r) (replicate k (tt {0})) items b′ at′ ≡ refused BUNDLE-END (at′ + 2 * numbersLeft b′ at′))
+            → andThen (r b at) (λ x. each (λ (u : Unit {0}) items. r) (replicate k (tt {0})) (before ++ x ∷ [])) b ≡ refused BUNDLE-END (at + 2 * numbersLeft b at)
         go (inl less) below = rw (s .missing b at less)
         go (inr more) below =
             let product = suc-mul k size in
             let others : numbersLeft b (at + 2 * size) < k * size = omega arith in
             let spot : at + 2 * size + 2 * numbersLeft b (at + 2 * size) ≡ at + 2 * numbersLeft b at = omega arith in
-            rw (s .there b at more) (below (before ++ value b at ∷ []) b (at + 2 * size) others ∙ ap (failed BUNDLE-END) spot)
+            rw (s .there b at more) (below (before ++ value b at ∷ []) b (at + 2 * size) others ∙ ap (refused BUNDLE-END) spot)
 
     pub spans-times : (k : ℕ) → Spans (times k r) (k * size) (itemsAt size value k)
     spans-times k = record { there = each-there k []; missing = each-missing k [] }

@@ -10,18 +10,23 @@ use lib.Dec.{leb}
 use borrow.Author.Tests.{leb-true}
 use lib.ListN.{length, replicate, set, length-append}
 use lib.Seq.{set-append-seam}
+use Rattle.laws.specs.Booleans.{impossible}
+use Rattle.laws.specs.Booleans.{lt-or-le}
 use Rattle.laws.specs.Parts.{getD-padded}
+use Rattle.limits.specs.Limits.{MAX-EVENTS, MAX-PLACES}
 use Rattle.nets.specs.Nets as theory
 use Rattle.nets.specs.declared.Place.{Place}
 use Rattle.nets.specs.Machine.{placeOf}
 use Rattle.refusals.specs.Table.{BUNDLE-END}
-use Rattle.bundles.specs.Reading.{Read, got, failed, andThen, byte, number, times}
+use Rattle.bundles.specs.Reading.{Read, got, item, byte, number, times, onward}
+use Rattle.refusals.specs.Results.{value, refused, bind}
 use Rattle.bundles.specs.Layout.{PlaceFields, toPlace}
 use Rattle.bundles.specs.Readers.{anything, place, places}
 use Rattle.laws.specs.Numbers.{numberAt}
 use Rattle.bundles.specs.FieldSteps.{upTo, byte-got}
 use Rattle.bundles.specs.ReadingLaws.{andThen-got}
-use Rattle.bundles.specs.NumberSteps.{lt-or-ge, Spans, spans-number, spans-give, spans-same, spans-then, spans-times, numbersLeft, itemsAt, items-length, items-snoc}
+use Rattle.bundles.specs.NumberSteps.{Spans, spans-number, spans-give, spans-same, spans-then, spans-times, numbersLeft, itemsAt, items-length, items-snoc}
+use Rattle.bundles.specs.declared.Places.{Places}
 use Rattle.bundles.specs.declared.PlacesRead.{PlacesRead}
 use Rattle.bundles.specs.declared.PlacesRead.the-variants as places-read
 
@@ -51,7 +56,7 @@ spans-place n = spans-same (omega (arith, mul-one n)) (λ b at. rw (mul-one n)) 
 
 -- twelve numbers, zero behind those given
 unfoldable pub padded : List ℕ → List ℕ
-padded xs = xs ++ replicate (12 - length xs) 0
+padded xs = xs ++ replicate (MAX-EVENTS - length xs) 0
 
 -- the code's place
 unfoldable pub machinePlace : PlaceFields → Place
@@ -62,25 +67,25 @@ pub place-means : (f : PlaceFields) → placeOf (machinePlace f) ≡ toPlace f
 unfolding machinePlace padded toPlace
 place-means f = λ i. record {
   initial = f .initial;
-  produced = λ x. getD-padded (f .produced) (12 - length (f .produced)) x 0 i;
-  consumed = λ x. getD-padded (f .consumed) (12 - length (f .consumed)) x 0 i;
+  produced = λ x. getD-padded (f .produced) (MAX-EVENTS - length (f .produced)) x 0 i;
+  consumed = λ x. getD-padded (f .consumed) (MAX-EVENTS - length (f .consumed)) x 0 i;
 }
 
 -- one number more
-padded-set : (xs : List ℕ) (x : ℕ) → length xs < 12 → set (padded xs) (length xs) x ≡ padded (xs ++ x ∷ [])
+padded-set : (xs : List ℕ) (x : ℕ) → length xs < MAX-EVENTS → set (padded xs) (length xs) x ≡ padded (xs ++ x ∷ [])
 unfolding padded
-padded-set xs x h = go (12 - length xs) (12 - length (xs ++ x ∷ [])) (omega (arith, length-append xs (x ∷ [])))
+padded-set xs x h = go (MAX-EVENTS - length xs) (MAX-EVENTS - length (xs ++ x ∷ [])) (omega (arith, length-append xs (x ∷ [])))
   where
     go : (k j : ℕ) → k ≡ suc j → set (xs ++ replicate k 0) (length xs) x ≡ (xs ++ x ∷ []) ++ replicate j 0
     go k j e = rw e (set-append-seam xs 0 (replicate j 0) x ∙ sym (append-assoc xs (x ∷ []) (replicate j 0)))
 
 -- a row, filled number by number
 module _ (b : List ℕ) (at : ℕ) where
-  pub row-start : padded (numbersAt 0 b at) ≡ replicate 12 0
+  pub row-start : padded (numbersAt 0 b at) ≡ replicate MAX-EVENTS 0
   unfolding padded itemsAt
   row-start = refl
 
-  pub row-next : (i : ℕ) → i < 12 → set (padded (numbersAt i b at)) i (numberAt b (at + 2 * i)) ≡ padded (numbersAt (i + 1) b at)
+  pub row-next : (i : ℕ) → i < MAX-EVENTS → set (padded (numbersAt i b at)) i (numberAt b (at + 2 * i)) ≡ padded (numbersAt (i + 1) b at)
   row-next i h =
       let size = items-length 1 numberAt i b at in
       ap (λ (k : ℕ). set (padded (numbersAt i b at)) k (numberAt b (at + 2 * i))) (sym size)
@@ -89,23 +94,26 @@ module _ (b : List ℕ) (at : ℕ) where
 
 -- ---- the places of a bundle
 
--- their count, the offset of the first, and the offset behind the last
+-- what the code keeps of places that end at `next`: their count, the offset of the first, and the offset behind the last
+abbrev pub keptPlaces : ℕ → List PlaceFields → ℕ → Places
+keptPlaces n ps next = record { count = length ps; first = next - 2 * (length ps * placeSize n); next = next }
+
 unfoldable pub placesRead : ℕ → Read (List PlaceFields) → PlacesRead
-placesRead n (got ps next) = places-read.Read (record { count = length ps; first = next - 2 * (length ps * placeSize n); next = next })
-placesRead n (failed number spot) = places-read.Refused (record { number = number; spot = spot })
+placesRead n (value (item ps next)) = places-read.Read (keptPlaces n ps next)
+placesRead n (refused number spot) = places-read.Refused (record { number = number; spot = spot })
 
 module _ (n : ℕ) (b : List ℕ) (at : ℕ) where
-  pub places-failed : {number spot : ℕ} → byte (upTo 64) b at ≡ failed number spot → places n b at ≡ failed number spot
-  unfolding places andThen
+  pub places-failed : {number spot : ℕ} → byte (upTo MAX-PLACES) b at ≡ refused number spot → places n b at ≡ refused number spot
+  unfolding places bind onward
   places-failed e = rw (e)
 
-  module _ {count first : ℕ} (e : byte (upTo 64) b at ≡ got count first) where
-    pub places-missing : numbersLeft b first < count * placeSize n → places n b at ≡ failed BUNDLE-END (first + 2 * numbersLeft b first)
-    unfolding places andThen
+  module _ {count first : ℕ} (e : byte (upTo MAX-PLACES) b at ≡ got count first) where
+    pub places-missing : numbersLeft b first < count * placeSize n → places n b at ≡ refused BUNDLE-END (first + 2 * numbersLeft b first)
+    unfolding places bind onward
     places-missing h = rw (e) (spans-times (placeSize n) (fieldsAt n) (spans-place n) count .missing b first h)
 
     pub places-there : count * placeSize n ≤ numbersLeft b first → places n b at ≡ got (itemsAt (placeSize n) (fieldsAt n) count b first) (first + 2 * (count * placeSize n))
-    unfolding places andThen
+    unfolding places bind onward
     places-there h = rw (e) (spans-times (placeSize n) (fieldsAt n) (spans-place n) count .there b first h)
 
     pub places-kept : count * placeSize n ≤ numbersLeft b first → placesRead n (places n b at) ≡ places-read.Read (record { count = count; first = first; next = first + 2 * (count * placeSize n) })
@@ -118,7 +126,7 @@ module _ (n : ℕ) (b : List ℕ) (at : ℕ) where
 -- places that were read: so many, one behind the other
 pub record PlacesAt (n : ℕ) (b : List ℕ) (ps : List PlaceFields) (next : ℕ) : Type 0 where
   pub count : ℕ
-  pub few : count ≤ 64
+  pub few : count ≤ MAX-PLACES
   pub first : ℕ
   pub items : ps ≡ itemsAt (placeSize n) (fieldsAt n) count b first
   pub end : next ≡ first + 2 * (count * placeSize n)
@@ -127,15 +135,15 @@ pub record PlacesAt (n : ℕ) (b : List ℕ) (ps : List PlaceFields) (next : ℕ
 pub places-got : (n : ℕ) (b : List ℕ) (at : ℕ) (ps : List PlaceFields) (next : ℕ) → places n b at ≡ got ps next → PlacesAt n b ps next
 unfolding places
 places-got n b at ps next e =
-    let m = andThen-got b (byte (λ k. leb k 64) b at) (λ count. times count (place n)) ps next e in
-    let counted = byte-got (λ k. leb k 64) b at (m .0) (m .1) (m .2) in
-    go (m .0) (m .1) (m .3) (leb-true (m .0) 64 (counted .0)) (counted .3) (lt-or-ge (numbersLeft b (m .1)) (m .0 * placeSize n))
+    let m = andThen-got b (byte (λ k. leb k MAX-PLACES) b at) (λ count. times count (place n)) ps next e in
+    let counted = byte-got (λ k. leb k MAX-PLACES) b at (m .0) (m .1) (m .2) in
+    go (m .0) (m .1) (m .3) (leb-true (m .0) MAX-PLACES (counted .0)) (counted .3) (lt-or-le (numbersLeft b (m .1)) (m .0 * placeSize n))
   where
-    go : (count first : ℕ) → times count (place n) b first ≡ got ps next → count ≤ 64 → first ≤ length b
+    go : (count first : ℕ) → times count (place n) b first ≡ got ps next → count ≤ MAX-PLACES → first ≤ length b
         → (numbersLeft b first < count * placeSize n) ⊎ (count * placeSize n ≤ numbersLeft b first) → PlacesAt n b ps next
     go count first r few h (inl less) =
-        let failed = spans-times (placeSize n) (fieldsAt n) (spans-place n) count .missing b first less in
-        absurd (let z : _≡_ {A = ℕ} 0 1 = cc in omega arith)
+        let refused = spans-times (placeSize n) (fieldsAt n) (spans-place n) count .missing b first less in
+        impossible cc
     go count first r few h (inr there) =
         let read = spans-times (placeSize n) (fieldsAt n) (spans-place n) count .there b first there in
         let end : next ≡ first + 2 * (count * placeSize n) = cc in

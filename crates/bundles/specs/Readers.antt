@@ -4,9 +4,11 @@ use mathlib.Core.List.{List, [], _∷_, _++_}
 use Prim.Native.Nat.{ℕ, zero, suc, _+_}
 use lib.Dec.{leb, ltb}
 use lib.ListN.{length}
-use Rattle.refusals.specs.Table.{EVENTS, ROWS}
+use Rattle.limits.specs.Limits.{MAX-EVENTS, MAX-LOG-EVENTS, MAX-ROWS, MAX-PLACES, MAX-TERMS, rightSize}
+use Rattle.refusals.specs.Table.{BUNDLE-LENGTH, EVENTS, ROWS}
 use Rattle.nets.specs.Nets.{Word, Log, Net, eventCount, rows}
-use Rattle.bundles.specs.Reading.{Read, got, failed, Reader, _>>=_, _>>_, give, offset, require, byte, number, following, times}
+use Rattle.bundles.specs.Reading.{Read, item, Reader, _>>=_, _>>_, give, offset, require, byte, number, following, times}
+use Rattle.refusals.specs.Results.{value, refused}
 use Rattle.bundles.specs.Layout.{PlaceFields, TermFields, CertificateFields, kind0, kind1, Head, toNet}
 
 -- any value
@@ -18,7 +20,7 @@ unfoldable pub wordAfter : ℕ → ℕ → Reader Word
 wordAfter n count = do
   start ← offset
   size ← byte anything
-  require (leb (count + size) 1024) EVENTS start
+  require (leb (count + size) MAX-LOG-EVENTS) EVENTS start
   times size (byte (λ e. ltb e n))
 
 -- a word, behind those of `log`, and 9 where its rows do not fit
@@ -40,17 +42,22 @@ place n = do
 -- the place count, and the places
 unfoldable pub places : ℕ → Reader (List PlaceFields)
 places n = do
-  count ← byte (λ k. leb k 64)
+  count ← byte (λ k. leb k MAX-PLACES)
   times count (place n)
 
--- a bundle up to its last place, with a test of the rows of each log so far
-unfoldable pub head : (ℕ → Log → Bool) → Reader Head
-head rowsFit = do
-  n ← byte (λ n. leb 1 n && leb n 12)
+-- a head behind its event count n: its words, with a test of the rows of each log so far, and its places
+unfoldable pub headAfter : (ℕ → Log → Bool) → ℕ → Reader Head
+headAfter rowsFit n = do
   count ← byte anything
   log ← following count (word (rowsFit n) n)
   ps ← places n
   give (record { events = n; log = log; places = ps })
+
+-- a bundle up to its last place
+unfoldable pub head : (ℕ → Log → Bool) → Reader Head
+head rowsFit = do
+  n ← byte (λ n. leb 1 n && leb n MAX-EVENTS)
+  headAfter rowsFit n
 
 -- a term: a row, an event, a weight
 unfoldable pub term : ℕ → ℕ → Reader TermFields
@@ -64,9 +71,9 @@ term n rowCount = do
 unfoldable pub weights : ℕ → ℕ → Reader CertificateFields
 weights n rowCount = do
   k ← number (leb 1)
-  count ← byte (λ c. leb c 64)
+  count ← byte (λ c. leb c MAX-TERMS)
   ts ← times count (term n rowCount)
-  give (kind1 k ts)
+  give (kind1 (record { k = k; terms = ts }))
 
 -- what follows the kind: a place number, or weights
 unfoldable pub ofKind : Head → ℕ → Reader CertificateFields
@@ -83,14 +90,28 @@ certificate h = do
 
 -- ---- A bundle's head
 
+-- judging tests that the rows do not pass 256
+abbrev pub rowsInLimit : ℕ → Log → Bool
+rowsInLimit n log = leb (length (rows n log)) MAX-ROWS
+
 -- screening does not count rows
 abbrev pub anyRows : ℕ → Log → Bool
 anyRows n log = true
 
+-- a bundle of 1 to 64,512 bytes, or 4
+unfoldable pub bundleSize : Reader (Unit {0})
+bundleSize b at = require (rightSize (length b)) BUNDLE-LENGTH 0 b at
+
+-- 4, then the head: what a call reads of a bundle that it does not judge
+unfoldable pub bundleHead : Reader Head
+bundleHead = do
+  bundleSize
+  head anyRows
+
 -- the head that was read, or one without an event, a word and a place
 unfoldable pub headIn : Read Head → Head
-headIn (got h next) = h
-headIn (failed number spot) = record { events = 0; log = []; places = [] }
+headIn (value (item h next)) = h
+headIn (refused number spot) = record { events = 0; log = []; places = [] }
 
 -- the head of a bundle, as screening reads it
 unfoldable pub headOf : List ℕ → Head

@@ -6,12 +6,17 @@ use lib.Dec.{leb}
 use lib.ListN.{length, getD, replicate}
 use Rattle.laws.specs.Numbers.{numberAt}
 use Rattle.refusals.specs.Table.{BUNDLE-END, VALUE}
+use Rattle.refusals.specs.Results.{Result, value, refused, bind}
 
-pub data Read (A : Type 0) : Type 0 where
-  -- a value, and the offset of what follows
-  got : A → ℕ → Read A
-  -- the number and the spot of a refusal
-  failed : ℕ → ℕ → Read A
+-- an item that was read, and the offset of what follows
+pub data Item (A : Type 0) : Type 0 where
+  item : A → ℕ → Item A
+
+abbrev pub Read : Type 0 → Type 0
+Read A = Result (Item A)
+
+abbrev pub got : {A : Type 0} → A → ℕ → Read A
+got x next = value (item x next)
 
 abbrev pub Reader : Type 0 → Type 0
 Reader A = List ℕ → ℕ → Read A
@@ -19,10 +24,12 @@ Reader A = List ℕ → ℕ → Read A
 module _ {A B : Type 0} where
   infixl 10 _>>=_
   infixl 10 _>>_
-  -- go on behind a value; a refusal stays
-  unfoldable pub andThen : Read A → (A → Reader B) → List ℕ → Read B
-  andThen (got x at) f b = f x b at
-  andThen (failed number spot) f b = failed number spot
+  -- go on behind an item
+  unfoldable pub onward : (A → Reader B) → List ℕ → Item A → Read B
+  onward f b (item x at) = f x b at
+
+  abbrev pub andThen : Read A → (A → Reader B) → List ℕ → Read B
+  andThen m f b = bind m (onward f b)
 
   abbrev pub _>>=_ : Reader A → (A → Reader B) → Reader B
   _>>=_ r f b at = andThen (r b at) f b
@@ -40,13 +47,13 @@ offset b at = got at at
 
 -- a refusal where a test fails
 unfoldable pub require : Bool → ℕ → ℕ → Reader (Unit {0})
-require ok number spot b at = cond ok (got tt at) (failed number spot)
+require ok number spot b at = cond ok (got tt at) (refused number spot)
 
 -- ---- fields
 
 -- a field of some bytes with the value x: 6 where it is not there whole, 7 where x is outside its range
 unfoldable pub field : ℕ → ℕ → (ℕ → Bool) → Reader ℕ
-field size x inRange b at = cond (leb (at + size) (length b)) (cond (inRange x) (got x (at + size)) (failed VALUE at)) (failed BUNDLE-END at)
+field size x inRange b at = cond (leb (at + size) (length b)) (cond (inRange x) (got x (at + size)) (refused VALUE at)) (refused BUNDLE-END at)
 
 -- one byte
 unfoldable pub byte : (ℕ → Bool) → Reader ℕ

@@ -10,10 +10,11 @@ use borrow.Author.Tests.{le-leb}
 use lib.Dec.{T, leb, leb→le}
 use lib.ListN.{length, getD, drop, replicate, length-append, length-drop}
 use lib.Seq.{drop-cons, drop-drop, drop-append-seam, getD-drop}
-use Rattle.laws.specs.Booleans.{yes-true}
+use Rattle.laws.specs.Booleans.{impossible, yes-true}
 use Rattle.laws.specs.Every.{Every}
 use Rattle.refusals.specs.Table.{BUNDLE-END, VALUE}
-use Rattle.bundles.specs.Reading.{Read, got, failed, Reader, andThen, _>>=_, _>>_, give, offset, require, field, byte, number, each, following, times}
+use Rattle.bundles.specs.Reading.{Read, got, item, Reader, andThen, _>>=_, _>>_, give, offset, require, field, byte, number, each, following, times, onward}
+use Rattle.refusals.specs.Results.{value, refused, bind}
 use Rattle.laws.specs.Numbers.{Bytes, le16, numberAt}
 
 -- ---- a part of a bundle
@@ -63,9 +64,9 @@ pub record Law {A : Type 0} (b : List ℕ) (r : Reader A) (write : A → List �
 module _ {A B : Type 0} (b : List ℕ) where
   pub andThen-got : (m : Read A) (f : A → Reader B) (y : B) (next : ℕ) → andThen m f b ≡ got y next
       → (x : A) × (mid : ℕ) × (m ≡ got x mid) × (f x b mid ≡ got y next)
-  unfolding andThen
-  andThen-got (got x mid) f y next e = (x, mid, refl, e)
-  andThen-got (failed refusal spot) f y next e = let z : _≡_ {A = ℕ} 0 1 = cc in absurd (omega arith)
+  unfolding bind onward
+  andThen-got (value (item x mid)) f y next e = (x, mid, refl, e)
+  andThen-got (refused refusal spot) f y next e = impossible cc
 
   -- one reader after another: `first` is what the first one read, which the second one's value shows
   module _ {r : Reader A} {write : A → List ℕ} {Valid : A → Type 0} (law : Law b r write Valid) where
@@ -73,7 +74,7 @@ module _ {A B : Type 0} (b : List ℕ) where
         → ((x : A) → Valid x → Law b (f x) (write′ x) (Valid′ x))
         → ((x : A) (y : B) → Valid′ x y → first y ≡ x)
         → Law b (r >>= f) (λ y. write (first y) ++ write′ (first y) y) (λ y. Valid (first y) × Valid′ (first y) y)
-    unfolding andThen
+    unfolding bind onward
     law-then {f} {write′} {Valid′} first laws shown = record {
       sound = λ at y next e.
           let s = andThen-got (r b at) f y next e in
@@ -88,7 +89,7 @@ module _ {A B : Type 0} (b : List ℕ) where
 
     -- a value made of what was read
     pub law-give : {g : A → B} (first : B → A) → ((x : A) → first (g x) ≡ x) → Law b (r >>= λ x. give (g x)) (λ y. write (first y)) (λ y. Valid (first y) × (y ≡ g (first y)))
-    unfolding andThen
+    unfolding bind onward
     law-give {g} first undo = record {
       sound = λ at y next e.
           let s = andThen-got (r b at) (λ x. give (g x)) y next e in
@@ -100,11 +101,11 @@ module _ {A B : Type 0} (b : List ℕ) where
       complete = λ at y next v p. rw (law .complete at (first y) next (v .0) p) (ap (λ (z : B). got z next) (sym (v .1)));
     }
 
-tested-got : {A : Type 0} (b : List ℕ) (ok : Bool) (refusal spot : ℕ) (x : A) (mid : ℕ) (y : A) (next : ℕ) → andThen (require ok refusal spot b mid) (λ z. give x) b ≡ got y next
-    → T ok × (x ≡ y) × (mid ≡ next)
-unfolding andThen require
-tested-got b true refusal spot x mid y next e = (tt, (cc), (cc))
-tested-got b false refusal spot x mid y next e = let z : _≡_ {A = ℕ} 0 1 = cc in absurd (omega arith)
+-- a test that was passed
+pub require-got : {B : Type 0} (ok : Bool) (number spot : ℕ) (r : Reader B) (b : List ℕ) (at : ℕ) (y : B) (next : ℕ) → (require ok number spot >> r) b at ≡ got y next → (ok ≡ true) × (r b at ≡ got y next)
+unfolding require bind onward
+require-got true number spot r b at y next e = (refl, e)
+require-got false number spot r b at y next e = impossible cc
 
 module _ {A : Type 0} (b : List ℕ) {r : Reader A} {write : A → List ℕ} {Valid : A → Type 0} (law : Law b r write Valid) where
   -- the same law in other words
@@ -116,50 +117,60 @@ module _ {A : Type 0} (b : List ℕ) {r : Reader A} {write : A → List ℕ} {Va
 
   -- behind a test
   pub law-require : (ok : Bool) (refusal spot : ℕ) → Law b (require ok refusal spot >> r) write (λ x. T ok × Valid x)
-  unfolding andThen require
+  unfolding bind onward require
   law-require true refusal spot = record {
     sound = λ at x next e. let s = law .sound at x next e in ((tt, s .0), s .1);
     complete = λ at x next v p. law .complete at x next (v .1) p;
   }
   law-require false refusal spot = record {
-    sound = λ at x next e. let z : _≡_ {A = ℕ} 0 1 = cc in absurd (omega arith);
+    sound = λ at x next e. impossible cc;
     complete = λ at x next v p. absurd (v .0);
   }
 
   -- before a test of what was read
   pub law-tested : (ok : A → Bool) (refusal : A → ℕ) (spot : ℕ) → Law b (r >>= λ x. require (ok x) (refusal x) spot >> give x) write (λ x. Valid x × T (ok x))
-  unfolding andThen require
+  unfolding bind onward require
   law-tested ok refusal spot = record {
     sound = λ at y next e.
         let s = andThen-got b (r b at) (λ x. require (ok x) (refusal x) spot >> give x) y next e in
         let p = law .sound at (s .0) (s .1) (s .2) in
-        let q = tested-got b (ok (s .0)) (refusal (s .0)) spot (s .0) (s .1) y next (s .3) in
-        subst (λ (x : A). (Valid x × T (ok x)) × Part b at (write x) next) (q .1) ((p .0, q .0), subst (Part b at (write (s .0))) (q .2) (p .1));
+        let q = require-got (ok (s .0)) (refusal (s .0)) spot (give (s .0)) b (s .1) y next (s .3) in
+        let same : s .0 ≡ y = cc (q .1) in
+        let ends : s .1 ≡ next = cc (q .1) in
+        subst (λ (x : A). (Valid x × T (ok x)) × Part b at (write x) next) same ((p .0, rw (q .0) tt), subst (Part b at (write (s .0))) ends (p .1));
     complete = λ at y next v p. rw (law .complete at y next (v .0) p, yes-true (ok y) (v .1));
   }
 
 -- a reader that is given the offset where it starts
 pub law-offset : {A : Type 0} (b : List ℕ) {f : ℕ → Reader A} {write : A → List ℕ} {Valid : A → Type 0} → ((at : ℕ) → Law b (f at) write Valid) → Law b (offset >>= f) write Valid
-unfolding andThen
+unfolding bind onward
 law-offset b laws = record { sound = λ at. laws at .sound at; complete = λ at. laws at .complete at }
 
 -- ---- fields
+
+-- the value x of a field that is there
+unfoldable pub ranged : (ℕ → Bool) → ℕ → ℕ → ℕ → Read ℕ
+ranged inRange x at next = cond (inRange x) (got x next) (refused VALUE at)
 
 module _ (b : List ℕ) where
   pub field-got : (size x : ℕ) (inRange : ℕ → Bool) (at y next : ℕ) → field size x inRange b at ≡ got y next → (at + size ≤ length b) × T (inRange x) × (x ≡ y) × (next ≡ at + size)
   unfolding field
   field-got size x inRange at y next e = go (leb (at + size) (length b)) refl (inRange x) e
     where
-      go : (there : Bool) → leb (at + size) (length b) ≡ there → (good : Bool) → cond there (cond good (got x (at + size)) (failed VALUE at)) (failed BUNDLE-END at) ≡ got y next
+      go : (there : Bool) → leb (at + size) (length b) ≡ there → (good : Bool) → cond there (cond good (got x (at + size)) (refused VALUE at)) (refused BUNDLE-END at) ≡ got y next
           → (at + size ≤ length b) × T good × (x ≡ y) × (next ≡ at + size)
       go true t true e = (leb→le (at + size) (length b) (rw t tt), tt, (cc), (cc))
-      go true t false e = let z : _≡_ {A = ℕ} 0 1 = cc in absurd (omega arith)
-      go false t true e = let z : _≡_ {A = ℕ} 0 1 = cc in absurd (omega arith)
-      go false t false e = let z : _≡_ {A = ℕ} 0 1 = cc in absurd (omega arith)
+      go true t false e = impossible cc
+      go false t true e = impossible cc
+      go false t false e = impossible cc
 
-  field-there : (size x : ℕ) (inRange : ℕ → Bool) (at : ℕ) → at + size ≤ length b → T (inRange x) → field size x inRange b at ≡ got x (at + size)
-  unfolding field
-  field-there size x inRange at h t = rw (le-leb (at + size) (length b) h, yes-true (inRange x) t)
+  pub field-there : (size x : ℕ) (inRange : ℕ → Bool) (at : ℕ) → at + size ≤ length b → field size x inRange b at ≡ ranged inRange x at (at + size)
+  unfolding field ranged
+  field-there size x inRange at h = rw (le-leb (at + size) (length b) h)
+
+  in-range : (x : ℕ) (inRange : ℕ → Bool) (at next : ℕ) → T (inRange x) → ranged inRange x at next ≡ got x next
+  unfolding ranged
+  in-range x inRange at next t = rw (yes-true (inRange x) t)
 
   -- what stands at the start of a part
   part-within : (at next : ℕ) (x : List ℕ) → 1 ≤ length x → Part b at x next → at + length x ≤ length b
@@ -179,7 +190,7 @@ module _ (b : List ℕ) where
           let s = field-got 1 (getD b at 0) inRange at x next e in
           subst (λ (y : ℕ). (T (inRange y) × (y < 256)) × Part b at (y ∷ []) next) (s .2)
           ((s .1, bytes at), subst (Part b at (getD b at 0 ∷ [])) (sym (s .3)) (part-byte at (omega (arith, s .0))));
-      complete = λ at x next v p. rw (part-first at next x [] p) (field-there 1 x inRange at (part-within at next (x ∷ []) (omega arith) p) (v .0) ∙ ap (got x) (sym (p .end)));
+      complete = λ at x next v p. rw (part-first at next x [] p) (field-there 1 x inRange at (part-within at next (x ∷ []) (omega arith) p) ∙ in-range x inRange at (at + 1) (v .0) ∙ ap (got x) (sym (p .end)));
     }
 
     pub law-number : Law b (number inRange) le16 (λ x. T (inRange x) × (x < 65536))
@@ -202,7 +213,7 @@ module _ (b : List ℕ) where
           let high : getD b (at + 1) 0 ≡ x / 256 % 256 = part-first (at + 1) next (x / 256 % 256) [] (part-right b at next (x % 256 ∷ []) (x / 256 % 256 ∷ []) p) in
           let whole : x / 256 % 256 ≡ x / 256 = mod-eq-of-lt (omega (arith, v .1)) in
           let value : numberAt b at ≡ x = omega (arith, part-first at next (x % 256) (x / 256 % 256 ∷ []) p, high, whole) in
-          rw value (field-there 2 x inRange at (part-within at next (le16 x) (omega arith) p) (v .0) ∙ ap (got x) (sym (p .end)));
+          rw value (field-there 2 x inRange at (part-within at next (le16 x) (omega arith) p) ∙ in-range x inRange at (at + 2) (v .0) ∙ ap (got x) (sym (p .end)));
     }
 
 -- ---- lists of fields
@@ -218,7 +229,7 @@ module _ {S A : Type 0} where
   module _ (b : List ℕ) {r : S → List A → Reader A} {write : A → List ℕ} {P : S → List A → A → Type 0} (laws : (s : S) (before : List A) → Law b (r s before) write (P s before)) where
     each-sound : (ss : List S) (before : List A) (at : ℕ) (ys : List A) (next : ℕ) → each r ss before b at ≡ got ys next
         → (xs : List A) × (ys ≡ before ++ xs) × EachValid P ss before xs × Part b at (flatMap write xs) next
-    unfolding each andThen flatMap
+    unfolding each bind onward flatMap
     each-sound [] before at ys next e =
         let same : ys ≡ before = cc in
         let ends : at ≡ next = cc in
@@ -230,7 +241,7 @@ module _ {S A : Type 0} where
         (m .0 ∷ q .0, q .1 ∙ append-assoc before (m .0 ∷ []) (q .0), (p .0, q .2), part-append b at (m .1) next (write (m .0)) (flatMap write (q .0)) (p .1) (q .3))
 
     each-complete : (ss : List S) (before : List A) (at : ℕ) (xs : List A) (next : ℕ) → EachValid P ss before xs → Part b at (flatMap write xs) next → each r ss before b at ≡ got (before ++ xs) next
-    unfolding each andThen flatMap
+    unfolding each bind onward flatMap
     each-complete [] before at [] next v p = ap₂ got (sym (append-nil before)) (omega (arith, p .end))
     each-complete [] before at (x ∷ xs) next v p = absurd v
     each-complete (s ∷ ss) before at [] next v p = absurd v

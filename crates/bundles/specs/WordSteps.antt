@@ -9,30 +9,33 @@ use lib.Dec.{leb}
 use lib.ListN.{length, getD, take, drop, replicate, length-append, length-replicate}
 use lib.Seq.{drop-cons}
 use borrow.Author.Tests.{leb-true}
+use Rattle.laws.specs.Booleans.{impossible}
+use Rattle.limits.specs.Limits.{MAX-LOG-EVENTS}
 use Rattle.nets.specs.Nets.{Word, Log, eventCount}
 use Rattle.nets.specs.LogLaws.{eventCount-snoc}
 use Rattle.refusals.specs.Table.{EVENTS, ROWS}
-use Rattle.bundles.specs.Reading.{Read, got, failed, Reader, andThen, _>>_, give, require, byte, each, times, following}
+use Rattle.bundles.specs.Reading.{Read, got, item, Reader, andThen, _>>_, give, require, byte, each, times, following, onward}
+use Rattle.refusals.specs.Results.{value, refused, bind}
 use Rattle.bundles.specs.Readers.{anything, anyRows, wordAfter, word}
-use Rattle.bundles.specs.ReadingLaws.{andThen-got}
+use Rattle.bundles.specs.ReadingLaws.{andThen-got, require-got}
 use Rattle.bundles.specs.FieldSteps.{below, byte-got}
 
 -- ---- a value made of what was read
 
 unfoldable pub mapRead : {A B : Type 0} → (A → B) → Read A → Read B
-mapRead f (got x next) = got (f x) next
-mapRead f (failed number spot) = failed number spot
+mapRead f (value (item x next)) = got (f x) next
+mapRead f (refused number spot) = refused number spot
 
 module _ {A B : Type 0} (f : A → B) where
   pub mapRead-got : (m : Read A) (y : B) (next : ℕ) → mapRead f m ≡ got y next → (x : A) × (m ≡ got x next) × (f x ≡ y)
   unfolding mapRead
-  mapRead-got (got x mid) y next e = (x, (cc), (cc))
-  mapRead-got (failed number spot) y next e = absurd (let z : _≡_ {A = ℕ} 0 1 = cc in omega arith)
+  mapRead-got (value (item x mid)) y next e = (x, (cc), (cc))
+  mapRead-got (refused number spot) y next e = impossible cc
 
-  pub mapRead-failed : (m : Read A) (number spot : ℕ) → mapRead f m ≡ failed number spot → m ≡ failed number spot
+  pub mapRead-failed : (m : Read A) (number spot : ℕ) → mapRead f m ≡ refused number spot → m ≡ refused number spot
   unfolding mapRead
-  mapRead-failed (got x mid) number spot e = absurd (let z : _≡_ {A = ℕ} 0 1 = cc in omega arith)
-  mapRead-failed (failed number′ spot′) number spot e = (cc)
+  mapRead-failed (value (item x mid)) number spot e = impossible cc
+  mapRead-failed (refused number′ spot′) number spot e = (cc)
 
 -- ---- lists of fields, as a loop reads them
 
@@ -50,12 +53,12 @@ module _ {A : Type 0} (r : List A → Reader A) (b : List ℕ) where
   rest-none before at = refl
 
   pub rest-more : (left : ℕ) (before : List A) (at : ℕ) (x : A) (next : ℕ) → 0 < left → r before b at ≡ got x next → rest left before at ≡ rest (left - 1) (before ++ x ∷ []) next
-  unfolding rest each andThen
+  unfolding rest each bind onward
   rest-more zero before at x next h e = absurd (not-suc-le-zero h)
   rest-more (suc k) before at x next h e = let less : suc k - 1 ≡ k = omega arith in rw (e, less)
 
-  pub rest-failed : (left : ℕ) (before : List A) (at number spot : ℕ) → 0 < left → r before b at ≡ failed number spot → rest left before at ≡ failed number spot
-  unfolding rest each andThen
+  pub rest-failed : (left : ℕ) (before : List A) (at number spot : ℕ) → 0 < left → r before b at ≡ refused number spot → rest left before at ≡ refused number spot
+  unfolding rest each bind onward
   rest-failed zero before at number spot h e = absurd (not-suc-le-zero h)
   rest-failed (suc k) before at number spot h e = rw e
 
@@ -67,13 +70,13 @@ eventsAt b at = take (getD b at 0) (drop (at + 1) b)
 
 -- reading a value and giving it again is reading it
 give-again : {A : Type 0} (b : List ℕ) (m : Read A) → andThen m (λ x. give x) b ≡ m
-unfolding andThen
-give-again b (got x next) = refl
-give-again b (failed number spot) = refl
+unfolding bind onward
+give-again b (value (item x next)) = refl
+give-again b (refused number spot) = refl
 
 -- a word whose rows are not counted
 pub word-any : (n : ℕ) (log : Log) (b : List ℕ) (at : ℕ) → word (λ l. true) n log b at ≡ wordAfter n (eventCount log) b at
-unfolding word andThen require
+unfolding word bind onward require
 word-any n log b at = give-again b (wordAfter n (eventCount log) b at)
 
 -- ---- sizes
@@ -88,18 +91,13 @@ each-length r b (s ∷ ss) before at ys next e =
 pub times-length : {A : Type 0} (r : Reader A) (k : ℕ) (b : List ℕ) (at : ℕ) (ys : List A) (next : ℕ) → times k r b at ≡ got ys next → length ys ≡ k
 times-length r k b at ys next e = omega (arith, each-length (λ s before. r) b (replicate k (tt {0})) [] at ys next e, length-replicate k (tt {0}))
 
-pub require-got : {B : Type 0} (ok : Bool) (number spot : ℕ) (r : Reader B) (b : List ℕ) (at : ℕ) (y : B) (next : ℕ) → (require ok number spot >> r) b at ≡ got y next → (ok ≡ true) × (r b at ≡ got y next)
-unfolding require andThen
-require-got true number spot r b at y next e = (refl, e)
-require-got false number spot r b at y next e = absurd (let z : _≡_ {A = ℕ} 0 1 = cc in omega arith)
-
 -- a word that was read keeps the limit of the log's events
-pub word-limit : (n count : ℕ) (b : List ℕ) (at : ℕ) (w : Word) (next : ℕ) → wordAfter n count b at ≡ got w next → count + length w ≤ 1024
-unfolding wordAfter andThen
+pub word-limit : (n count : ℕ) (b : List ℕ) (at : ℕ) (w : Word) (next : ℕ) → wordAfter n count b at ≡ got w next → count + length w ≤ MAX-LOG-EVENTS
+unfolding wordAfter bind onward
 word-limit n count b at w next e =
-    let m = andThen-got b (byte anything b at) (λ size. require (leb (count + size) 1024) EVENTS at >> times size (byte (below n))) w next e in
-    let t = require-got (leb (count + m .0) 1024) EVENTS at (times (m .0) (byte (below n))) b (m .1) w next (m .3) in
-    omega (arith, leb-true (count + m .0) 1024 (t .0), times-length (byte (below n)) (m .0) b (m .1) w next (t .1))
+    let m = andThen-got b (byte anything b at) (λ size. require (leb (count + size) MAX-LOG-EVENTS) EVENTS at >> times size (byte (below n))) w next e in
+    let t = require-got (leb (count + m .0) MAX-LOG-EVENTS) EVENTS at (times (m .0) (byte (below n))) b (m .1) w next (m .3) in
+    omega (arith, leb-true (count + m .0) MAX-LOG-EVENTS (t .0), times-length (byte (below n)) (m .0) b (m .1) w next (t .1))
 
 -- ---- the words of a log, as a loop reads them
 
@@ -107,7 +105,7 @@ word-limit n count b at w next e =
 pub record WordsLeft (n : ℕ) (b : List ℕ) (at count next events left : ℕ) : Type 0 where
   pub log : Log
   pub total : eventCount log ≡ events
-  pub limit : events ≤ 1024
+  pub limit : events ≤ MAX-LOG-EVENTS
   pub same : following count (word (anyRows n) n) b at ≡ rest (word (anyRows n) n) b left log next
 
 module _ (n : ℕ) (b : List ℕ) (at count : ℕ) where
@@ -120,7 +118,7 @@ module _ (n : ℕ) (b : List ℕ) (at count : ℕ) where
   words-done {next} {events} {left} s h = let none : left ≡ 0 = omega arith in rw (s .same, none, rest-none, s .total)
 
   module _ {next events left : ℕ} (s : WordsLeft n b at count next events left) (more : 0 < left) where
-    pub words-failed : {number spot : ℕ} → mapRead length (wordAfter n events b next) ≡ failed number spot → mapRead eventCount (following count (word (anyRows n) n) b at) ≡ failed number spot
+    pub words-failed : {number spot : ℕ} → mapRead length (wordAfter n events b next) ≡ refused number spot → mapRead eventCount (following count (word (anyRows n) n) b at) ≡ refused number spot
     unfolding mapRead
     words-failed {number} {spot} e =
         ap (mapRead eventCount) (s .same ∙ rest-failed (word (anyRows n) n) b left (s .log) next number spot more (word-any n (s .log) b next ∙ rw (s .total) (mapRead-failed length (wordAfter n events b next) number spot e)))
@@ -172,20 +170,20 @@ each-byte p b (suc size) before at ys next h e =
 
 -- a word that was read is the part behind its length byte
 pub word-part : (n count : ℕ) (b : List ℕ) (at : ℕ) (w : Word) (next : ℕ) → wordAfter n count b at ≡ got w next → BytesAt b (at + 1) (getD b at 0) w next
-unfolding wordAfter andThen
+unfolding wordAfter bind onward
 word-part n count b at w next e =
-    let m = andThen-got b (byte anything b at) (λ size. require (leb (count + size) 1024) EVENTS at >> times size (byte (below n))) w next e in
-    let t = require-got (leb (count + m .0) 1024) EVENTS at (times (m .0) (byte (below n))) b (m .1) w next (m .3) in
+    let m = andThen-got b (byte anything b at) (λ size. require (leb (count + size) MAX-LOG-EVENTS) EVENTS at >> times size (byte (below n))) w next e in
+    let t = require-got (leb (count + m .0) MAX-LOG-EVENTS) EVENTS at (times (m .0) (byte (below n))) b (m .1) w next (m .3) in
     let f = byte-got anything b at (m .0) (m .1) (m .2) in
     let r = each-byte (below n) b (m .0) [] (m .1) w next (f .3) (t .1) in
     subst (λ (k : ℕ). BytesAt b (at + 1) k w next) (f .1) (subst (λ (k : ℕ). BytesAt b k (m .0) w next) (f .2) (subst (λ (x : List ℕ). BytesAt b (m .1) (m .0) x next) (sym (r .1)) (r .2)))
 
 -- a word and the test behind it, for judging
 pub word-tested : (fits : Log → Bool) (n : ℕ) (log : Log) (b : List ℕ) (at : ℕ) (w : Word) (next : ℕ) → wordAfter n (eventCount log) b at ≡ got w next
-    → word fits n log b at ≡ cond (fits (log ++ w ∷ [])) (got w next) (failed ROWS at)
-unfolding word andThen require
+    → word fits n log b at ≡ cond (fits (log ++ w ∷ [])) (got w next) (refused ROWS at)
+unfolding word bind onward require
 word-tested fits n log b at w next e = rw e (go (fits (log ++ w ∷ [])))
   where
-    go : (ok : Bool) → andThen (cond ok (got (tt {0}) next) (failed ROWS at)) (λ u. give w) b ≡ cond ok (got w next) (failed ROWS at)
+    go : (ok : Bool) → andThen (cond ok (got (tt {0}) next) (refused ROWS at)) (λ u. give w) b ≡ cond ok (got w next) (refused ROWS at)
     go true = refl
     go false = refl

@@ -7,14 +7,17 @@ pub mod words; // a word, the words of a log
 
 use fields::any_byte;
 use fields::byte_between;
+use limits::MAX_EVENTS;
+use limits::size_fits;
 use net::read_places;
+use refusals::BUNDLE_LENGTH;
 use refusals::Refusal;
 use words::read_words;
 ghost use mathlib.Core.Path.{_≡_};
 ghost use Prim.Native.Nat.{_≤_};
-ghost use Rattle.bundles.specs.Readers.{anyRows, head};
-ghost use Rattle.bundles.specs.Layout.{sizeFits};
-ghost use Rattle.bundles.specs.HeadSteps.{headAfter, headRead, withPlaces};
+ghost use Rattle.limits.specs.Limits.{MAX-EVENTS};
+ghost use Rattle.bundles.specs.Readers.{anyRows, head, bundleHead, headAfter};
+ghost use Rattle.bundles.specs.HeadSteps.{headRead, withPlaces};
 
 // A field's value and the offset behind it.
 pub enum Field {
@@ -57,13 +60,6 @@ pub enum TermRead {
     Refused(Refusal),
 }
 
-// Whether a bundle has 1 to 64,512 bytes. (Inner function.)
-pub fn size_fits(bundle: &[u8]) -> bool
-    ensures { λ r. ⌜ r ≡ sizeFits (now (bundle .entry)) ⌝ }
-{
-    1 <= bundle.len() && bundle.len() <= 64512
-}
-
 fn with_places(n: usize, read: PlacesRead) -> HeadRead
     ensures { λ r. ⌜ r ≡ withPlaces n read ⌝ }
 {
@@ -75,7 +71,7 @@ fn with_places(n: usize, read: PlacesRead) -> HeadRead
 
 // A head from its word count on.
 fn read_head_after(bundle: &[u8], at: usize, n: usize) -> HeadRead
-    requires { ⌜ n ≤ 12 ⌝ }
+    requires { ⌜ n ≤ MAX-EVENTS ⌝ }
     ensures { λ r. ⌜ r ≡ headRead (headAfter anyRows n (now (bundle .entry)) at) ⌝ }
 {
     match any_byte(bundle, at) {
@@ -87,12 +83,25 @@ fn read_head_after(bundle: &[u8], at: usize, n: usize) -> HeadRead
     }
 }
 
-// A bundle up to its last place.
-pub fn read_head(bundle: &[u8]) -> HeadRead
+// The fields of a bundle up to its last place.
+fn read_fields(bundle: &[u8]) -> HeadRead
     ensures { λ r. ⌜ r ≡ headRead (head anyRows (now (bundle .entry)) 0) ⌝ }
 {
-    match byte_between(bundle, 0, 1, 12) {
+    match byte_between(bundle, 0, 1, MAX_EVENTS) {
         Field::Refused(refusal) => HeadRead::Refused(refusal),
         Field::Value(n, at) => read_head_after(bundle, at, n),
     }
+}
+
+// A bundle up to its last place: its length, then its fields.
+pub fn read_head(bundle: &[u8]) -> HeadRead
+    ensures { λ r. ⌜ r ≡ headRead (bundleHead (now (bundle .entry)) 0) ⌝ }
+{
+    if !size_fits(bundle.len()) {
+        return HeadRead::Refused(Refusal {
+            number: BUNDLE_LENGTH,
+            spot: 0,
+        });
+    }
+    read_fields(bundle)
 }

@@ -5,6 +5,7 @@ use crate::Places;
 use crate::PlacesRead;
 use crate::fields::byte_up_to;
 use crate::fields::numbers_left;
+use limits::MAX_PLACES;
 use nets::Place;
 use refusals::BUNDLE_END;
 use refusals::Refusal;
@@ -12,12 +13,13 @@ use slices::number_at;
 ghost use mathlib.Core.Path.{_≡_};
 ghost use Prim.Native.Nat.{_+_, _*_, _≤_};
 ghost use lib.ListN.{length};
+ghost use Rattle.limits.specs.Limits.{MAX-EVENTS};
 ghost use Rattle.bundles.specs.Readers.{places};
 ghost use Rattle.bundles.specs.PlaceSteps.{placeSize, numbersAt, fieldsAt, padded, machinePlace, placesRead};
 
 // The numbers of n events from an offset on; zero from n on.
 fn row_at(bundle: &[u8], at: usize, n: usize) -> [u16; 12]
-    requires { ⌜ (n ≤ 12) × (at + 2 * n ≤ length (now bundle)) ⌝ }
+    requires { ⌜ (n ≤ MAX-EVENTS) × (at + 2 * n ≤ length (now bundle)) ⌝ }
     ensures { λ r. ⌜ r ≡ padded (numbersAt n (now (bundle .entry)) at) ⌝ }
 {
     let mut row = [0u16; 12];
@@ -31,7 +33,7 @@ fn row_at(bundle: &[u8], at: usize, n: usize) -> [u16; 12]
 
 // The place of n events at an offset.
 pub fn place_at(bundle: &[u8], at: usize, n: usize) -> Place
-    requires { ⌜ (n ≤ 12) × (at + 2 * placeSize n ≤ length (now bundle)) ⌝ }
+    requires { ⌜ (n ≤ MAX-EVENTS) × (at + 2 * placeSize n ≤ length (now bundle)) ⌝ }
     ensures { λ r. ⌜ r ≡ machinePlace (fieldsAt n (now (bundle .entry)) at) ⌝ }
 {
     let initial = number_at(bundle, at) as u16;
@@ -46,10 +48,10 @@ pub fn place_at(bundle: &[u8], at: usize, n: usize) -> Place
 
 // The place count at an offset, and the places of n events behind it.
 pub fn read_places(bundle: &[u8], at: usize, n: usize) -> PlacesRead
-    requires { ⌜ n ≤ 12 ⌝ }
+    requires { ⌜ n ≤ MAX-EVENTS ⌝ }
     ensures { λ r. ⌜ r ≡ placesRead n (places n (now (bundle .entry)) at) ⌝ }
 {
-    match byte_up_to(bundle, at, 64) {
+    match byte_up_to(bundle, at, MAX_PLACES) {
         Field::Refused(refusal) => PlacesRead::Refused(refusal),
         Field::Value(count, first) => {
             let left = numbers_left(bundle, first);

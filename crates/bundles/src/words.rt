@@ -2,12 +2,14 @@
 use crate::Field;
 use crate::fields::any_byte;
 use crate::fields::byte_below;
+use limits::MAX_LOG_EVENTS;
 use refusals::EVENTS;
 use refusals::Refusal;
 use slices::byte_at;
 ghost use mathlib.Core.Path.{_≡_};
 ghost use Prim.Native.Nat.{_+_, _≤_};
 ghost use lib.ListN.{length, getD};
+ghost use Rattle.limits.specs.Limits.{MAX-LOG-EVENTS};
 ghost use Rattle.bundles.specs.Reading.{byte, times, following};
 ghost use Rattle.bundles.specs.Readers.{anyRows, word, wordAfter};
 ghost use Rattle.bundles.specs.FieldSteps.{readOf, below};
@@ -33,14 +35,14 @@ fn read_events(bundle: &[u8], at: usize, size: usize, n: usize) -> Field
 
 // The word whose length byte stands at an offset, where `events` come before it in the log: its length, and the offset behind it.
 pub fn read_word(bundle: &[u8], at: usize, n: usize, events: usize) -> Field
-    requires { ⌜ events ≤ 1024 ⌝ }
+    requires { ⌜ events ≤ MAX-LOG-EVENTS ⌝ }
     ensures { λ r. ⌜ readOf r ≡ mapRead length (wordAfter n events (now (bundle .entry)) at) ⌝ }
 {
     let length = any_byte(bundle, at);
     let Field::Value(size, start) = length else {
         return length;
     };
-    if 1024 - events < size {
+    if MAX_LOG_EVENTS - events < size {
         return Field::Refused(Refusal {
             number: EVENTS,
             spot: at,

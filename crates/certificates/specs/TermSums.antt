@@ -13,13 +13,14 @@ use Rattle.laws.specs.Booleans.{lt-or-le}
 use Rattle.laws.specs.Lists.{getD-copies}
 use Rattle.laws.specs.Bits.{bit}
 use Rattle.laws.specs.Numbers.{Bytes, numberAt}
+use Rattle.limits.specs.Limits.{MAX-EVENTS, MAX-TERMS}
 use Rattle.refusals.specs.Answers.{refusal}
 use Rattle.nets.specs.Nets.{Counts, at}
-use Rattle.nets.specs.Machine.{COUNTS}
-use Rattle.bundles.specs.Reading.{Read, got, failed, andThen, give, byte, number, times}
+use Rattle.bundles.specs.Reading.{Read, got, item, andThen, give, byte, number, times, onward}
+use Rattle.refusals.specs.Results.{value, refused, bind}
 use Rattle.bundles.specs.Readers.{anything, term, weights}
-use Rattle.bundles.specs.ReadingLaws.{andThen-got, law-number}
-use Rattle.bundles.specs.FieldSteps.{below, upTo, ranged, byte-there, number-there, byte-got}
+use Rattle.bundles.specs.ReadingLaws.{andThen-got, law-number, ranged}
+use Rattle.bundles.specs.FieldSteps.{below, upTo, byte-there, number-there, byte-got}
 use Rattle.bundles.specs.WordSteps.{rest, rest-all, rest-none, rest-more, rest-failed}
 use Rattle.bundles.specs.Layout.{TermFields, kind1}
 use Rattle.logs.specs.Rows.{ROW, newRow, none, rowAt, rowsOf}
@@ -39,7 +40,7 @@ pub record TermBounds (n rowCount : ℕ) (t : TermFields) : Type 0 where
   pub weight : t .weight ≤ NUMBER
 
 term-bounds : (n rowCount : ℕ) (b : List ℕ) → Bytes b → (from : ℕ) (t : TermFields) (next : ℕ) → term n rowCount b from ≡ got t next → TermBounds n rowCount t
-unfolding term andThen
+unfolding term bind onward
 term-bounds n rowCount b bytes from t next e =
     let row = andThen-got b (number (below rowCount) b from) _ t next e in
     let event = andThen-got b (byte (below n) b (row .1)) _ t next (row .3) in
@@ -53,7 +54,7 @@ term-bounds n rowCount b bytes from t next e =
 -- a term that is there and in range
 pub term-there : (n rowCount : ℕ) (b : List ℕ) (from : ℕ) → from + 5 ≤ length b → numberAt b from < rowCount → getD b (from + 2) 0 < n
     → got (record { row = numberAt b from; event = getD b (from + 2) 0; weight = numberAt b (from + 3) }) (from + 5) ≡ term n rowCount b from
-unfolding term andThen ranged
+unfolding term bind onward ranged
 term-there n rowCount b from there row event =
     let third : from + 2 + 1 ≡ from + 3 = omega arith in
     let end : from + 3 + 2 ≡ from + 5 = omega arith in
@@ -69,20 +70,20 @@ at-take (suc n) (x ∷ l) (suc i) = at-take n l i
 
 -- a row of a table of two-byte numbers, and all of them
 small-row : (t : List ℕ) → ((i : ℕ) → getD t i 0 ≤ NUMBER) → (r i : ℕ) → at (rowAt (drop (ROW * r) t) .counts) i ≤ NUMBER
-small-row t h r i = rw counts-rowAt (omega (arith, at-take COUNTS (drop (ROW * r) t) i, getD-drop (ROW * r) t i 0, h (ROW * r + i)))
+small-row t h r i = rw counts-rowAt (omega (arith, at-take MAX-EVENTS (drop (ROW * r) t) i, getD-drop (ROW * r) t i 0, h (ROW * r + i)))
 
 small-rows : (k : ℕ) (t : List ℕ) → ((i : ℕ) → getD t i 0 ≤ NUMBER) → SmallRows (rowsOf k t)
 small-rows k t h r i = ⊎-elim
     (λ b. rw (rows-at k t r (newRow none) b) (small-row t h r i))
-    (λ b. rw (List·getD-eq-default (rowsOf k t) (newRow none) {n = r} (omega (arith, length-rows k t))) (omega (arith, getD-copies {A = ℕ} COUNTS i 0)))
+    (λ b. rw (List·getD-eq-default (rowsOf k t) (newRow none) {n = r} (omega (arith, length-rows k t))) (omega (arith, getD-copies {A = ℕ} MAX-EVENTS i 0)))
     (lt-or-le r k)
 
 -- ---- the loop
 
 -- terms that were read hold or fail, with the offset behind them; or a refusal
 unfoldable pub weighedTerms : (List TermFields → Bool) → Read (List TermFields) → Weighed
-weighedTerms test (got ts next) = cond (test ts) (Holds next) (Fails next)
-weighedTerms test (failed number spot) = Weighing.Refused (refusal number spot)
+weighedTerms test (value (item ts next)) = cond (test ts) (Holds next) (Fails next)
+weighedTerms test (refused number spot) = Weighing.Refused (refusal number spot)
 
 -- so far some terms were read, with these sums, and so many are left behind them
 pub record TermsLeft (n rowCount : ℕ) (t b : List ℕ) (from count next left total : ℕ) (before ofEvent : List ℕ) (allowed : Bool) : Type 0 where
@@ -91,21 +92,21 @@ pub record TermsLeft (n rowCount : ℕ) (t b : List ℕ) (from count next left t
   pub few : total + NUMBER * left ≤ NUMBER * count
   pub summed : Summed (rowsOf rowCount t) terms total before ofEvent allowed
 
-mask-rowAt : (t : List ℕ) (k : ℕ) → rowAt (drop k t) .mask ≡ getD t (k + COUNTS) 0
+mask-rowAt : (t : List ℕ) (k : ℕ) → rowAt (drop k t) .mask ≡ getD t (k + MAX-EVENTS) 0
 unfolding rowAt
-mask-rowAt t k = getD-drop k t COUNTS 0
+mask-rowAt t k = getD-drop k t MAX-EVENTS 0
 
 -- a term that was read next: the sums have room for it, and stay those of the terms read
 pub record NextTerm (n rowCount : ℕ) (t b : List ℕ) (from count left total : ℕ) (before ofEvent : List ℕ) (allowed : Bool) (x : TermFields) (after : ℕ) : Type 0 where
   pub bounds : TermBounds n rowCount x
-  pub totalRoom : total + x .weight ≤ 64 * NUMBER
+  pub totalRoom : total + x .weight ≤ MAX-TERMS * NUMBER
   pub beforeRoom : (i : ℕ) → at before i + addedWeight (total + x .weight) (x .weight) * at (rowAt (drop (ROW * x .row) t) .counts) i ≤ NUMBER * NUMBER
   pub eventRoom : at ofEvent (x .event) + addedWeight (total + x .weight) (x .weight) ≤ NUMBER
   pub then : {g : ℕ} {before′ : List ℕ} → g ≡ addedWeight (total + x .weight) (x .weight) → before′ ≡ added g (at (rowAt (drop (ROW * x .row) t) .counts)) before
-      → TermsLeft n rowCount t b from count after (left - 1) (total + x .weight) before′ (set ofEvent (x .event) (at ofEvent (x .event) + g)) (allowed && bit (getD t (ROW * x .row + COUNTS) 0) (x .event))
+      → TermsLeft n rowCount t b from count after (left - 1) (total + x .weight) before′ (set ofEvent (x .event) (at ofEvent (x .event) + g)) (allowed && bit (getD t (ROW * x .row + MAX-EVENTS) 0) (x .event))
 
 module _ (n rowCount : ℕ) (t b : List ℕ) (from count : ℕ) where
-  pub terms-start : TermsLeft n rowCount t b from count from count 0 (replicate COUNTS 0) (replicate COUNTS 0) true
+  pub terms-start : TermsLeft n rowCount t b from count from count 0 (replicate MAX-EVENTS 0) (replicate MAX-EVENTS 0) true
   terms-start = record { terms = []; same = rest-all (λ before. term n rowCount) b count from; few = omega arith; summed = summed-none (rowsOf rowCount t) }
 
   module _ {next left total : ℕ} {before ofEvent : List ℕ} {allowed : Bool} (s : TermsLeft n rowCount t b from count next left total before ofEvent allowed) where
@@ -118,13 +119,13 @@ module _ (n rowCount : ℕ) (t b : List ℕ) (from count : ℕ) where
         rw (s .same, none, rest-none, summed-holds (rowsOf rowCount t) (s .summed) v e k most)
 
     module _ (more : 0 < left) where
-      pub terms-failed : (test : List TermFields → Bool) {number spot : ℕ} → term n rowCount b next ≡ failed number spot
+      pub terms-failed : (test : List TermFields → Bool) {number spot : ℕ} → term n rowCount b next ≡ refused number spot
           → Weighing.Refused (refusal number spot) ≡ weighedTerms test (times count (term n rowCount) b from)
       unfolding weighedTerms
       terms-failed test {number} {spot} e = rw (s .same, rest-failed (λ before. term n rowCount) b left (s .terms) next number spot more e)
 
       -- the next term
-      pub terms-next : Bytes b → ((i : ℕ) → getD t i 0 ≤ NUMBER) → count ≤ 64 → n ≤ COUNTS → {x : TermFields} {after : ℕ} → term n rowCount b next ≡ got x after
+      pub terms-next : Bytes b → ((i : ℕ) → getD t i 0 ≤ NUMBER) → count ≤ MAX-TERMS → n ≤ MAX-EVENTS → {x : TermFields} {after : ℕ} → term n rowCount b next ≡ got x after
           → NextTerm n rowCount t b from count left total before ofEvent allowed x after
       terms-next bytes numbers few narrow {x} {after} e =
           let bounds = term-bounds n rowCount b bytes next x after e in
@@ -145,22 +146,22 @@ module _ (n rowCount : ℕ) (t b : List ℕ) (from count : ℕ) where
 -- ---- the answer
 
 module _ (n rowCount : ℕ) (b : List ℕ) (from : ℕ) where
-  pub weights-no-factor : (test : ℕ → List TermFields → Bool) {refused spot : ℕ} → number (leb 1) b from ≡ failed refused spot
-      → weighedBy test (weights n rowCount b from) ≡ Weighing.Refused (refusal refused spot)
-  unfolding weights andThen weighedBy
+  pub weights-no-factor : (test : ℕ → List TermFields → Bool) {cause spot : ℕ} → number (leb 1) b from ≡ refused cause spot
+      → weighedBy test (weights n rowCount b from) ≡ Weighing.Refused (refusal cause spot)
+  unfolding weights bind onward weighedBy
   weights-no-factor test e = rw e
 
   module _ {k second : ℕ} (factor : number (leb 1) b from ≡ got k second) where
-    pub weights-no-count : (test : ℕ → List TermFields → Bool) {refused spot : ℕ} → byte (upTo 64) b second ≡ failed refused spot
-        → weighedBy test (weights n rowCount b from) ≡ Weighing.Refused (refusal refused spot)
-    unfolding weights andThen weighedBy
+    pub weights-no-count : (test : ℕ → List TermFields → Bool) {cause spot : ℕ} → byte (upTo MAX-TERMS) b second ≡ refused cause spot
+        → weighedBy test (weights n rowCount b from) ≡ Weighing.Refused (refusal cause spot)
+    unfolding weights bind onward weighedBy
     weights-no-count test e = rw (factor, e)
 
-    pub weights-judged : {count third : ℕ} → byte (upTo 64) b second ≡ got count third → (test : ℕ → List TermFields → Bool)
+    pub weights-judged : {count third : ℕ} → byte (upTo MAX-TERMS) b second ≡ got count third → (test : ℕ → List TermFields → Bool)
         → weighedBy test (weights n rowCount b from) ≡ weighedTerms (test k) (times count (term n rowCount) b third)
-    unfolding weights andThen weighedBy weighedTerms
+    unfolding weights bind onward weighedBy weighedTerms
     weights-judged {count} {third} size test = rw (factor, size) (go (times count (term n rowCount) b third))
       where
-        go : (m : Read (List TermFields)) → weighedBy test (andThen m (λ ts. give (kind1 k ts)) b) ≡ weighedTerms (test k) m
-        go (got ts next) = refl
-        go (failed refused spot) = refl
+        go : (m : Read (List TermFields)) → weighedBy test (andThen m (λ ts. give (kind1 (record { k = k; terms = ts }))) b) ≡ weighedTerms (test k) m
+        go (value (item ts next)) = refl
+        go (refused cause spot) = refl

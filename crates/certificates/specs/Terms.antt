@@ -6,10 +6,11 @@ use lib.Dec.{leb}
 use lib.ListN.{getD}
 use Rattle.laws.specs.Lists.{all, tabulate}
 use Rattle.laws.specs.Bits.{bit}
+use Rattle.limits.specs.Limits.{MAX-EVENTS}
 use Rattle.refusals.specs.Answers.{refusal}
 use Rattle.nets.specs.Nets.{Counts, at, same}
-use Rattle.nets.specs.Machine.{COUNTS}
-use Rattle.bundles.specs.Reading.{Read, got, failed}
+use Rattle.bundles.specs.Reading.{Read, item}
+use Rattle.refusals.specs.Results.{value, refused}
 use Rattle.bundles.specs.Layout.{TermFields, CertificateFields, kind0, kind1}
 use Rattle.logs.specs.Rows.{Row, newRow, none}
 use Rattle.certificates.specs.declared.Weighed.{Weighed}
@@ -30,11 +31,11 @@ unfoldable pub holdsRows : List Row → Counts → ℕ → ℕ → List TermFiel
 holdsRows rs v e k ts =
     all (λ t. bit (rowOf rs (t .row) .mask) (t .event)) ts
     && leb (weighedRows rs (λ u f. 1) ts) k
-    && all (λ i. leb (weighedRows rs (λ u f. at u i) ts) (k * at v i)) (tabulate COUNTS (λ i. i))
-    && all (λ i. leb (k * (at v i + same e i)) (weighedRows rs (λ u f. at u i + same f i) ts)) (tabulate COUNTS (λ i. i))
+    && all (λ i. leb (weighedRows rs (λ u f. at u i) ts) (k * at v i)) (tabulate MAX-EVENTS (λ i. i))
+    && all (λ i. leb (k * (at v i + same e i)) (weighedRows rs (λ u f. at u i + same f i) ts)) (tabulate MAX-EVENTS (λ i. i))
 
 -- weights that were read: they hold or fail, with the offset behind them; or a refusal
 unfoldable pub weighedBy : (ℕ → List TermFields → Bool) → Read CertificateFields → Weighed
-weighedBy test (got (kind0 j) next) = Fails next
-weighedBy test (got (kind1 k ts) next) = cond (test k ts) (Holds next) (Fails next)
-weighedBy test (failed number spot) = Refused (refusal number spot)
+weighedBy test (value (item (kind0 j) next)) = Fails next
+weighedBy test (value (item (kind1 w) next)) = cond (test (w .k) (w .terms)) (Holds next) (Fails next)
+weighedBy test (refused number spot) = Refused (refusal number spot)

@@ -15,9 +15,9 @@ use lib.Seq.{paste, paste-zero, paste-suc, drop-paste, take-all, ext-getD, getD-
 use Rattle.laws.specs.Booleans.{lt-or-le}
 use Rattle.laws.specs.Lists.{all, all-append, allBelow, allBelow-same, tabulate, tabulate-same, length-tabulate, getD-tabulate, getD-copies}
 use Rattle.laws.specs.Bits.{bit}
+use Rattle.limits.specs.Limits.{MAX-EVENTS}
 use Rattle.nets.specs.Nets.{Counts, at, same}
 use Rattle.nets.specs.Weights.{same-refl, same-ne}
-use Rattle.nets.specs.Machine.{COUNTS}
 use Rattle.bundles.specs.Layout.{TermFields}
 use Rattle.logs.specs.Rows.{Row}
 use Rattle.certificates.specs.Terms.{rowOf, weighedRows, holdsRows}
@@ -28,7 +28,7 @@ NUMBER = 65535
 
 -- sums with g × h(i) added at each event
 unfoldable pub added : ℕ → (ℕ → ℕ) → List ℕ → List ℕ
-added g h s = tabulate COUNTS (λ i. at s i + g * h i)
+added g h s = tabulate MAX-EVENTS (λ i. at s i + g * h i)
 
 -- a weight as it is added to the sums, where all weights sum up to `total`
 unfoldable pub addedWeight : ℕ → ℕ → ℕ
@@ -36,23 +36,23 @@ addedWeight total g = cond (leb total NUMBER) g 0
 
 -- whether the inequalities at each event hold for the event e after the counts v
 unfoldable pub sumsHold : List ℕ → List ℕ → Counts → ℕ → ℕ → Bool
-sumsHold before ofEvent v e k = allBelow COUNTS (λ i. leb (at before i) (k * at v i) && leb (k * (at v i + same e i)) (at before i + at ofEvent i))
+sumsHold before ofEvent v e k = allBelow MAX-EVENTS (λ i. leb (at before i) (k * at v i) && leb (k * (at v i + same e i)) (at before i + at ofEvent i))
 
 -- ---- sums with a term more, as the code adds it
 
-length-added : (g : ℕ) (h : ℕ → ℕ) (s : List ℕ) → length (added g h s) ≡ COUNTS
+length-added : (g : ℕ) (h : ℕ → ℕ) (s : List ℕ) → length (added g h s) ≡ MAX-EVENTS
 unfolding added
-length-added g h s = length-tabulate COUNTS (λ i. at s i + g * h i)
+length-added g h s = length-tabulate MAX-EVENTS (λ i. at s i + g * h i)
 
-at-added : (g : ℕ) (h : ℕ → ℕ) (s : List ℕ) (i : ℕ) → i < COUNTS → at (added g h s) i ≡ at s i + g * h i
+at-added : (g : ℕ) (h : ℕ → ℕ) (s : List ℕ) (i : ℕ) → i < MAX-EVENTS → at (added g h s) i ≡ at s i + g * h i
 unfolding added
-at-added g h s i b = getD-tabulate COUNTS (λ j. at s j + g * h j) i 0 b
+at-added g h s i b = getD-tabulate MAX-EVENTS (λ j. at s j + g * h j) i 0 b
 
 added-most : (most g : ℕ) (h : ℕ → ℕ) (s : List ℕ) → ((i : ℕ) → at s i + g * h i ≤ most) → (i : ℕ) → at (added g h s) i ≤ most
 added-most most g h s room i = ⊎-elim
     (λ b. omega (arith, at-added g h s i b, room i))
     (λ b. omega (arith, List·getD-eq-default (added g h s) 0 {n = i} (omega (arith, length-added g h s))))
-    (lt-or-le i COUNTS)
+    (lt-or-le i MAX-EVENTS)
 
 -- while all weights sum up to two bytes, a weight is added whole
 added-whole : (total g : ℕ) → total ≤ NUMBER → addedWeight total g ≡ g
@@ -68,7 +68,7 @@ module _ (g : ℕ) (h : ℕ → ℕ) (s : List ℕ) where
   added-start = paste-zero s 0 (added g h s)
 
   -- the sum at i is not added yet
-  pub added-here : (i : ℕ) → i < COUNTS → at (addedTo g h s i) i ≡ at s i
+  pub added-here : (i : ℕ) → i < MAX-EVENTS → at (addedTo g h s i) i ≡ at s i
   added-here i b =
       let behind : drop i (addedTo g h s i) ≡ drop i s = ap (λ (j : ℕ). drop j (addedTo g h s i)) (sym (zero-add i)) ∙ drop-paste s 0 (added g h s) i (omega arith) (omega (arith, length-added g h s)) ∙ ap (λ (j : ℕ). drop j s) (zero-add i) in
       let here : i ≡ i + 0 = omega arith in
@@ -78,24 +78,24 @@ module _ (g : ℕ) (h : ℕ → ℕ) (s : List ℕ) where
       ∙ getD-drop i s 0 0
       ∙ ap (at s) (sym here)
 
-  pub added-next : (i : ℕ) → length s ≡ COUNTS → i < COUNTS → set (addedTo g h s i) i (at (addedTo g h s i) i + g * h i) ≡ addedTo g h s (i + 1)
+  pub added-next : (i : ℕ) → length s ≡ MAX-EVENTS → i < MAX-EVENTS → set (addedTo g h s i) i (at (addedTo g h s i) i + g * h i) ≡ addedTo g h s (i + 1)
   added-next i twelve b =
       ap₂ (λ (j x : ℕ). set (addedTo g h s i) j x) (sym (zero-add i)) (ap (λ (x : ℕ). x + g * h i) (added-here i b) ∙ sym (at-added g h s i b))
       ∙ paste-suc s 0 (added g h s) i 0 (omega arith) (omega (arith, length-added g h s))
       ∙ ap (addedTo g h s) (sym (add-one i))
 
-  pub added-done : length s ≡ COUNTS → addedTo g h s COUNTS ≡ added g h s
+  pub added-done : length s ≡ MAX-EVENTS → addedTo g h s MAX-EVENTS ≡ added g h s
   added-done twelve =
-      ap₂ (λ (x y : List ℕ). x ++ y) (take-all COUNTS (added g h s) (omega (arith, length-added g h s))) (drop-of-length-le s {i = COUNTS} (omega arith))
+      ap₂ (λ (x y : List ℕ). x ++ y) (take-all MAX-EVENTS (added g h s) (omega (arith, length-added g h s))) (drop-of-length-le s {i = MAX-EVENTS} (omega arith))
       ∙ append-nil (added g h s)
 
 -- the weight added at the event f alone
-added-event : (g f : ℕ) (s : List ℕ) → length s ≡ COUNTS → f < COUNTS → set s f (at s f + g) ≡ added g (same f) s
+added-event : (g f : ℕ) (s : List ℕ) → length s ≡ MAX-EVENTS → f < MAX-EVENTS → set s f (at s f + g) ≡ added g (same f) s
 added-event g f s twelve b = ext-getD 0 (set s f (at s f + g)) (added g (same f) s)
     (length-set s f _ ∙ twelve ∙ sym (length-added g (same f) s))
     (λ i c. each i (subst (λ (l : ℕ). i < l) (length-set s f _ ∙ twelve) c) (ℕ-discrete i f))
   where
-    each : (i : ℕ) → i < COUNTS → Dec (i ≡ f) → at (set s f (at s f + g)) i ≡ at (added g (same f) s) i
+    each : (i : ℕ) → i < MAX-EVENTS → Dec (i ≡ f) → at (set s f (at s f + g)) i ≡ at (added g (same f) s) i
     each i c (yes q) = rw q (
         getD-set-same s f (at s f + g) 0 (omega arith)
         ∙ omega (arith, at-added g (same f) s f b, ap (λ (x : ℕ). g * x) (same-refl f), mul-one g))
@@ -132,7 +132,7 @@ same-le a b = go (eqb a b)
 module _ (rs : List Row) where
   -- for each event i, the sum of g × h(i, u, f)
   abbrev sumsOf : (ℕ → Counts → ℕ → ℕ) → List TermFields → List ℕ
-  sumsOf h ts = tabulate COUNTS (λ i. weighedRows rs (h i) ts)
+  sumsOf h ts = tabulate MAX-EVENTS (λ i. weighedRows rs (h i) ts)
 
   -- a term more adds its weight × h
   weighed-last : (h : Counts → ℕ → ℕ) (ts : List TermFields) (t : TermFields)
@@ -144,8 +144,8 @@ module _ (rs : List Row) where
   added-last : (h : ℕ → Counts → ℕ → ℕ) (ts : List TermFields) (t : TermFields)
       → added (t .weight) (λ i. h i (rowOf rs (t .row) .counts) (t .event)) (sumsOf h ts) ≡ sumsOf h (ts ++ t ∷ [])
   unfolding added
-  added-last h ts t = tabulate-same COUNTS _ _ (λ i b.
-      ap (λ (x : ℕ). x + t .weight * h i (rowOf rs (t .row) .counts) (t .event)) (getD-tabulate COUNTS (λ j. weighedRows rs (h j) ts) i 0 b)
+  added-last h ts t = tabulate-same MAX-EVENTS _ _ (λ i b.
+      ap (λ (x : ℕ). x + t .weight * h i (rowOf rs (t .row) .counts) (t .event)) (getD-tabulate MAX-EVENTS (λ j. weighedRows rs (h j) ts) i 0 b)
       ∙ sym (weighed-last (h i) ts t))
 
   -- a sum of g × h is at most the sum of g, times what h is at most
@@ -157,9 +157,9 @@ module _ (rs : List Row) where
 
   at-most : (most : ℕ) (h : ℕ → Counts → ℕ → ℕ) → ((i r f : ℕ) → h i (rowOf rs r .counts) f ≤ most) → (ts : List TermFields) (i : ℕ) → at (sumsOf h ts) i ≤ weighedRows rs (λ u f. 1) ts * most
   at-most most h bound ts i = ⊎-elim
-      (λ b. omega (arith, getD-tabulate COUNTS (λ j. weighedRows rs (h j) ts) i 0 b, weighed-most most (h i) (bound i) ts))
-      (λ b. omega (arith, List·getD-eq-default (sumsOf h ts) 0 {n = i} (omega (arith, length-tabulate COUNTS (λ j. weighedRows rs (h j) ts)))))
-      (lt-or-le i COUNTS)
+      (λ b. omega (arith, getD-tabulate MAX-EVENTS (λ j. weighedRows rs (h j) ts) i 0 b, weighed-most most (h i) (bound i) ts))
+      (λ b. omega (arith, List·getD-eq-default (sumsOf h ts) 0 {n = i} (omega (arith, length-tabulate MAX-EVENTS (λ j. weighedRows rs (h j) ts)))))
+      (lt-or-le i MAX-EVENTS)
 
   -- g × (u(i) + [f = i]) in two sums
   weighed-apart : (i : ℕ) (ts : List TermFields) → weighedRows rs (λ u f. at u i) ts + weighedRows rs (λ u f. same f i) ts ≡ weighedRows rs (λ u f. at u i + same f i) ts
@@ -174,17 +174,17 @@ module _ (rs : List Row) where
     pub steps : allowed ≡ all (λ t. bit (rowOf rs (t .row) .mask) (t .event)) ts
     pub beforeSmall : (i : ℕ) → at before i ≤ NUMBER * NUMBER
     pub eventSmall : (i : ℕ) → at ofEvent i ≤ NUMBER
-    pub beforeSize : length before ≡ COUNTS
-    pub eventSize : length ofEvent ≡ COUNTS
+    pub beforeSize : length before ≡ MAX-EVENTS
+    pub eventSize : length ofEvent ≡ MAX-EVENTS
     pub exact : total ≤ NUMBER → (before ≡ sumsOf (λ i u f. at u i) ts) × (ofEvent ≡ sumsOf (λ i u f. same f i) ts)
 
-  pub summed-none : Summed [] 0 (replicate COUNTS 0) (replicate COUNTS 0) true
+  pub summed-none : Summed [] 0 (replicate MAX-EVENTS 0) (replicate MAX-EVENTS 0) true
   unfolding tabulate weighedRows all
   summed-none = record {
     weights = refl;
     steps = refl;
-    beforeSmall = λ i. omega (arith, getD-copies {A = ℕ} COUNTS i 0);
-    eventSmall = λ i. omega (arith, getD-copies {A = ℕ} COUNTS i 0);
+    beforeSmall = λ i. omega (arith, getD-copies {A = ℕ} MAX-EVENTS i 0);
+    eventSmall = λ i. omega (arith, getD-copies {A = ℕ} MAX-EVENTS i 0);
     beforeSize = refl;
     eventSize = refl;
     exact = λ h. (refl, refl);
@@ -214,7 +214,7 @@ module _ (rs : List Row) where
           go false e = omega (arith, s .eventSmall i)
 
       -- the sums with the term
-      pub summed-next : t .event < COUNTS → Summed (ts ++ t ∷ []) (total + t .weight) (added (addedWeight (total + t .weight) (t .weight)) (at (rowOf rs (t .row) .counts)) before)
+      pub summed-next : t .event < MAX-EVENTS → Summed (ts ++ t ∷ []) (total + t .weight) (added (addedWeight (total + t .weight) (t .weight)) (at (rowOf rs (t .row) .counts)) before)
           (set ofEvent (t .event) (at ofEvent (t .event) + addedWeight (total + t .weight) (t .weight))) (allowed && bit (rowOf rs (t .row) .mask) (t .event))
       unfolding all
       summed-next event = rw (added-event (addedWeight (total + t .weight) (t .weight)) (t .event) ofEvent (s .eventSize) event) (record {
@@ -236,16 +236,16 @@ module _ (rs : List Row) where
   summed-holds {ts} {total} {before} {ofEvent} {allowed} s v e k small = rw (← s .steps, ← s .weights) (go allowed (leb total k) refl)
     where
       go : (a b : Bool) → leb total k ≡ b
-          → (a && b && allBelow COUNTS (λ i. leb (at before i) (k * at v i) && leb (k * (at v i + same e i)) (at before i + at ofEvent i)))
-          ≡ (a && b && allBelow COUNTS (λ i. leb (weighedRows rs (λ u f. at u i) ts) (k * at v i)) && allBelow COUNTS (λ i. leb (k * (at v i + same e i)) (weighedRows rs (λ u f. at u i + same f i) ts)))
+          → (a && b && allBelow MAX-EVENTS (λ i. leb (at before i) (k * at v i) && leb (k * (at v i + same e i)) (at before i + at ofEvent i)))
+          ≡ (a && b && allBelow MAX-EVENTS (λ i. leb (weighedRows rs (λ u f. at u i) ts) (k * at v i)) && allBelow MAX-EVENTS (λ i. leb (k * (at v i + same e i)) (weighedRows rs (λ u f. at u i + same f i) ts)))
       go false b q = refl
       go true false q = refl
       go true true q =
           let most : total ≤ k = leb-true total k q in
           let is : (before ≡ sumsOf (λ i u f. at u i) ts) × (ofEvent ≡ sumsOf (λ i u f. same f i) ts) = s .exact (omega arith) in
-          let first : (i : ℕ) → i < COUNTS → at before i ≡ weighedRows rs (λ u f. at u i) ts = λ i b. ap (λ (l : List ℕ). at l i) (is .0) ∙ getD-tabulate COUNTS _ i 0 b in
-          let second : (i : ℕ) → i < COUNTS → at ofEvent i ≡ weighedRows rs (λ u f. same f i) ts = λ i b. ap (λ (l : List ℕ). at l i) (is .1) ∙ getD-tabulate COUNTS _ i 0 b in
-          all-both _ _ (tabulate COUNTS (λ i. i))
+          let first : (i : ℕ) → i < MAX-EVENTS → at before i ≡ weighedRows rs (λ u f. at u i) ts = λ i b. ap (λ (l : List ℕ). at l i) (is .0) ∙ getD-tabulate MAX-EVENTS _ i 0 b in
+          let second : (i : ℕ) → i < MAX-EVENTS → at ofEvent i ≡ weighedRows rs (λ u f. same f i) ts = λ i b. ap (λ (l : List ℕ). at l i) (is .1) ∙ getD-tabulate MAX-EVENTS _ i 0 b in
+          all-both _ _ (tabulate MAX-EVENTS (λ i. i))
           ∙ ap₂ (λ (x y : Bool). x && y)
-          (allBelow-same COUNTS _ _ (λ i b. ap (λ (x : ℕ). leb x (k * at v i)) (first i b)))
-          (allBelow-same COUNTS _ _ (λ i b. ap (λ (x : ℕ). leb (k * (at v i + same e i)) x) (ap₂ _+_ (first i b) (second i b) ∙ weighed-apart i ts)))
+          (allBelow-same MAX-EVENTS _ _ (λ i b. ap (λ (x : ℕ). leb x (k * at v i)) (first i b)))
+          (allBelow-same MAX-EVENTS _ _ (λ i b. ap (λ (x : ℕ). leb (k * (at v i + same e i)) x) (ap₂ _+_ (first i b) (second i b) ∙ weighed-apart i ts)))

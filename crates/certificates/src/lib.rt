@@ -5,9 +5,11 @@ use bundles::TermRead;
 use bundles::fields::byte_up_to;
 use bundles::fields::number_from;
 use bundles::terms::read_term;
+use heads::TakenHead;
+use limits::MAX_EVENTS;
+use limits::MAX_TERMS;
 use logs::rows::ROW;
 use logs::rows::counts_of;
-use nets::COUNTS;
 use nets::has_bit;
 use refusals::Refusal;
 use slices::byte_at;
@@ -16,12 +18,13 @@ ghost use mathlib.Core.Path.{_≡_};
 ghost use mathlib.Core.Bool.{cond};
 ghost use Prim.Native.Nat.{ℕ, _+_, _*_, _≤_, _<_};
 ghost use lib.ListN.{length};
+ghost use Rattle.limits.specs.Limits.{MAX-EVENTS, MAX-TERMS};
 ghost use Rattle.nets.specs.Nets.{at, same};
-ghost use Rattle.nets.specs.Machine.{COUNTS};
 ghost use Rattle.bundles.specs.Reading.{times};
 ghost use Rattle.bundles.specs.Readers.{term, weights};
 ghost use Rattle.bundles.specs.TermSteps.{termReadOf};
-ghost use Rattle.logs.specs.Rows.{ROW, rowsOf};
+ghost use Rattle.logs.specs.Rows.{rowsOf};
+ghost use Rattle.heads.specs.Heads.{HeadHeld};
 ghost use Rattle.certificates.specs.Terms.{rowOf, holdsRows, weighedBy};
 ghost use Rattle.certificates.specs.TermSums.{weighedTerms};
 ghost use Rattle.certificates.specs.Totals.{NUMBER, addedWeight, added, sumsHold};
@@ -65,11 +68,13 @@ fn added_weight(total: u32, weight: u32) -> u32
 
 // Adds weight × count at each event.
 fn add_counts(sums: &mut [u32], counts: &[u16], weight: u32)
-    requires { ⌜ (length (now sums) ≡ COUNTS) × (COUNTS ≤ length (now counts)) × ((i : ℕ) → at (now sums) i + weight * at (now counts) i ≤ NUMBER * NUMBER) ⌝ }
+    requires { ⌜ (length (now sums) ≡ MAX-EVENTS)
+        × (MAX-EVENTS ≤ length (now counts))
+        × ((i : ℕ) → at (now sums) i + weight * at (now counts) i ≤ NUMBER * NUMBER) ⌝ }
     ensures { λ _. ⌜ now (sums .exit) ≡ added weight (at (now (counts .entry))) (now (sums .entry)) ⌝ }
 {
     let mut i = 0;
-    while i < COUNTS {
+    while i < MAX_EVENTS {
         sums[i] = sums[i] + weight * wide(counts[i]);
         i += 1;
     }
@@ -78,12 +83,15 @@ fn add_counts(sums: &mut [u32], counts: &[u16], weight: u32)
 // Whether the last two inequalities hold for the event after the counts. At each event i, `before` sums g × u(i), and `of_event` g where f = i.
 // One chain of tests for both: then the compiler keeps the sums in vectors, also while terms are added.
 fn sums_hold(before: &[u32; 12], of_event: &[u32; 12], k: u32, counts: &[u16], event: usize) -> bool
-    requires { ⌜ (COUNTS ≤ length (now counts)) × (k ≤ NUMBER) × ((i : ℕ) → at (now before) i ≤ NUMBER * NUMBER) × ((i : ℕ) → at (now «of_event») i ≤ NUMBER) ⌝ }
+    requires { ⌜ (MAX-EVENTS ≤ length (now counts))
+        × (k ≤ NUMBER)
+        × ((i : ℕ) → at (now before) i ≤ NUMBER * NUMBER)
+        × ((i : ℕ) → at (now «of_event») i ≤ NUMBER) ⌝ }
     ensures { λ r. ⌜ r ≡ sumsHold (now (before .entry)) (now («of_event» .entry)) (now (counts .entry)) event k ⌝ }
 {
     let mut hold = true;
     let mut i = 0;
-    while i < COUNTS {
+    while i < MAX_EVENTS {
         let count = wide(counts[i]);
         let sum = before[i];
         hold = hold
@@ -123,16 +131,18 @@ fn weigh_terms(
     bundle: &[u8],
     at: usize,
     count: usize,
-    n: usize,
+    head: TakenHead,
     table: &[u16],
-    rows: usize,
     row: usize,
     event: usize,
     k: u32,
 ) -> Weighed
-    requires { ⌜ (count ≤ 64) × (n ≤ COUNTS) × (rows ≤ 256) × (ROW * rows ≤ length (now table)) × (row < rows) × (k ≤ NUMBER) ⌝ }
-    ensures { λ r. ⌜ r ≡ weighedTerms (holdsRows (rowsOf rows (now (table .entry))) (rowOf (rowsOf rows (now (table .entry))) row .counts) event k) (times count (term n rows) (now (bundle .entry)) at) ⌝ }
+    requires { ⌜ HeadHeld (now bundle) (now table) head ⌝ }
+    requires { ⌜ (count ≤ MAX-TERMS) × (row < head .rows) × (k ≤ NUMBER) ⌝ }
+    ensures { λ r. ⌜ r ≡ weighedTerms (holdsRows (rowsOf (head .rows) (now (table .entry))) (rowOf (rowsOf (head .rows) (now (table .entry))) row .counts) event k) (times count (term (head .n) (head .rows)) (now (bundle .entry)) at) ⌝ }
 {
+    let n = head.n;
+    let rows = head.rows;
     let mut before = [0u32; 12];
     let mut of_event = [0u32; 12];
     let mut total = 0u32;
@@ -149,7 +159,7 @@ fn weigh_terms(
                 let weight = added_weight(total, term.weight as u32);
                 add_counts(&mut before, counts_of(table, from), weight);
                 of_event[by] = of_event[by] + weight;
-                allowed = allowed & has_bit(table[ROW * from + COUNTS], by);
+                allowed = allowed & has_bit(table[ROW * from + MAX_EVENTS], by);
                 next = after;
                 left -= 1;
             }
@@ -164,21 +174,21 @@ fn weigh_terms(
 pub fn read_weights(
     bundle: &[u8],
     at: usize,
-    n: usize,
+    head: TakenHead,
     table: &[u16],
-    rows: usize,
     row: usize,
     event: usize,
 ) -> Weighed
-    requires { ⌜ (n ≤ COUNTS) × (rows ≤ 256) × (ROW * rows ≤ length (now table)) × (row < rows) × (event < n) ⌝ }
-    ensures { λ r. ⌜ r ≡ weighedBy (holdsRows (rowsOf rows (now (table .entry))) (rowOf (rowsOf rows (now (table .entry))) row .counts) event) (weights n rows (now (bundle .entry)) at) ⌝ }
+    requires { ⌜ HeadHeld (now bundle) (now table) head ⌝ }
+    requires { ⌜ (row < head .rows) × (event < head .n) ⌝ }
+    ensures { λ r. ⌜ r ≡ weighedBy (holdsRows (rowsOf (head .rows) (now (table .entry))) (rowOf (rowsOf (head .rows) (now (table .entry))) row .counts) event) (weights (head .n) (head .rows) (now (bundle .entry)) at) ⌝ }
 {
     match number_from(bundle, at, 1) {
         Field::Refused(refusal) => Weighed::Refused(refusal),
-        Field::Value(k, second) => match byte_up_to(bundle, second, 64) {
+        Field::Value(k, second) => match byte_up_to(bundle, second, MAX_TERMS) {
             Field::Refused(refusal) => Weighed::Refused(refusal),
             Field::Value(count, third) => {
-                weigh_terms(bundle, third, count, n, table, rows, row, event, k as u32)
+                weigh_terms(bundle, third, count, head, table, row, event, k as u32)
             }
         },
     }

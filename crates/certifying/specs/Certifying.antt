@@ -1,20 +1,15 @@
 -- What reading the certificates of a bundle gives.
-use mathlib.Core.Path.{_≡_}
 use mathlib.Core.Bool.{Bool, cond}
 use mathlib.Core.List.{List, []}
 use Prim.Native.Nat.{ℕ, _+_, _*_}
-use lib.ListN.{length, getD}
+use lib.ListN.{getD}
 use Rattle.refusals.specs.Table.{PLACE-PERMITS, WEIGHTS}
 use Rattle.refusals.specs.Answers.{refusal}
-use Rattle.nets.specs.Nets.{Counts, Step, rows, tally, placePermits}
-use Rattle.nets.specs.Fits.{LogBelow}
-use Rattle.logs.specs.Rows.{rowsOf}
-use Rattle.logs.specs.Log.{logRows}
-use Rattle.bundles.specs.Reading.{Read, got, failed}
-use Rattle.bundles.specs.Layout.{CertificateFields, kind0, kind1, Head, toBundle}
-use Rattle.bundles.specs.NumberSteps.{itemsAt}
-use Rattle.bundles.specs.PlaceSteps.{placeSize, fieldsAt, placeOn}
-use Rattle.bundles.specs.declared.Places.{Places}
+use Rattle.nets.specs.Nets.{Counts, Step, tally, placePermits}
+use Rattle.bundles.specs.Reading.{Read, item}
+use Rattle.refusals.specs.Results.{value, refused}
+use Rattle.bundles.specs.Layout.{CertificateFields, kind0, kind1, Head, rowsIn, toBundle}
+use Rattle.bundles.specs.PlaceSteps.{placeSize, placeOn}
 use Rattle.verdicts.specs.Judging.{countsOf}
 use Rattle.certificates.specs.declared.Weighed.{Weighed}
 use Rattle.certificates.specs.declared.Weighed.the-variants as weighed
@@ -23,30 +18,22 @@ use Rattle.certifying.specs.declared.Certified.the-variants as certified
 use Rattle.certifying.specs.declared.Checked.{Checked}
 use Rattle.certifying.specs.declared.Checked.the-variants as checked
 
--- h is the head of the bundle b: n events, these places, and a log whose rows are the first `rowCount` of the table t
-pub record HeadHeld (b t : List ℕ) (n : ℕ) (ps : Places) (rowCount : ℕ) (h : Head) : Type 0 where
-  pub events : h .events ≡ n
-  pub below : LogBelow n (h .log)
-  pub size : rowCount ≡ length (rows n (h .log))
-  pub table : rowsOf rowCount t ≡ logRows (h .log)
-  pub places : h .places ≡ itemsAt (placeSize n) (fieldsAt n) (ps .count) b (ps .first)
-
 -- the certificates of the head h as a verdict's counts
 unfoldable pub certifiedOf : Head → Read (List CertificateFields) → Certified
-certifiedOf h (got cs next) = certified.Read (countsOf (tally (toBundle (record { head = h; certificates = cs })))) next
-certifiedOf h (failed number spot) = certified.Refused (refusal number spot)
+certifiedOf h (value (item cs next)) = certified.Read (countsOf (tally (toBundle (record { head = h; certificates = cs })))) next
+certifiedOf h (refused number spot) = certified.Refused (refusal number spot)
 
 -- ---- one certificate
 
 -- the event e after row i
 abbrev pub stepOf : Head → ℕ → ℕ → Step
-stepOf h i e = record { row = getD (rows (h .events) (h .log)) i []; event = e }
+stepOf h i e = record { row = getD (rowsIn h) i []; event = e }
 
 -- a certificate that was read and solves its step
 unfoldable pub checkedOf : Read CertificateFields → Checked
-checkedOf (got (kind0 j) next) = checked.ByPlace next
-checkedOf (got (kind1 k ts) next) = checked.ByWeights next
-checkedOf (failed number spot) = checked.Refused (refusal number spot)
+checkedOf (value (item (kind0 j) next)) = checked.ByPlace next
+checkedOf (value (item (kind1 w) next)) = checked.ByWeights next
+checkedOf (refused number spot) = checked.Refused (refusal number spot)
 
 -- place j of a bundle's places, the first at this offset, permits the event e after the counts v
 abbrev pub permitsAt : ℕ → List ℕ → ℕ → Counts → ℕ → ℕ → Bool
@@ -54,8 +41,8 @@ permitsAt n b first v e j = placePermits n (placeOn n b (first + 2 * (j * placeS
 
 -- a place's number that was read, with a test whether the place permits the step
 unfoldable pub placeChecked : (ℕ → Bool) → ℕ → Read ℕ → Checked
-placeChecked permitted number (got j next) = cond (permitted j) (checked.Refused (refusal PLACE-PERMITS number)) (checked.ByPlace next)
-placeChecked permitted number (failed refused spot) = checked.Refused (refusal refused spot)
+placeChecked permitted number (value (item j next)) = cond (permitted j) (checked.Refused (refusal PLACE-PERMITS number)) (checked.ByPlace next)
+placeChecked permitted number (refused cause spot) = checked.Refused (refusal cause spot)
 
 -- weights that were read
 unfoldable pub weightsChecked : ℕ → Weighed → Checked

@@ -1,8 +1,8 @@
 -- One certificate: what the code tests on the rows of the table and the bytes of the bundle is what `solved` requires.
-use mathlib.Core.Path.{_≡_, refl, sym, ap, ap₂, _∙_, subst}
+use mathlib.Core.Path.{_≡_, refl, sym, ap, ap₂, _∙_}
 use mathlib.Core.Bool.{Bool, true, false, not, cond}
 use mathlib.Core.List.{List, [], _∷_, map}
-use Prim.Native.Nat.{ℕ, zero, suc, _+_, _-_, _*_, _≤_, _<_}
+use Prim.Native.Nat.{ℕ, zero, suc, _+_, _-_, _*_, _<_}
 use native.Mathlib.Nat.{not-suc-le-zero, le-of-suc-le-suc}
 use native.Mathlib.Omega.{arith}
 use borrow.Author.Tests.{ltb-true}
@@ -10,23 +10,25 @@ use lib.IntN.{ℤ, pos, _-ℤ_}
 use lib.ListN.{length, getD, drop}
 use lib.Seq.{getD-drop}
 use lib.Signed.{nonNeg}
+use Rattle.laws.specs.Booleans.{impossible}
 use Rattle.laws.specs.Parts.{getD-padded}
 use Rattle.laws.specs.Bits.{bit}
 use Rattle.laws.specs.Numbers.{Bytes}
+use Rattle.limits.specs.Limits.{MAX-EVENTS}
 use Rattle.refusals.specs.Table.{PLACE-PERMITS, WEIGHTS}
 use Rattle.refusals.specs.Answers.{refusal}
-use Rattle.nets.specs.Nets.{Place, Step, Counts, rows, allowed, surplus, placePermits, refusedBy, weightsHold, solves}
-use Rattle.nets.specs.Fits.{LogBelow}
-use Rattle.nets.specs.Machine.{COUNTS}
+use Rattle.nets.specs.Nets.{Place, Step, Counts, rows, surplus, placePermits, refusedBy, weightsHold, solves}
 use Rattle.nets.specs.Surplus.{tokens-row}
 use Rattle.nets.specs.Wide.{wide}
-use Rattle.bundles.specs.Reading.{Read, got, failed, andThen, give, require, byte, number}
-use Rattle.bundles.specs.Layout.{PlaceFields, TermFields, CertificateFields, kind0, kind1, Head, CertificateInLimits, toPlace, toNet, toTerm, toCertificate}
+use Rattle.bundles.specs.Reading.{Read, got, item, andThen, give, require, byte, number, onward}
+use Rattle.refusals.specs.Results.{value, refused, bind}
+use Rattle.bundles.specs.Layout.{PlaceFields, CertificateFields, kind0, kind1, Head, CertificateInLimits, toPlace, toNet, toCertificate, WeightFields, WeightsInLimits, rowsIn, allowedIn, solvesIn, toWeights}
 use Rattle.bundles.specs.LayoutLaws.{law-certificate}
-use Rattle.bundles.specs.Readers.{weights, ofKind, certificate}
+use Rattle.bundles.specs.Readers.{weights, ofKind, certificate, headOf}
 use Rattle.bundles.specs.FieldSteps.{upTo, below, byte-got}
 use Rattle.bundles.specs.ReadingLaws.{andThen-got}
-use Rattle.bundles.specs.NumberSteps.{items-length, getD-items}
+use Rattle.bundles.specs.NumberSteps.{getD-items}
+use Rattle.bundles.specs.HeadSteps.{place-count}
 use Rattle.bundles.specs.PlaceSteps.{placeSize, fieldsAt, placeOn}
 use Rattle.bundles.specs.declared.Places.{Places}
 use Rattle.logs.specs.Rows.{ROW, Row, rowAt, rowsOf, newRow, none}
@@ -37,7 +39,9 @@ use Rattle.certificates.specs.declared.Weighed.{Weighed}
 use Rattle.certificates.specs.declared.Weighed.the-variants as weighed
 use Rattle.certificates.specs.Terms.{rowOf, holdsRows, weighedBy}
 use Rattle.certificates.specs.TermLaws.{row-counts, row-mask, holds-is}
-use Rattle.certifying.specs.Certifying.{HeadHeld, stepOf, checkedOf, permitsAt, placeChecked, weightsChecked}
+use Rattle.heads.specs.Heads.{HeadHeld}
+use Rattle.heads.specs.declared.TakenHead.{TakenHead}
+use Rattle.certifying.specs.Certifying.{stepOf, checkedOf, permitsAt, placeChecked, weightsChecked}
 use Rattle.certifying.specs.declared.Checked.{Checked}
 use Rattle.certifying.specs.declared.Checked.the-variants as checked
 
@@ -60,7 +64,7 @@ module _ (permitted : ℕ → Bool) (number : ℕ) {m : Read ℕ} where
   unfolding placeChecked
   place-refused e t = rw (e, t)
 
-  pub place-unread : {refused spot : ℕ} → m ≡ failed refused spot → checked.Refused (refusal refused spot) ≡ placeChecked permitted number m
+  pub place-unread : {cause spot : ℕ} → m ≡ refused cause spot → checked.Refused (refusal cause spot) ≡ placeChecked permitted number m
   unfolding placeChecked
   place-unread e = rw e
 
@@ -72,110 +76,113 @@ weights-kind n count b at j next e =
     let size = andThen-got b _ _ _ _ (k .3) in
     let ts = andThen-got b _ _ _ _ (size .3) in
     let same = ts .3 in
-    let z : _≡_ {A = ℕ} 0 1 = cc in omega arith
+    impossible cc
 
 -- ---- a head and its table
 
-module _ {b t : List ℕ} {n : ℕ} {ps : Places} {rowCount : ℕ} {h : Head} (held : HeadHeld b t n ps rowCount h) (small : n ≤ COUNTS) where
-  width : h .events + (COUNTS - h .events) ≡ COUNTS
-  width = omega (arith, held .events)
+module _ {b t : List ℕ} {head : TakenHead} (held : HeadHeld b t head) where
+  abbrev h : Head
+  h = headOf b
 
-  log-below : LogBelow (h .events) (h .log)
-  log-below = subst (λ (m : ℕ). LogBelow m (h .log)) (sym (held .events)) (held .below)
+  abbrev n : ℕ
+  n = head .n
 
-  pub row-count : rowCount ≡ length (rows (h .events) (h .log))
-  row-count = held .size ∙ ap (λ (m : ℕ). length (rows m (h .log))) (sym (held .events))
+  abbrev ps : Places
+  ps = head .places
 
-  place-count : length (h .places) ≡ ps .count
-  place-count = ap (λ (l : List PlaceFields). length l) (held .places) ∙ items-length (placeSize n) (fieldsAt n) (ps .count) b (ps .first)
+  abbrev rowCount : ℕ
+  rowCount = head .rows
+
+  width : h .events + (MAX-EVENTS - h .events) ≡ MAX-EVENTS
+  width = omega (arith, held .found .events, held .found .limits)
 
   module _ (i : ℕ) (inside : i < rowCount) where
     row-held : rowAt (drop (ROW * i) t) ≡ rowOf (logRows (h .log)) i
     row-held = sym (rows-at rowCount t i (newRow none) inside) ∙ ap (λ (rs : List Row). rowOf rs i) (held .table)
 
-    counts-held : rowAt (drop (ROW * i) t) .counts ≡ wide (COUNTS - h .events) (getD (rows (h .events) (h .log)) i [])
-    counts-held = ap (λ (r : Row). r .counts) row-held ∙ row-counts (h .events) (COUNTS - h .events) (h .log) width log-below i (omega (arith, row-count))
+    counts-held : rowAt (drop (ROW * i) t) .counts ≡ wide (MAX-EVENTS - h .events) (getD (rowsIn h) i [])
+    counts-held = ap (λ (r : Row). r .counts) row-held ∙ row-counts (h .events) (MAX-EVENTS - h .events) (h .log) width (held .below) i (omega (arith, held .size))
 
     module _ (e : ℕ) (event : e < n) where
       -- the bit of an event says whether the step is allowed
-      pub mask-held : bit (getD t (ROW * i + COUNTS) 0) e ≡ allowed (h .events) (h .log) (stepOf h i e)
+      pub mask-held : bit (getD t (ROW * i + MAX-EVENTS) 0) e ≡ allowedIn h (stepOf h i e)
       unfolding rowAt
       mask-held =
-          ap (λ (m : ℕ). bit m e) (sym (getD-drop (ROW * i) t COUNTS 0))
+          ap (λ (m : ℕ). bit m e) (sym (getD-drop (ROW * i) t MAX-EVENTS 0))
           ∙ ap (λ (r : Row). bit (r .mask) e) row-held
-          ∙ row-mask (h .events) (COUNTS - h .events) (h .log) width log-below i (omega (arith, row-count)) e (omega (arith, held .events))
+          ∙ row-mask (h .events) (MAX-EVENTS - h .events) (h .log) width (held .below) i (omega (arith, held .size)) e (omega (arith, held .found .events))
 
       -- a place permits the step exactly when it does with twelve counts
       permits-held : (p : Place) → placePermits n p (record { row = rowAt (drop (ROW * i) t) .counts; event = e }) ≡ placePermits (h .events) p (stepOf h i e)
       unfolding placePermits surplus
       permits-held p =
-          ap₂ (λ (c : ℕ) (v : Counts). placePermits c p (record { row = v; event = e })) (sym (held .events)) counts-held
+          ap₂ (λ (c : ℕ) (v : Counts). placePermits c p (record { row = v; event = e })) (sym (held .found .events)) counts-held
           ∙ ap (λ (z : ℤ). nonNeg (z -ℤ pos (p .consumed e)))
-          (tokens-row (h .events) p (wide (COUNTS - h .events) (getD (rows (h .events) (h .log)) i [])) (getD (rows (h .events) (h .log)) i []) (λ j _. getD-padded (getD (rows (h .events) (h .log)) i []) (COUNTS - h .events) j 0))
+          (tokens-row (h .events) p (wide (MAX-EVENTS - h .events) (getD (rowsIn h) i [])) (getD (rowsIn h) i []) (λ j _. getD-padded (getD (rowsIn h) i []) (MAX-EVENTS - h .events) j 0))
 
       -- place j, read from its bytes, decides whether place j of the net refuses the step
       place-refuses : (j : ℕ) → j < ps .count → refusedBy (h .events) (toNet h) j (stepOf h i e) ≡ not (permitsAt n b (ps .first) (rowAt (drop (ROW * i) t) .counts) e j)
       unfolding toNet
       place-refuses j listed =
-          refused-fields (h .events) (h .places) j (stepOf h i e) (omega (arith, place-count)) (fieldsAt n b (ps .first + 2 * (j * placeSize n)))
-          (λ d. ap (λ (l : List PlaceFields). getD l j d) (held .places) ∙ getD-items (placeSize n) (fieldsAt n) (ps .count) b (ps .first) j d listed)
+          refused-fields (h .events) (h .places) j (stepOf h i e) (omega (arith, place-count (held .found))) (fieldsAt n b (ps .first + 2 * (j * placeSize n)))
+          (λ d. ap (λ (l : List PlaceFields). getD l j d) (held .found .places) ∙ getD-items (placeSize n) (fieldsAt n) (ps .count) b (ps .first) j d listed)
           ∙ ap not (sym (permits-held (placeOn n b (ps .first + 2 * (j * placeSize n)))))
 
       module _ (before : List CertificateFields) (number : ℕ) (size : length before ≡ number) (at : ℕ) where
         -- no kind
-        pub kind-failed : {refused spot : ℕ} → byte (upTo 1) b at ≡ failed refused spot → checked.Refused (refusal refused spot) ≡ checkedOf (solved h (stepOf h i e) before b at)
-        unfolding solved certificate andThen checkedOf
+        pub kind-failed : {cause spot : ℕ} → byte (upTo 1) b at ≡ refused cause spot → checked.Refused (refusal cause spot) ≡ checkedOf (solved h (stepOf h i e) before b at)
+        unfolding solved certificate bind onward checkedOf
         kind-failed kind = rw kind
 
         -- kind 0
         pub place-checked : {next : ℕ} {r : Checked} → byte (upTo 1) b at ≡ got 0 next → r ≡ placeChecked (permitsAt n b (ps .first) (rowAt (drop (ROW * i) t) .counts) e) number (byte (below (ps .count)) b next)
             → r ≡ checkedOf (solved h (stepOf h i e) before b at)
-        unfolding solved certificate ofKind andThen checkedOf placeChecked solves toCertificate unsolved require
+        unfolding solved certificate ofKind bind onward checkedOf placeChecked solves toCertificate unsolved require
         place-checked {next} {r} kind told =
             told
             ∙ ap (λ (m : ℕ). placeChecked (permitsAt n b (ps .first) (rowAt (drop (ROW * i) t) .counts) e) m (byte (below (ps .count)) b next)) (sym size)
-            ∙ rw (kind, place-count) (go (byte (below (ps .count)) b next) refl)
+            ∙ rw (kind, place-count (held .found)) (go (byte (below (ps .count)) b next) refl)
           where
             go : (r : Read ℕ) → byte (below (ps .count)) b next ≡ r
                 → placeChecked (permitsAt n b (ps .first) (rowAt (drop (ROW * i) t) .counts) e) (length before) r
-                ≡ checkedOf (andThen (andThen r (λ j. give (kind0 j)) b) (λ c. λ b′ at′. andThen (require (solves (h .events) (h .log) (toNet h) (stepOf h i e) (toCertificate h c)) (unsolved c) (length before) b′ at′) (λ x. give c) b′) b)
-            go (failed refused spot) known = refl
-            go (got j mid) known = rw (place-refuses j (ltb-true j (ps .count) (byte-got _ _ _ _ _ known .0))) (decided (permitsAt n b (ps .first) (rowAt (drop (ROW * i) t) .counts) e j))
+                ≡ checkedOf (andThen (andThen r (λ j. give (kind0 j)) b) (λ c. λ b′ at′. andThen (require (solvesIn h (stepOf h i e) c) (unsolved c) (length before) b′ at′) (λ x. give c) b′) b)
+            go (refused cause spot) known = refl
+            go (value (item j mid)) known = rw (place-refuses j (ltb-true j (ps .count) (byte-got _ _ _ _ _ known .0))) (decided (permitsAt n b (ps .first) (rowAt (drop (ROW * i) t) .counts) e j))
               where
                 decided : (p : Bool) → cond p (checked.Refused (refusal PLACE-PERMITS (length before))) (checked.ByPlace mid)
-                    ≡ checkedOf (andThen (cond (not p) (got (tt {0}) mid) (failed PLACE-PERMITS (length before))) (λ x. give (kind0 j)) b)
+                    ≡ checkedOf (andThen (cond (not p) (got (tt {0}) mid) (refused PLACE-PERMITS (length before))) (λ x. give (kind0 j)) b)
                 decided true = refl
                 decided false = refl
 
         -- kind 1
-        module _ (bytes : Bytes b) (rowLimit : rowCount ≤ 256) (placeLimit : ps .count ≤ 64) where
+        module _ (bytes : Bytes b) where
           pub weights-checked : {next : ℕ} {r : Checked} {w : Weighed} → byte (upTo 1) b at ≡ got 1 next → r ≡ weightsChecked number w
               → w ≡ weighedBy (holdsRows (rowsOf rowCount t) (rowOf (rowsOf rowCount t) i .counts) e) (weights n rowCount b next)
               → r ≡ checkedOf (solved h (stepOf h i e) before b at)
-          unfolding solved certificate ofKind andThen checkedOf weightsChecked weighedBy solves toCertificate unsolved require
+          unfolding solved certificate ofKind bind onward checkedOf weightsChecked weighedBy solves toCertificate unsolved require
           weights-checked {next} {r} {w} kind told read =
               told
               ∙ ap (weightsChecked number) read
-              ∙ ap₂ (λ (m : ℕ) (r : Read CertificateFields). weightsChecked m (weighedBy (holdsRows (rowsOf rowCount t) (rowOf (rowsOf rowCount t) i .counts) e) r)) (sym size) (ap₂ (λ (m c : ℕ). weights m c b next) (sym (held .events)) row-count)
-              ∙ rw kind (go (weights (h .events) (length (rows (h .events) (h .log))) b next) refl)
+              ∙ ap₂ (λ (m : ℕ) (r : Read CertificateFields). weightsChecked m (weighedBy (holdsRows (rowsOf rowCount t) (rowOf (rowsOf rowCount t) i .counts) e) r)) (sym size) (ap₂ (λ (m c : ℕ). weights m c b next) (sym (held .found .events)) (held .size))
+              ∙ rw kind (go (weights (h .events) (length (rowsIn h)) b next) refl)
             where
-              limits : (c : CertificateFields) (mid : ℕ) → weights (h .events) (length (rows (h .events) (h .log))) b next ≡ got c mid → CertificateInLimits h c
-              limits c mid known = law-certificate b bytes h (omega (arith, held .events)) (omega (arith, row-count)) (omega (arith, place-count)) .sound at c mid (rw kind known) .0
+              limits : (c : CertificateFields) (mid : ℕ) → weights (h .events) (length (rowsIn h)) b next ≡ got c mid → CertificateInLimits h c
+              limits c mid known = law-certificate b bytes h (omega (arith, held .found .events)) (omega (arith, held .size)) (omega (arith, place-count (held .found))) .sound at c mid (rw kind known) .0
 
-              test : (k : ℕ) (ts : List TermFields) → CertificateInLimits h (kind1 k ts)
-                  → holdsRows (rowsOf rowCount t) (rowOf (rowsOf rowCount t) i .counts) e k ts ≡ weightsHold (h .events) (h .log) (stepOf h i e) k (map (toTerm h) ts)
-              test k ts l =
-                  ap₂ (λ (rs : List Row) (v : Counts). holdsRows rs v e k ts) (held .table) (ap (λ (r : Row). r .counts) (rows-at rowCount t i (newRow none) inside) ∙ counts-held)
-                  ∙ holds-is h (COUNTS - h .events) width log-below ts (l .3) i (omega (arith, row-count)) e (omega (arith, held .events)) k (l .0)
+              test : (w : WeightFields) → WeightsInLimits h w
+                  → holdsRows (rowsOf rowCount t) (rowOf (rowsOf rowCount t) i .counts) e (w .k) (w .terms) ≡ weightsHold (h .events) (h .log) (stepOf h i e) (toWeights h w)
+              test w l =
+                  ap₂ (λ (rs : List Row) (v : Counts). holdsRows rs v e (w .k) (w .terms)) (held .table) (ap (λ (r : Row). r .counts) (rows-at rowCount t i (newRow none) inside) ∙ counts-held)
+                  ∙ holds-is h (MAX-EVENTS - h .events) width (held .below) w l i (omega (arith, held .size)) e (omega (arith, held .found .events))
 
-              go : (r : Read CertificateFields) → weights (h .events) (length (rows (h .events) (h .log))) b next ≡ r
+              go : (r : Read CertificateFields) → weights (h .events) (length (rowsIn h)) b next ≡ r
                   → weightsChecked (length before) (weighedBy (holdsRows (rowsOf rowCount t) (rowOf (rowsOf rowCount t) i .counts) e) r)
-                  ≡ checkedOf (andThen r (λ c. λ b′ at′. andThen (require (solves (h .events) (h .log) (toNet h) (stepOf h i e) (toCertificate h c)) (unsolved c) (length before) b′ at′) (λ x. give c) b′) b)
-              go (failed refused spot) known = refl
-              go (got (kind0 j) mid) known = absurd (weights-kind _ _ b next j mid known)
-              go (got (kind1 k ts) mid) known = rw (test k ts (limits (kind1 k ts) mid known)) (decided (weightsHold (h .events) (h .log) (stepOf h i e) k (map (toTerm h) ts)))
+                  ≡ checkedOf (andThen r (λ c. λ b′ at′. andThen (require (solvesIn h (stepOf h i e) c) (unsolved c) (length before) b′ at′) (λ x. give c) b′) b)
+              go (refused cause spot) known = refl
+              go (value (item (kind0 j) mid)) known = absurd (weights-kind _ _ b next j mid known)
+              go (value (item (kind1 w) mid)) known = rw (test w (limits (kind1 w) mid known)) (decided (weightsHold (h .events) (h .log) (stepOf h i e) (toWeights h w)))
                 where
                   decided : (p : Bool) → weightsChecked (length before) (cond p (weighed.Holds mid) (weighed.Fails mid))
-                      ≡ checkedOf (andThen (cond p (got (tt {0}) mid) (failed WEIGHTS (length before))) (λ x. give (kind1 k ts)) b)
+                      ≡ checkedOf (andThen (cond p (got (tt {0}) mid) (refused WEIGHTS (length before))) (λ x. give (kind1 w)) b)
                   decided true = refl
                   decided false = refl

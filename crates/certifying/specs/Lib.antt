@@ -1,5 +1,5 @@
 pub mod Certifying
-pub mod PlaceTests
+pub mod PlaceNumbers
 pub mod CheckLaws
 pub mod Continuations
 pub mod CertificateSteps

@@ -1,14 +1,15 @@
 // Reading the certificates of a bundle: one for each wrong continuation, checked while it is read.
 use bundles::Field;
-use bundles::Places;
 use bundles::fields::byte_below;
 use bundles::fields::byte_up_to;
 use certificates::Weighed;
 use certificates::read_weights;
+use heads::TakenHead;
+use limits::MAX_EVENTS;
 use logs::rows::ROW;
 use logs::rows::counts_of;
-use nets::COUNTS;
 use nets::covers;
+use nets::gain;
 use nets::has_bit;
 use refusals::PLACE_PERMITS;
 use refusals::Refusal;
@@ -19,14 +20,17 @@ ghost use mathlib.Core.Path.{_≡_};
 ghost use mathlib.Core.List.{List, []};
 ghost use Prim.Native.Nat.{_+_, _*_, _≤_, _<_};
 ghost use lib.ListN.{length, drop};
-ghost use Rattle.nets.specs.Nets.{placePermits, wrongContinuations};
+ghost use Rattle.limits.specs.Limits.{MAX-EVENTS, MAX-ROWS};
+ghost use Rattle.nets.specs.Nets.{placePermits};
 ghost use Rattle.bundles.specs.Reading.{byte, each};
-ghost use Rattle.bundles.specs.Layout.{CertificateFields, Head};
+ghost use Rattle.bundles.specs.Layout.{CertificateFields, wrongIn};
+ghost use Rattle.bundles.specs.Readers.{headOf};
 ghost use Rattle.bundles.specs.FieldSteps.{below};
 ghost use Rattle.bundles.specs.PlaceSteps.{placeSize, placeOn};
 ghost use Rattle.logs.specs.Rows.{ROW, rowAt};
 ghost use Rattle.verdicts.specs.Judging.{solved};
-ghost use Rattle.certifying.specs.Certifying.{HeadHeld, certifiedOf, stepOf, checkedOf, permitsAt, placeChecked, weightsChecked};
+ghost use Rattle.heads.specs.Heads.{HeadHeld};
+ghost use Rattle.certifying.specs.Certifying.{certifiedOf, stepOf, checkedOf, permitsAt, placeChecked, weightsChecked};
 ghost use Rattle.certifying.specs.CertificateSteps.{counted, withCertificate, Outcome};
 
 // The certificates of a bundle: the four counts and the offset behind the last, or a refusal.
@@ -42,31 +46,25 @@ enum Checked {
     Refused(Refusal),
 }
 
-// A count, widened.
-fn wide(count: u16) -> usize
-    ensures { λ r. ⌜ (r ≡ count) × (r ≤ 65535) ⌝ }
-{
-    count as usize
-}
-
-// Whether the place at an offset permits the event after the counts. Straight from the bytes, since building a place costs more than this one
-// test of it.
+// Whether the place at an offset permits the event after the counts. The tokens are added as `nets::tokens` does, but straight from the bytes,
+// since building a place costs more than this one test of it.
 fn place_permits(bundle: &[u8], at: usize, n: usize, counts: &[u16], event: usize) -> bool
-    requires { ⌜ (n ≤ 12) × (event < n) × (at + 2 * placeSize n ≤ length (now bundle)) × (n ≤ length (now counts)) ⌝ }
+    requires { ⌜ (n ≤ MAX-EVENTS)
+        × (event < n)
+        × (at + 2 * placeSize n ≤ length (now bundle))
+        × (n ≤ length (now counts)) ⌝ }
     ensures { λ r. ⌜ r ≡ placePermits n (placeOn n (now (bundle .entry)) at) (record { row = now (counts .entry); event = event }) ⌝ }
 {
     let produced = at + 2;
     let consumed = produced + 2 * n;
-    let mut given = number_at(bundle, at);
-    let mut taken = 0;
+    let mut tokens = number_at(bundle, at) as i64;
     let mut i = 0;
     while i < n {
-        let count = wide(counts[i]);
-        given += count * number_at(bundle, produced + 2 * i);
-        taken += count * number_at(bundle, consumed + 2 * i);
+        let put = number_at(bundle, produced + 2 * i) as u16;
+        let took = number_at(bundle, consumed + 2 * i) as u16;
+        tokens += gain(counts[i], put, took);
         i += 1;
     }
-    let tokens = given as i64 - taken as i64;
     covers(tokens, number_at(bundle, consumed + 2 * event) as u16)
 }
 
@@ -74,16 +72,18 @@ fn place_permits(bundle: &[u8], at: usize, n: usize, counts: &[u16], event: usiz
 fn check_place(
     bundle: &[u8],
     at: usize,
-    n: usize,
-    places: Places,
+    head: TakenHead,
     table: &[u16],
     row: usize,
     event: usize,
     number: usize,
 ) -> Checked
-    requires { ⌜ (n ≤ 12) × (event < n) × (places .first + 2 * (places .count * placeSize n) ≤ length (now bundle)) × (ROW * row + ROW ≤ length (now table)) ⌝ }
-    ensures { λ r. ⌜ r ≡ placeChecked (permitsAt n (now (bundle .entry)) (places .first) (rowAt (drop (ROW * row) (now (table .entry))) .counts) event) number (byte (below (places .count)) (now (bundle .entry)) at) ⌝ }
+    requires { ⌜ HeadHeld (now bundle) (now table) head ⌝ }
+    requires { ⌜ (row < head .rows) × (event < head .n) ⌝ }
+    ensures { λ r. ⌜ r ≡ placeChecked (permitsAt (head .n) (now (bundle .entry)) (head .places .first) (rowAt (drop (ROW * row) (now (table .entry))) .counts) event) number (byte (below (head .places .count)) (now (bundle .entry)) at) ⌝ }
 {
+    let n = head.n;
+    let places = head.places;
     match byte_below(bundle, at, places.count) {
         Field::Refused(refusal) => Checked::Refused(refusal),
         Field::Value(j, next) => {
@@ -117,24 +117,23 @@ fn check_weights(read: Weighed, number: usize) -> Checked
 fn check_certificate(
     bundle: &[u8],
     at: usize,
-    n: usize,
-    places: Places,
+    head: TakenHead,
     table: &[u16],
-    rows: usize,
     row: usize,
     event: usize,
     number: usize,
 ) -> Checked
-    requires { ⌜ (n ≤ 12) × (event < n) × (places .count ≤ 64) × (places .first + 2 * (places .count * placeSize n) ≤ length (now bundle)) × (rows ≤ 256) × (ROW * rows ≤ length (now table)) × (row < rows) ⌝ }
-    ensures { λ r. ⌜ ((h : Head) → HeadHeld (now (bundle .entry)) (now (table .entry)) n places rows h → (before : List CertificateFields) → length before ≡ number → r ≡ checkedOf (solved h (stepOf h row event) before (now (bundle .entry)) at)) ⌝ }
+    requires { ⌜ HeadHeld (now bundle) (now table) head ⌝ }
+    requires { ⌜ (row < head .rows) × (event < head .n) ⌝ }
+    ensures { λ r. ⌜ ((before : List CertificateFields) → length before ≡ number → r ≡ checkedOf (solved (headOf (now (bundle .entry))) (stepOf (headOf (now (bundle .entry))) row event) before (now (bundle .entry)) at)) ⌝ }
 {
     match byte_up_to(bundle, at, 1) {
         Field::Refused(refusal) => Checked::Refused(refusal),
         Field::Value(kind, next) => {
             if kind == 0 {
-                return check_place(bundle, next, n, places, table, row, event, number);
+                return check_place(bundle, next, head, table, row, event, number);
             }
-            let read = read_weights(bundle, next, n, table, rows, row, event);
+            let read = read_weights(bundle, next, head, table, row, event);
             check_weights(read, number)
         }
     }
@@ -155,7 +154,7 @@ enum Advanced {
 
 // The progress behind one more certificate, or its refusal.
 fn with_certificate(before: Progress, checked: Checked) -> Advanced
-    requires { ⌜ counted before ≤ 12 * 256 ⌝ }
+    requires { ⌜ counted before ≤ MAX-EVENTS * MAX-ROWS ⌝ }
     ensures { λ r. ⌜ r ≡ withCertificate before checked ⌝ }
 {
     let mut after = before;
@@ -177,45 +176,44 @@ fn with_certificate(before: Progress, checked: Checked) -> Advanced
 // Passes one step: an allowed one is counted, a wrong continuation has a certificate.
 fn certify_step(
     bundle: &[u8],
-    n: usize,
-    places: Places,
+    head: TakenHead,
     table: &[u16],
-    rows: usize,
     row: usize,
     event: usize,
     before: Progress,
 ) -> Advanced
-    requires { ⌜ (n ≤ 12) × (event < n) × (places .count ≤ 64) × (places .first + 2 * (places .count * placeSize n) ≤ length (now bundle)) × (rows ≤ 256) × (ROW * rows ≤ length (now table)) × (row < rows) × (counted before ≤ 12 * row + event) ⌝ }
-    ensures { λ r. ⌜ Outcome (now (bundle .entry)) (now (table .entry)) n places rows row event row (event + 1) before r ⌝ }
+    requires { ⌜ HeadHeld (now bundle) (now table) head ⌝ }
+    requires { ⌜ (row < head .rows) × (event < head .n) × (counted before ≤ MAX-EVENTS * row + event) ⌝ }
+    ensures { λ r. ⌜ Outcome (now (bundle .entry)) row event row (event + 1) before r ⌝ }
 {
-    if has_bit(table[ROW * row + COUNTS], event) {
+    if has_bit(table[ROW * row + MAX_EVENTS], event) {
         let mut after = before;
         after.allowed += 1;
         return Advanced::To(after);
     }
     let next = before.next;
     let number = before.by_place + before.by_weights;
-    let checked = check_certificate(bundle, next, n, places, table, rows, row, event, number);
+    let checked = check_certificate(bundle, next, head, table, row, event, number);
     with_certificate(before, checked)
 }
 
 // Passes the steps of a row.
 fn certify_row(
     bundle: &[u8],
-    n: usize,
-    places: Places,
+    head: TakenHead,
     table: &[u16],
-    rows: usize,
     row: usize,
     before: Progress,
 ) -> Advanced
-    requires { ⌜ (n ≤ 12) × (places .count ≤ 64) × (places .first + 2 * (places .count * placeSize n) ≤ length (now bundle)) × (rows ≤ 256) × (ROW * rows ≤ length (now table)) × (row < rows) × (counted before ≤ 12 * row) ⌝ }
-    ensures { λ r. ⌜ Outcome (now (bundle .entry)) (now (table .entry)) n places rows row 0 (row + 1) 0 before r ⌝ }
+    requires { ⌜ HeadHeld (now bundle) (now table) head ⌝ }
+    requires { ⌜ (row < head .rows) × (counted before ≤ MAX-EVENTS * row) ⌝ }
+    ensures { λ r. ⌜ Outcome (now (bundle .entry)) row 0 (row + 1) 0 before r ⌝ }
 {
+    let n = head.n;
     let mut state = before;
     let mut event = 0;
     while event < n {
-        match certify_step(bundle, n, places, table, rows, row, event, state) {
+        match certify_step(bundle, head, table, row, event, state) {
             Advanced::Refused(refusal) => {
                 return Advanced::Refused(refusal);
             }
@@ -229,26 +227,20 @@ fn certify_row(
 }
 
 // Reads one certificate for each wrong continuation, by row, then event: a step whose bit is clear in its row's mask. (Inner function.)
-pub fn certify(
-    bundle: &[u8],
-    at: usize,
-    n: usize,
-    places: Places,
-    table: &[u16],
-    rows: usize,
-) -> Certified
-    requires { ⌜ (n ≤ 12) × (places .count ≤ 64) × (places .first + 2 * (places .count * placeSize n) ≤ length (now bundle)) × (rows ≤ 256) × (ROW * rows ≤ length (now table)) ⌝ }
-    ensures { λ r. ⌜ ((h : Head) → HeadHeld (now (bundle .entry)) (now (table .entry)) n places rows h → r ≡ certifiedOf h (each (solved h) (wrongContinuations (h .events) (h .log)) [] (now (bundle .entry)) at)) ⌝ }
+pub fn certify(bundle: &[u8], head: TakenHead, table: &[u16]) -> Certified
+    requires { ⌜ HeadHeld (now bundle) (now table) head ⌝ }
+    ensures { λ r. ⌜ r ≡ certifiedOf (headOf (now (bundle .entry))) (each (solved (headOf (now (bundle .entry)))) (wrongIn (headOf (now (bundle .entry)))) [] (now (bundle .entry)) (head .places .next)) ⌝ }
 {
+    let rows = head.rows;
     let mut state = Progress {
         allowed: 0,
         by_place: 0,
         by_weights: 0,
-        next: at,
+        next: head.places.next,
     };
     let mut row = 0;
     while row < rows {
-        match certify_row(bundle, n, places, table, rows, row, state) {
+        match certify_row(bundle, head, table, row, state) {
             Advanced::Refused(refusal) => {
                 return Certified::Refused(refusal);
             }

@@ -1,18 +1,16 @@
 -- The comparison of two accepted bundles: from the definitions on nets to the bytes of two bundles.
 use mathlib.Core.Path.{_≡_, refl, sym, ap, _∙_, subst}
-use mathlib.Core.Bool.{Bool, true, false, cond}
+use mathlib.Core.Bool.{Bool, cond}
 use mathlib.Core.Logic.{_⊎_, ⊎-elim}
 use mathlib.Core.List.{List, [], _∷_, _++_, flatMap, List·Memᴰ·append-cases, List·Memᴰ·eq-of-singleton}
 use Prim.Native.Nat.{ℕ, _≤_, _<_}
 use native.Mathlib.Omega.{arith}
-use lib.Dec.{leb}
 use lib.ListN.{length, length-append}
-use borrow.Author.Tests.{leb-true}
-use Rattle.laws.specs.Booleans.{no-false}
+use Rattle.laws.specs.Booleans.{impossible, no-false}
 use Rattle.laws.specs.Every.{Every, every-member, every-intro}
 use Rattle.laws.specs.Numbers.{Bytes}
-use Rattle.refusals.specs.Table.{BUNDLE-LENGTH, TABLE-SHORT}
-use Rattle.refusals.specs.Answers.{refusal, provided}
+use Rattle.limits.specs.Limits.{MAX-BUNDLE-SIZE, MAX-WORD-EVENTS}
+use Rattle.refusals.specs.Results.{value, refused}
 use Rattle.nets.specs.Nets.{Word, Tally, stepAfter, permits, permitted, stopped, firstRefusing, screen}
 use Rattle.nets.specs.Words.{Prefix, prefix→}
 use Rattle.nets.specs.Fits.{prefix-below}
@@ -20,14 +18,15 @@ use Rattle.nets.specs.Comparison.{PrefixesIn, first-exactly, second-permits, ne
 use Rattle.logs.specs.Rows.{withRows, cleared}
 use Rattle.logs.specs.Answers.{TABLE}
 use Rattle.logs.specs.Log.{logRows}
-use Rattle.bundles.specs.Layout.{CertificateFields, Head, Contents, WordInLimits, toBundle, certificateBytes, bytesOf, sizeFits}
+use Rattle.bundles.specs.Layout.{CertificateFields, Head, Contents, WordInLimits, toBundle, certificateBytes, bytesOf}
 use Rattle.bundles.specs.Readers.{headOf, eventsIn, logIn, netIn}
 use Rattle.bundles.specs.Limits.{words-below}
-use Rattle.verdicts.specs.Judging.{countsOf, judging, verdictOn, verdict, tableAfter}
-use Rattle.verdicts.specs.Acceptance.{AcceptedAs, accepted-exactly, accepted-table}
+use Rattle.bundles.specs.Reading.{Read, item}
+use Rattle.verdicts.specs.Judging.{countsOf, judged, verdictOn, verdict, tableAfter}
+use Rattle.verdicts.specs.Acceptance.{AcceptedAs, judged-long, accepted-exactly, accepted-table}
 use Rattle.verdicts.specs.declared.Counts.{Counts}
-use Rattle.verdicts.specs.declared.Verdict.the-variants.{Accepted, Refused}
-use Rattle.screening.specs.Screening.{MAX-WORD, replayed, screened}
+use Rattle.verdicts.specs.declared.Verdict.the-variants.{Accepted}
+use Rattle.screening.specs.Screening.{replayed, screened}
 use Rattle.screening.specs.Screens.{Readable, Screenable, screened-replayed, permitted-exactly, readable-exactly, screenable-head}
 use Rattle.demands.specs.Demands.{ScreenedAtEnd, Compared}
 
@@ -35,20 +34,19 @@ use Rattle.demands.specs.Demands.{ScreenedAtEnd, Compared}
 
 -- the table of an accepted bundle was long enough
 long-table : (tableSize : ℕ) (b : List ℕ) (c : Counts) → verdict tableSize b ≡ Accepted c → TABLE ≤ tableSize
-unfolding verdict provided
-long-table tableSize b c e = go (sizeFits b) (leb TABLE tableSize) refl e
+unfolding verdict verdictOn
+long-table tableSize b c e = go (judged tableSize b 0) refl e
   where
-    go : (p q : Bool) → leb TABLE tableSize ≡ q → cond p (cond q (verdictOn (judging b 0)) (Refused (refusal TABLE-SHORT TABLE))) (Refused (refusal BUNDLE-LENGTH 0)) ≡ Accepted c → TABLE ≤ tableSize
-    go true true l e = leb-true TABLE tableSize l
-    go true false l e = absurd (let z : _≡_ {A = ℕ} 0 1 = cc in omega arith)
-    go false q l e = absurd (let z : _≡_ {A = ℕ} 0 1 = cc in omega arith)
+    go : (m : Read Contents) → judged tableSize b 0 ≡ m → verdictOn m ≡ Accepted c → TABLE ≤ tableSize
+    go (value (item d next)) is e = judged-long tableSize b d next is
+    go (refused number spot) is e = impossible cc
 
 module _ (b : List ℕ) (bytes : Bytes b) where
-  screenable : (c : Counts) (d : Contents) → AcceptedAs b c d → (w : Word) → length w ≤ MAX-WORD → Every (λ e. e < d .head .events) w
+  screenable : (c : Counts) (d : Contents) → AcceptedAs b c d → (w : Word) → length w ≤ MAX-WORD-EVENTS → Every (λ e. e < d .head .events) w
       → Screenable b w (d .head) (flatMap certificateBytes (d .certificates))
   unfolding bytesOf
   screenable c d a w size events = record {
-    size = subst (λ (l : List ℕ). length l ≤ 64512) (sym (a .layout)) (a .limits .size);
+    size = subst (λ (l : List ℕ). length l ≤ MAX-BUNDLE-SIZE) (sym (a .layout)) (a .limits .size);
     layout = a .layout;
     limits = a .limits .head;
     wordSize = size;

@@ -10,7 +10,8 @@ use lib.ListN.{length, take}
 use Rattle.laws.specs.Lists.{among}
 use Rattle.laws.specs.Numbers.{Bytes}
 use Rattle.laws.specs.Parts.{front}
-use Rattle.refusals.specs.Answers.{Result, answer, written, numberOf}
+use Rattle.refusals.specs.Results.{Result, value}
+use Rattle.refusals.specs.Answers.{answer, written, numberOf}
 use Rattle.refusals.specs.Laws.{Ends}
 use Rattle.refusals.specs.declared.Refusal.{Refusal}
 use Rattle.refusals.specs.declared.Written.the-variants as writing
@@ -49,9 +50,9 @@ pub record Demand1 : Type 0 where
   pub refusals-of-judge : (tableSize : ℕ) (b : List ℕ) → among (verdictNumber (verdict tableSize b)) (0 ∷ 4 ∷ 5 ∷ 6 ∷ 7 ∷ 8 ∷ 9 ∷ 10 ∷ 11 ∷ 12 ∷ 13 ∷ []) ≡ true
   pub refusals-of-screen : (b : List ℕ) (w : Word) → among (screenedNumber (screened b w)) (0 ∷ 256 ∷ 14 ∷ 4 ∷ 6 ∷ 7 ∷ 8 ∷ 15 ∷ []) ≡ true
   -- no refusal writes to an output; a result stands in front of it, and the rest is left
-  pub refused-output : (result : Result) (output : List ℕ) (r : Refusal) → answer result (length output) ≡ writing.Refused r → written result output ≡ output
-  pub result-output : (result : Result) (output : List ℕ) (n : ℕ) → answer result (length output) ≡ writing.Length n
-      → (new : List ℕ) × (result ≡ Result.bytes new) × (n ≡ length new) × (written result output ≡ front new output)
+  pub refused-output : (result : Result (List ℕ)) (output : List ℕ) (r : Refusal) → answer result (length output) ≡ writing.Refused r → written result output ≡ output
+  pub result-output : (result : Result (List ℕ)) (output : List ℕ) (n : ℕ) → answer result (length output) ≡ writing.Length n
+      → (new : List ℕ) × (result ≡ value new) × (n ≡ length new) × (written result output ≡ front new output)
   -- a fresh summary leaves zeros up to number 3,327, and the rest; from there on the words that are taken leave the rows of their log, each
   -- with its mask, zeros up to number 3,327, and the rest
   pub fresh-table : (n : ℕ) (table : List ℕ) (s : Summary) → freshAnswer n table ≡ taking.Next s → freshTable (freshAnswer n table) table ≡ cleared TABLE table

@@ -1,17 +1,13 @@
 -- What the calls of demand 3 answer for a file: opening, judging and screening, one behind the other.
 use mathlib.Core.Path.{_≡_, refl, sym, ap, _∙_, subst}
-use mathlib.Core.Bool.{Bool, true, false, cond}
 use mathlib.Core.List.{List, [], _∷_, _++_}
 use Prim.Native.Nat.{ℕ, _<_}
-use native.Mathlib.Omega.{arith}
-use lib.Dec.{leb}
 use lib.ListN.{length, take}
+use Rattle.laws.specs.Booleans.{impossible}
 use Rattle.laws.specs.Numbers.{Bytes}
-use Rattle.laws.specs.Parts.{take-front}
-use Rattle.refusals.specs.Table.{OUTPUT-SHORT}
-use Rattle.refusals.specs.Answers.{refusal, Result, answer, written}
-use Rattle.refusals.specs.Answers.Result.{bytes, refused}
-use Rattle.refusals.specs.Laws.{answer-taken}
+use Rattle.refusals.specs.Results.{Result, value, refused}
+use Rattle.refusals.specs.Answers.{refusal, fitted, answer, written}
+use Rattle.refusals.specs.Laws.{answer-refused, answer-fitted, fitted-written}
 use Rattle.refusals.specs.declared.Refusal.{Refusal}
 use Rattle.refusals.specs.declared.Written.the-variants as writing
 use Rattle.block.specs.File.{opened}
@@ -35,15 +31,15 @@ use Rattle.demands.specs.declared.Both.{Both}
 abbrev pub answersOf : List ℕ → ℕ → Word → Answers
 answersOf b tableSize w = record { size = length b; verdict = verdict tableSize b; screened = screened b w }
 
--- the answers for what opening owes, with an output of so much room
-unfoldable pub ran : Result → ℕ → ℕ → Word → Ran
-ran (bytes b) room tableSize w = cond (leb (length b) room) (Opened (answersOf b tableSize w)) (Refused (refusal OUTPUT-SHORT (length b)))
-ran (refused r) room tableSize w = Refused r
+-- the answers for a bundle that opening gave, or opening's refusal
+unfoldable pub ran : Result (List ℕ) → ℕ → Word → Ran
+ran (value b) tableSize w = Opened (answersOf b tableSize w)
+ran (refused number spot) tableSize w = Refused (refusal number spot)
 
 -- the table afterwards: as judging leaves it; where the file does not open, as it was
-unfoldable pub tableRan : Result → ℕ → List ℕ → List ℕ
-tableRan (bytes b) room table = cond (leb (length b) room) (tableAfter b table) table
-tableRan (refused r) room table = table
+unfoldable pub tableRan : Result (List ℕ) → List ℕ → List ℕ
+tableRan (value b) table = tableAfter b table
+tableRan (refused number spot) table = table
 
 -- ---- demand 3, about the answers
 
@@ -60,65 +56,46 @@ AnswersCompared r output₁ output₂ word =
 
 -- ---- the laws that the code's proofs cite
 
-module _ (result : Result) (output : List ℕ) (tableSize : ℕ) (w : Word) where
-  pub ran-refused : (r : Refusal) → answer result (length output) ≡ writing.Refused r → (table : List ℕ) → (ran result (length output) tableSize w ≡ Refused r) × (tableRan result (length output) table ≡ table)
-  unfolding answer ran tableRan
-  ran-refused r e table = go result e
-    where
-      short : (b : List ℕ) (t : Bool) → cond t (writing.Length (length b)) (writing.Refused (refusal OUTPUT-SHORT (length b))) ≡ writing.Refused r
-          → (cond t (Opened (answersOf b tableSize w)) (Refused (refusal OUTPUT-SHORT (length b))) ≡ Refused r) × (cond t (tableAfter b table) table ≡ table)
-      short b true e = absurd (let z : _≡_ {A = ℕ} 0 1 = cc in omega arith)
-      short b false e = let same : refusal OUTPUT-SHORT (length b) ≡ r = cc in (ap Refused same, refl)
+module _ (result : Result (List ℕ)) (output : List ℕ) (tableSize : ℕ) (w : Word) where
+  pub ran-refused : (r : Refusal) → answer result (length output) ≡ writing.Refused r → (table : List ℕ)
+      → (ran (fitted result (length output)) tableSize w ≡ Refused r) × (tableRan (fitted result (length output)) table ≡ table)
+  unfolding ran tableRan
+  ran-refused r e table = rw (answer-refused result (length output) r e) (refl, refl)
 
-      go : (x : Result) → answer x (length output) ≡ writing.Refused r → (ran x (length output) tableSize w ≡ Refused r) × (tableRan x (length output) table ≡ table)
-      go (bytes b) e = short b (leb (length b) (length output)) e
-      go (refused r′) e = let same : r′ ≡ r = cc in (ap Refused same, refl)
-
-  -- behind a result of n bytes, b is the bundle in front of the output
-  module _ (n : ℕ) (e : answer result (length output) ≡ writing.Length n) where
-    pub ran-opened : (table : List ℕ) → (ran result (length output) tableSize w ≡ Opened (answersOf (take n (written result output)) tableSize w)) × (tableRan result (length output) table ≡ tableAfter (take n (written result output)) table)
-    unfolding answer ran tableRan
-    ran-opened table =
-        let b = take n (written result output) in
-        let whole : result ≡ bytes b = answer-taken result output n e in
-        subst (λ (x : Result). (ran x (length output) tableSize w ≡ Opened (answersOf b tableSize w)) × (tableRan x (length output) table ≡ tableAfter b table)) (sym whole)
-        (go b (leb (length b) (length output)) (subst (λ (x : Result). answer x (length output) ≡ writing.Length n) whole e))
-      where
-        go : (b : List ℕ) (t : Bool) → cond t (writing.Length (length b)) (writing.Refused (refusal OUTPUT-SHORT (length b))) ≡ writing.Length n
-            → (cond t (Opened (answersOf b tableSize w)) (Refused (refusal OUTPUT-SHORT (length b))) ≡ Opened (answersOf b tableSize w)) × (cond t (tableAfter b table) table ≡ tableAfter b table)
-        go b true e = (refl, refl)
-        go b false e = absurd (let z : _≡_ {A = ℕ} 0 1 = cc in omega arith)
+  -- behind a result of n bytes, the bundle is in front of the output
+  pub ran-opened : (n : ℕ) → answer result (length output) ≡ writing.Length n → (table : List ℕ)
+      → (ran (fitted result (length output)) tableSize w ≡ Opened (answersOf (take n (written result output)) tableSize w))
+      × (tableRan (fitted result (length output)) table ≡ tableAfter (take n (written result output)) table)
+  unfolding ran tableRan
+  ran-opened n e table = rw (answer-fitted result output n e) (refl, refl)
 
 -- ---- the answers for a file that opened
 
 -- a are the answers for the bundle in front of the output
-pub record AnswersFor (result : Result) (output : List ℕ) (tableSize : ℕ) (w : Word) (a : Answers) : Type 0 where
+pub record AnswersFor (result : Result (List ℕ)) (output : List ℕ) (tableSize : ℕ) (w : Word) (a : Answers) : Type 0 where
   pub opens : answer result (length output) ≡ writing.Length (a .size)
   pub judged : a .verdict ≡ verdict tableSize (take (a .size) (written result output))
   pub screens : a .screened ≡ screened (take (a .size) (written result output)) w
 
-pub answers-for : (result : Result) (output : List ℕ) (tableSize : ℕ) (w : Word) (a : Answers) → ran result (length output) tableSize w ≡ Opened a → AnswersFor result output tableSize w a
-unfolding ran answer written
-answers-for (refused r) output tableSize w a e = absurd (let z : _≡_ {A = ℕ} 0 1 = cc in omega arith)
-answers-for (bytes b) output tableSize w a e = go (leb (length b) (length output)) refl e
+pub answers-for : (result : Result (List ℕ)) (output : List ℕ) (tableSize : ℕ) (w : Word) (a : Answers) → ran (fitted result (length output)) tableSize w ≡ Opened a → AnswersFor result output tableSize w a
+unfolding ran
+answers-for result output tableSize w a e = go (fitted result (length output)) refl e
   where
-    whole : leb (length b) (length output) ≡ true → take (length b) (written (bytes b) output) ≡ b
-    whole fits = rw fits (take-front b output)
-
-    go : (t : Bool) → leb (length b) (length output) ≡ t → cond t (Opened (answersOf b tableSize w)) (Refused (refusal OUTPUT-SHORT (length b))) ≡ Opened a → AnswersFor (bytes b) output tableSize w a
-    go true fits e =
+    go : (m : Result (List ℕ)) → fitted result (length output) ≡ m → ran m tableSize w ≡ Opened a → AnswersFor result output tableSize w a
+    go (value b) is e =
         let same : answersOf b tableSize w ≡ a = cc in
-        subst (AnswersFor (bytes b) output tableSize w) same (record {
-          opens = rw fits;
-          judged = ap (verdict tableSize) (sym (whole fits));
-          screens = ap (λ (x : List ℕ). screened x w) (sym (whole fits));
+        let front = fitted-written result output b is in
+        subst (AnswersFor result output tableSize w) same (record {
+          opens = front .0;
+          judged = ap (verdict tableSize) (sym (front .1));
+          screens = ap (λ (x : List ℕ). screened x w) (sym (front .1));
         })
-    go false fits e = absurd (let z : _≡_ {A = ℕ} 0 1 = cc in omega arith)
+    go (refused number spot) is e = impossible cc
 
 -- ---- and for two files
 
 module _ (file₁ file₂ output₁ output₂ table : List ℕ) (w : Word) (r : Both) (small₁ : Bytes file₁) (small₂ : Bytes file₂) where
-  pub both-compared : r .first ≡ ran (opened file₁) (length output₁) (length table) w → r .second ≡ ran (opened file₂) (length output₂) (length table) w
+  pub both-compared : r .first ≡ ran (fitted (opened file₁) (length output₁)) (length table) w → r .second ≡ ran (fitted (opened file₂) (length output₂)) (length table) w
       → AnswersCompared r (written (opened file₁) output₁) (written (opened file₂) output₂) w
   both-compared first second a₁ a₂ c₁ c₂ opened₁ opened₂ accepted₁ accepted₂ b₁ b₂ front₁ front₂ same-events to =
       let for₁ = answers-for (opened file₁) output₁ (length table) w a₁ (sym first ∙ opened₁) in

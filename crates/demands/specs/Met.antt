@@ -1,91 +1,35 @@
 -- The premises of demand 3 can be met, so nothing is stated of no files at all: two different files with the same prefixes that open and are
 -- accepted, a wrong continuation that their nets permit and one that they refuse.
-use mathlib.Core.Path.{_≡_, refl, sym, ap, _∙_}
-use mathlib.Core.Bool.{true, false}
-use mathlib.Core.List.{List, [], _∷_, flatMap}
+use mathlib.Core.Path.{_≡_, sym, ap, _∙_, refl}
+use mathlib.Core.Bool.{true}
+use mathlib.Core.List.{List, [], _∷_}
 use Prim.Native.Nat.{ℕ, zero, suc, _≤_}
 use native.Mathlib.Omega.{arith}
 use lib.Dec.{T, T-not, ltb}
 use lib.ListN.{length, take, replicate, length-replicate}
-use borrow.Author.Tests.{le-leb, ltb-true}
+use borrow.Author.Tests.{ltb-true}
 use Rattle.laws.specs.Booleans.{and-left, and-right}
 use Rattle.laws.specs.Parts.{take-front}
-use Rattle.laws.specs.Lists.{all, any, keep, tabulate, equal, member, all-member, member→}
-use Rattle.laws.specs.Numbers.{numberAt}
-use Rattle.laws.specs.Differences.{sumℤ}
-use Rattle.laws.specs.Scans.{firstFailing}
+use Rattle.laws.specs.Lists.{all, member, all-member, member→}
 use Rattle.laws.specs.Numbers.{Bytes}
-use Rattle.refusals.specs.Table.{rightSize}
-use Rattle.refusals.specs.Answers.{provided}
-use Rattle.refusals.specs.Answers.Result.{bytes}
+use Rattle.limits.specs.Limits.{rightSize}
+use Rattle.refusals.specs.Results.{value}
 use Rattle.refusals.specs.Laws.{ends-written}
 use Rattle.block.specs.File.{opened, sealedFile}
 use Rattle.block.specs.SealLaws.{sealed-file}
 use Rattle.block.specs.RoundTrip.{opened-sealed, sealed-small}
+use Rattle.nets.specs.Nets.{Word, Log, Net, prefixes, permits}
 use Rattle.nets.specs.Words.{Prefix, PermitsLog}
 use Rattle.nets.specs.Comparison.{PrefixesIn}
-use Rattle.nets.specs.Nets.{Word, Log, Net, same, occurrences, eventCount, weighed, beginnings, prefixes, addRow, counts, stepAfter, tokens, surplus, placePermits, netPermits, permitsAfter, permits, firstRefusing, screenAfter, screen, rows, allowed, rowSteps, continuations, allowedSteps, wrongContinuations, fits, refusedBy, weighsBefore, weighsAfter, weightsHold, solves, isByPlace, tally}
-use Rattle.nets.specs.Events.{firstBad}
 use Rattle.logs.specs.Answers.{TABLE}
-use Rattle.bundles.specs.Reading.{andThen, require, field, byte, number, each}
-use Rattle.bundles.specs.Layout.{toPlace, toNet, toTerm, toCertificate, toBundle, sizeFits}
-use Rattle.bundles.specs.Readers.{headIn, headOf, eventsIn, logIn, netIn, wordAfter, word, place, places, head, term, weights, ofKind, certificate}
-use Rattle.verdicts.specs.Judging.{unsolved, solved, atEnd, afterHead, contents, judging, verdictOn, verdict}
+use Rattle.bundles.specs.Readers.{eventsIn, logIn, netIn}
+use Rattle.verdicts.specs.Judging.{verdictOn, verdict}
+use Rattle.verdicts.specs.Acceptance.{judged-right}
 use Rattle.verdicts.specs.declared.Counts.{Counts}
 use Rattle.verdicts.specs.declared.Verdict.the-variants as verdicts
-use Rattle.screening.specs.Screening.{replayed, screenedOn, screened}
 use Rattle.demands.specs.Demands.{FileAccepted, Compared}
 use Rattle.demands.specs.Proved.{demand-3}
-use Rattle.demands.specs.Samples.{bytesA}
-
--- case A with a further word 0, and twice the numbers of its second place
-pub bytesA′ : List ℕ
-bytesA′ =
-    2 ∷ 3 ∷ 1 ∷ 1 ∷ 3 ∷ 0 ∷ 0 ∷ 1 ∷ 1 ∷ 0 ∷ 2
-    ∷ 1 ∷ 0 ∷ 1 ∷ 0 ∷ 0 ∷ 0 ∷ 1 ∷ 0 ∷ 1 ∷ 0
-    ∷ 4 ∷ 0 ∷ 0 ∷ 0 ∷ 0 ∷ 0 ∷ 2 ∷ 0 ∷ 0 ∷ 0
-    ∷ 0 ∷ 0 ∷ 0 ∷ 0 ∷ 1 ∷ 2 ∷ 0 ∷ 2 ∷ 0 ∷ 0 ∷ 1 ∷ 1 ∷ 0 ∷ 3 ∷ 0 ∷ 1 ∷ 1 ∷ 0 ∷ 0 ∷ 1 ∷ 0 ∷ 0 ∷ 0 ∷ 0 ∷ []
-
--- 5 rows, 4 allowed steps, 5 certificates of kind 0 and 1 of kind 1
-pub countsA : Counts
-countsA = record { rows = 5; allowed = 4; «by_place» = 5; «by_weights» = 1 }
-
--- what computing gives
-record Computed : Type 0 where
-  acceptedA : verdict TABLE bytesA ≡ verdicts.Accepted countsA
-  acceptedA′ : verdict TABLE bytesA′ ≡ verdicts.Accepted countsA
-  events : eventsIn bytesA ≡ eventsIn bytesA′
-  two : eventsIn bytesA ≡ 2
-  to : all (λ w. member w (prefixes (logIn bytesA′))) (prefixes (logIn bytesA)) ≡ true
-  from : all (λ w. member w (prefixes (logIn bytesA))) (prefixes (logIn bytesA′)) ≡ true
-  bytesOfA : all (λ x. ltb x 256) bytesA ≡ true
-  bytesOfA′ : all (λ x. ltb x 256) bytesA′ ≡ true
-  -- after 0 the event 1 is not allowed, and permitted; after 1 the event 0 is not allowed, and refused
-  prefix0 : member (0 ∷ []) (prefixes (logIn bytesA)) ≡ true
-  wrong01 : allowed (eventsIn bytesA) (logIn bytesA) (stepAfter (eventsIn bytesA) (0 ∷ []) 1) ≡ false
-  permits01 : permits (eventsIn bytesA) (netIn bytesA) (0 ∷ 1 ∷ []) ≡ true
-  prefix1 : member (1 ∷ []) (prefixes (logIn bytesA)) ≡ true
-  wrong10 : allowed (eventsIn bytesA) (logIn bytesA) (stepAfter (eventsIn bytesA) (1 ∷ []) 0) ≡ false
-  refuses10 : permits (eventsIn bytesA) (netIn bytesA) (1 ∷ 0 ∷ []) ≡ false
-
-computed : Computed
-unfolding bytesA bytesA′ countsA headOf headIn permits permitsAfter all any keep tabulate equal numberAt firstFailing provided sumℤ same occurrences eventCount weighed beginnings prefixes addRow counts tokens surplus placePermits netPermits firstRefusing screenAfter screen rows allowed rowSteps continuations allowedSteps wrongContinuations fits refusedBy weighsBefore weighsAfter weightsHold solves isByPlace tally firstBad flatMap andThen require field byte number each toPlace toNet toTerm toCertificate toBundle rightSize sizeFits wordAfter word place places head term weights ofKind certificate unsolved solved atEnd afterHead contents judging verdictOn verdict replayed screenedOn screened
-computed = record {
-  acceptedA = refl;
-  acceptedA′ = refl;
-  events = refl;
-  two = refl;
-  to = refl;
-  from = refl;
-  bytesOfA = refl;
-  bytesOfA′ = refl;
-  prefix0 = refl;
-  wrong01 = refl;
-  permits01 = refl;
-  prefix1 = refl;
-  wrong10 = refl;
-  refuses10 = refl;
-}
+use Rattle.demands.specs.Samples.{bytesA, bytesA′, countsA, computed}
 
 -- ---- two different files
 
@@ -101,15 +45,15 @@ prefixes-in log₁ log₂ e u m = member→ u (prefixes log₂) (all-member (λ 
 -- a sealed bundle opens into every output that is long enough, and is accepted with every table that is
 accepted-sealed : (b : List ℕ) (c : Counts) → rightSize (length b) ≡ true → verdict TABLE b ≡ verdicts.Accepted c
     → (output table : List ℕ) → length b ≤ length output → TABLE ≤ length table → FileAccepted (sealedFile b) output table b c
-unfolding verdict provided
+unfolding verdict
 accepted-sealed b c size accepted output table room long =
-    let opens : opened (sealedFile b) ≡ bytes b = opened-sealed b (sealedFile b) (sealed-file b size) in
+    let opens : opened (sealedFile b) ≡ value b = opened-sealed b (sealedFile b) (sealed-file b size) in
     let ends = ends-written (opened (sealedFile b)) output b opens room in
     record {
       size = length b;
       opens = sym (ends .0);
       bundle = ap (take (length b)) (sym (ends .1)) ∙ take-front b output;
-      accepted = rw (le-leb TABLE (length table) long) accepted;
+      accepted = ap verdictOn (judged-right (length table) b long size ∙ sym (judged-right TABLE b (omega arith) size)) ∙ accepted;
     }
 
 module _ (output₁ output₂ table₁ table₂ : List ℕ) (room₁ : length bytesA ≤ length output₁) (room₂ : length bytesA′ ≤ length output₂) (long₁ : TABLE ≤ length table₁) (long₂ : TABLE ≤ length table₂) where

@@ -3,7 +3,7 @@ use mathlib.Core.Path.{_≡_, refl, sym, ap, _∙_}
 use mathlib.Core.List.{List}
 use Prim.Native.Nat.{ℕ}
 use lib.ListN.{length}
-use Rattle.refusals.specs.Answers.Result.{bytes}
+use Rattle.refusals.specs.Results.{value}
 use Rattle.refusals.specs.Laws.{answer-length, answer-taken, refused-writes-nothing}
 use Rattle.block.specs.File.{opened}
 use Rattle.block.specs.RefusalNumbers.{open-numbers, seal-numbers}
@@ -52,8 +52,8 @@ demand-2 = record {
 }
 
 -- the bundle of a file that opens and is accepted
-accepted-bundle : {file output table b : List ℕ} {c : Counts} → FileAccepted file output table b c → opened file ≡ bytes b
-accepted-bundle {file} {output} f = answer-taken (opened file) output (f .size) (f .opens) ∙ ap bytes (f .bundle)
+accepted-bundle : {file output table b : List ℕ} {c : Counts} → FileAccepted file output table b c → opened file ≡ value b
+accepted-bundle {file} {output} f = answer-taken (opened file) output (f .size) (f .opens) ∙ ap value (f .bundle)
 
 pub demand-3 : Demand3
 demand-3 file₁ file₂ output₁ output₂ table₁ table₂ b₁ b₂ c₁ c₂ small₁ small₂ first second same-events to =

@@ -1,38 +1,40 @@
 -- Samples A to I of the paper for the definitions, on their bytes, and further refusals: what is computed, with what is expected.
 use mathlib.Core.Path.{_≡_, refl}
-use mathlib.Core.Bool.{true, cond}
+use mathlib.Core.Bool.{true, false, cond}
 use mathlib.Core.List.{List, [], _∷_, flatMap}
-use Prim.Native.Nat.{ℕ}
+use Prim.Native.Nat.{ℕ, _-_}
+use lib.Dec.{ltb}
 use lib.ListN.{length}
-use Rattle.laws.specs.Lists.{all, any, keep, tabulate, equal}
+use Rattle.laws.specs.Lists.{all, any, keep, tabulate, equal, member}
 use Rattle.laws.specs.Numbers.{numberAt}
 use Rattle.laws.specs.Differences.{sumℤ}
 use Rattle.laws.specs.Scans.{firstFailing}
-use Rattle.refusals.specs.Table.{rightSize}
-use Rattle.refusals.specs.Answers.{provided}
-use Rattle.nets.specs.Nets.{Log, same, occurrences, eventCount, weighed, beginnings, prefixes, addRow, counts, stepAfter, tokens, surplus, placePermits, netPermits, firstRefusing, screenAfter, screen, rows, allowed, rowSteps, continuations, allowedSteps, wrongContinuations, fits, refusedBy, weighsBefore, weighsAfter, weightsHold, solves, isByPlace, tally}
+use Rattle.limits.specs.Limits.{rightSize}
+use Rattle.nets.specs.Nets.{Log, same, occurrences, eventCount, weighed, beginnings, prefixes, addRow, counts, stepAfter, tokens, surplus, placePermits, netPermits, permitsAfter, permits, firstRefusing, screenAfter, screen, rows, allowed, rowSteps, continuations, allowedSteps, wrongContinuations, fits, refusedBy, weighsBefore, weighsAfter, weightsHold, solves, isByPlace, tally}
 use Rattle.nets.specs.Events.{firstBad}
 use Rattle.logs.specs.Answers.{TABLE}
-use Rattle.bundles.specs.Reading.{andThen, require, field, byte, number, each}
-use Rattle.bundles.specs.Layout.{toPlace, toNet, toTerm, toCertificate, toBundle, sizeFits}
-use Rattle.bundles.specs.Readers.{wordAfter, word, place, places, head, term, weights, ofKind, certificate}
-use Rattle.verdicts.specs.Judging.{unsolved, solved, atEnd, afterHead, contents, judging, verdictOn, verdict}
+use Rattle.bundles.specs.Reading.{require, field, byte, number, each, onward}
+use Rattle.refusals.specs.Results.{bind}
+use Rattle.bundles.specs.Layout.{toPlace, toNet, toTerm, toCertificate, toBundle}
+use Rattle.bundles.specs.Readers.{headIn, headOf, eventsIn, logIn, netIn, wordAfter, word, place, places, headAfter, head, bundleSize, bundleHead, term, weights, ofKind, certificate}
+use Rattle.verdicts.specs.Judging.{unsolved, solved, atEnd, afterHead, contents, judging, judged, verdictOn, verdict}
 use Rattle.verdicts.specs.declared.Verdict.{Verdict}
-use Rattle.verdicts.specs.declared.Verdict.the-variants as judging
-use Rattle.screening.specs.Screening.{replayed, screenedOn, screened}
+use Rattle.verdicts.specs.declared.Counts.{Counts}
+use Rattle.verdicts.specs.declared.Verdict.the-variants as verdicts
+use Rattle.screening.specs.Screening.{wordOn, screening, replayed, screenedOf, screened}
 use Rattle.screening.specs.declared.Screened.{Screened}
-use Rattle.screening.specs.declared.Screened.the-variants as screening
+use Rattle.screening.specs.declared.Screened.the-variants as answers
 
 -- 0 and the four counts, or the refusal's number and spot
 ofVerdict : Verdict → List ℕ
-ofVerdict (judging.Accepted c) = 0 ∷ c .rows ∷ c .allowed ∷ c .«by_place» ∷ c .«by_weights» ∷ []
-ofVerdict (judging.Refused r) = r .number ∷ r .spot ∷ []
+ofVerdict (verdicts.Accepted c) = 0 ∷ c .rows ∷ c .allowed ∷ c .«by_place» ∷ c .«by_weights» ∷ []
+ofVerdict (verdicts.Refused r) = r .number ∷ r .spot ∷ []
 
 -- 0 where it is permitted; 256, position and place where it is stopped; or the refusal's number and spot
 ofScreened : Screened → List ℕ
-ofScreened screening.Permitted = 0 ∷ []
-ofScreened (screening.Stopped s) = 256 ∷ s .position ∷ s .place ∷ []
-ofScreened (screening.Refused r) = r .number ∷ r .spot ∷ []
+ofScreened answers.Permitted = 0 ∷ []
+ofScreened (answers.Stopped s) = 256 ∷ s .position ∷ s .place ∷ []
+ofScreened (answers.Refused r) = r .number ∷ r .spot ∷ []
 
 -- case A: 53 bytes
 unfoldable pub bytesA : List ℕ
@@ -68,7 +70,7 @@ samples =
     ∷ (length (rows 4 logI) ∷ length (allowedSteps 4 logI) ∷ length (wrongContinuations 4 logI) ∷ cond (allowed 4 logI (stepAfter 4 (0 ∷ 1 ∷ []) 3)) 1 0 ∷ [], 6 ∷ 6 ∷ 18 ∷ 1 ∷ [])
     -- further verdicts
     ∷ (ofVerdict (verdict TABLE []), 4 ∷ 0 ∷ [])
-    ∷ (ofVerdict (verdict 3327 (13 ∷ [])), 5 ∷ 3328 ∷ [])
+    ∷ (ofVerdict (verdict (TABLE - 1) (13 ∷ [])), 5 ∷ TABLE ∷ [])
     ∷ (ofVerdict (verdict TABLE (13 ∷ [])), 7 ∷ 0 ∷ [])
     ∷ (ofVerdict (verdict TABLE (1 ∷ 1 ∷ [])), 6 ∷ 2 ∷ [])
     ∷ (ofVerdict (verdict TABLE (1 ∷ 1 ∷ 2 ∷ 0 ∷ [])), 6 ∷ 4 ∷ [])
@@ -92,7 +94,59 @@ samples =
     ∷ (ofScreened (screened (1 ∷ 0 ∷ 1 ∷ 0 ∷ 0 ∷ 0 ∷ 0 ∷ 1 ∷ 0 ∷ 9 ∷ []) (0 ∷ [])), 256 ∷ 0 ∷ 0 ∷ [])
     ∷ []
 
--- one result over the list
+-- case A with a further word 0, and twice the numbers of its second place
+unfoldable pub bytesA′ : List ℕ
+bytesA′ =
+    2 ∷ 3 ∷ 1 ∷ 1 ∷ 3 ∷ 0 ∷ 0 ∷ 1 ∷ 1 ∷ 0 ∷ 2
+    ∷ 1 ∷ 0 ∷ 1 ∷ 0 ∷ 0 ∷ 0 ∷ 1 ∷ 0 ∷ 1 ∷ 0
+    ∷ 4 ∷ 0 ∷ 0 ∷ 0 ∷ 0 ∷ 0 ∷ 2 ∷ 0 ∷ 0 ∷ 0
+    ∷ 0 ∷ 0 ∷ 0 ∷ 0 ∷ 1 ∷ 2 ∷ 0 ∷ 2 ∷ 0 ∷ 0 ∷ 1 ∷ 1 ∷ 0 ∷ 3 ∷ 0 ∷ 1 ∷ 1 ∷ 0 ∷ 0 ∷ 1 ∷ 0 ∷ 0 ∷ 0 ∷ 0 ∷ []
+
+-- 5 rows, 4 allowed steps, 5 certificates of kind 0 and 1 of kind 1
+unfoldable pub countsA : Counts
+countsA = record { rows = 5; allowed = 4; «by_place» = 5; «by_weights» = 1 }
+
+-- ---- One result over all of it
+
+-- what computing gives
+pub record Computed : Type 0 where
+  -- A to I, and the further refusals, are as expected
+  pub samplesHold : all (λ c. equal (c .0) (c .1)) samples ≡ true
+  pub acceptedA : verdict TABLE bytesA ≡ verdicts.Accepted countsA
+  pub acceptedA′ : verdict TABLE bytesA′ ≡ verdicts.Accepted countsA
+  pub events : eventsIn bytesA ≡ eventsIn bytesA′
+  pub two : eventsIn bytesA ≡ 2
+  pub to : all (λ w. member w (prefixes (logIn bytesA′))) (prefixes (logIn bytesA)) ≡ true
+  pub from : all (λ w. member w (prefixes (logIn bytesA))) (prefixes (logIn bytesA′)) ≡ true
+  pub bytesOfA : all (λ x. ltb x 256) bytesA ≡ true
+  pub bytesOfA′ : all (λ x. ltb x 256) bytesA′ ≡ true
+  -- after 0 the event 1 is not allowed, and permitted; after 1 the event 0 is not allowed, and refused
+  pub prefix0 : member (0 ∷ []) (prefixes (logIn bytesA)) ≡ true
+  pub wrong01 : allowed (eventsIn bytesA) (logIn bytesA) (stepAfter (eventsIn bytesA) (0 ∷ []) 1) ≡ false
+  pub permits01 : permits (eventsIn bytesA) (netIn bytesA) (0 ∷ 1 ∷ []) ≡ true
+  pub prefix1 : member (1 ∷ []) (prefixes (logIn bytesA)) ≡ true
+  pub wrong10 : allowed (eventsIn bytesA) (logIn bytesA) (stepAfter (eventsIn bytesA) (1 ∷ []) 0) ≡ false
+  pub refuses10 : permits (eventsIn bytesA) (netIn bytesA) (1 ∷ 0 ∷ []) ≡ false
+
+pub computed : Computed
+unfolding ofVerdict ofScreened bytesA logI samples all any keep tabulate equal numberAt firstFailing sumℤ same occurrences eventCount weighed beginnings prefixes addRow counts tokens surplus placePermits netPermits firstRefusing screenAfter screen rows allowed rowSteps continuations allowedSteps wrongContinuations fits refusedBy weighsBefore weighsAfter weightsHold solves isByPlace tally firstBad flatMap bind onward require field byte number each toPlace toNet toTerm toCertificate toBundle rightSize wordAfter word place places headAfter head bundleSize bundleHead term weights ofKind certificate unsolved solved atEnd afterHead contents judging judged verdictOn verdict replayed wordOn screening screenedOf screened bytesA′ countsA headOf headIn permits permitsAfter
+computed = record {
+  samplesHold = refl;
+  acceptedA = refl;
+  acceptedA′ = refl;
+  events = refl;
+  two = refl;
+  to = refl;
+  from = refl;
+  bytesOfA = refl;
+  bytesOfA′ = refl;
+  prefix0 = refl;
+  wrong01 = refl;
+  permits01 = refl;
+  prefix1 = refl;
+  wrong10 = refl;
+  refuses10 = refl;
+}
+
 pub samples-hold : all (λ c. equal (c .0) (c .1)) samples ≡ true
-unfolding ofVerdict ofScreened bytesA logI samples all any keep tabulate equal numberAt firstFailing provided sumℤ same occurrences eventCount weighed beginnings prefixes addRow counts tokens surplus placePermits netPermits firstRefusing screenAfter screen rows allowed rowSteps continuations allowedSteps wrongContinuations fits refusedBy weighsBefore weighsAfter weightsHold solves isByPlace tally firstBad flatMap andThen require field byte number each toPlace toNet toTerm toCertificate toBundle rightSize sizeFits wordAfter word place places head term weights ofKind certificate unsolved solved atEnd afterHead contents judging verdictOn verdict replayed screenedOn screened
-samples-hold = refl
+samples-hold = computed .samplesHold

@@ -6,7 +6,7 @@ use screening::Screened;
 use verdicts::Verdict;
 ghost use mathlib.Core.Path.{_≡_};
 ghost use lib.ListN.{length};
-ghost use Rattle.refusals.specs.Answers.{written};
+ghost use Rattle.refusals.specs.Answers.{fitted, written};
 ghost use Rattle.block.specs.File.{opened};
 ghost use Rattle.verdicts.specs.Judging.{tableAfter};
 ghost use Rattle.demands.specs.Files.{answersOf, ran, tableRan, AnswersCompared};
@@ -46,9 +46,9 @@ fn judge_and_screen(bundle: &[u8], table: &mut [u16], word: &[u8]) -> Answers
 
 // Opens a file into the output, judges its bundle with the table, and screens the word with it.
 pub fn run(file: &[u8], output: &mut [u8], table: &mut [u16], word: &[u8]) -> Ran
-    ensures { λ r. ⌜ r ≡ ran (opened (now (file .entry))) (length (now (output .entry))) (length (now (table .entry))) (now (word .entry)) ⌝ }
+    ensures { λ r. ⌜ r ≡ ran (fitted (opened (now (file .entry))) (length (now (output .entry)))) (length (now (table .entry))) (now (word .entry)) ⌝ }
     ensures { λ _. ⌜ now (output .exit) ≡ written (opened (now (file .entry))) (now (output .entry)) ⌝ }
-    ensures { λ _. ⌜ now (table .exit) ≡ tableRan (opened (now (file .entry))) (length (now (output .entry))) (now (table .entry)) ⌝ }
+    ensures { λ _. ⌜ now (table .exit) ≡ tableRan (fitted (opened (now (file .entry))) (length (now (output .entry)))) (now (table .entry)) ⌝ }
 {
     match block::open(file, output) {
         Written::Refused(refusal) => Ran::Refused(refusal),
@@ -66,11 +66,11 @@ pub fn run_both(
     table: &mut [u16],
     word: &[u8],
 ) -> Both
-    ensures { λ r. ⌜ r .first ≡ ran (opened (now (file1 .entry))) (length (now (output1 .entry))) (length (now (table .entry))) (now (word .entry)) ⌝ }
-    ensures { λ r. ⌜ r .second ≡ ran (opened (now (file2 .entry))) (length (now (output2 .entry))) (length (now (table .entry))) (now (word .entry)) ⌝ }
+    ensures { λ r. ⌜ r .first ≡ ran (fitted (opened (now (file1 .entry))) (length (now (output1 .entry)))) (length (now (table .entry))) (now (word .entry)) ⌝ }
+    ensures { λ r. ⌜ r .second ≡ ran (fitted (opened (now (file2 .entry))) (length (now (output2 .entry)))) (length (now (table .entry))) (now (word .entry)) ⌝ }
     ensures { λ _. ⌜ now (output1 .exit) ≡ written (opened (now (file1 .entry))) (now (output1 .entry)) ⌝ }
     ensures { λ _. ⌜ now (output2 .exit) ≡ written (opened (now (file2 .entry))) (now (output2 .entry)) ⌝ }
-    ensures { λ _. ⌜ now (table .exit) ≡ tableRan (opened (now (file2 .entry))) (length (now (output2 .entry))) (tableRan (opened (now (file1 .entry))) (length (now (output1 .entry))) (now (table .entry))) ⌝ }
+    ensures { λ _. ⌜ now (table .exit) ≡ tableRan (fitted (opened (now (file2 .entry))) (length (now (output2 .entry)))) (tableRan (fitted (opened (now (file1 .entry))) (length (now (output1 .entry)))) (now (table .entry))) ⌝ }
     ensures { λ r. ⌜ AnswersCompared r (now (output1 .exit)) (now (output2 .exit)) (now (word .entry)) ⌝ }
 {
     let first = run(file1, output1, table, word);

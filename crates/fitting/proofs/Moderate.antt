@@ -5,8 +5,9 @@ use Prim.Native.Nat.{ℕ, _+_, _≤_, _<_}
 use native.Mathlib.Omega.{arith}
 use lib.IntN.{ℤ}
 use lib.ListN.{getD}
+use Rattle.limits.specs.Limits.{MAX-EVENTS}
 use Rattle.nets.specs.Nets.{Counts}
-use Rattle.nets.specs.Machine.{COUNTS, Held}
+use Rattle.nets.specs.Machine.{Held}
 use Rattle.nets.proofs.Bounds.{Small, given-bound, taken-bound, tokens-held}
 use Rattle.fitting.specs.Columns.{inRow, outRow, column, Moderate, Marking, putBetween, tookBetween, Between}
 
@@ -18,10 +19,10 @@ small : (m : List ℕ) → Short m → (v : Counts) → Short v → (j : ℕ) �
 small m short v few j = record { initial = short j; produced = λ i. short (inRow i + j); consumed = λ i. short (outRow i + j); counts = few }
 
 module _ {count : ℕ} {m : List ℕ} {t : List ℤ} (short : Short m) where
-  pub between-moderate : {before row : Counts} {i : ℕ} → Short before → Short row → i ≤ COUNTS → Between count m t before row i → Moderate count t
+  pub between-moderate : {before row : Counts} {i : ℕ} → Short before → Short row → i ≤ MAX-EVENTS → Between count m t before row i → Moderate count t
   between-moderate {before} {row} {i} hb hr few h j b =
       let p = column m j in
-      let whole : COUNTS ≤ COUNTS = omega arith in
+      let whole : MAX-EVENTS ≤ MAX-EVENTS = omega arith in
       let s = small m short row hr j in
       let s₀ = small m short before hb j in
       record {
@@ -29,10 +30,10 @@ module _ {count : ℕ} {m : List ℕ} {t : List ℤ} (short : Short m) where
         minus = tookBetween p before row i;
         is = h .tokens j b;
         far = (
-          omega (arith, given-bound p row s i few, given-bound p before s₀ COUNTS whole, taken-bound p before s₀ i few),
-          omega (arith, taken-bound p row s i few, taken-bound p before s₀ COUNTS whole, given-bound p before s₀ i few),
+          omega (arith, given-bound p row s i few, given-bound p before s₀ MAX-EVENTS whole, taken-bound p before s₀ i few),
+          omega (arith, taken-bound p row s i few, taken-bound p before s₀ MAX-EVENTS whole, given-bound p before s₀ i few),
         );
       }
 
   pub marking-moderate : {v : Counts} → Short v → Marking count m t v → Moderate count t
-  marking-moderate {v} few h j b = subst Held (sym (h .tokens j b)) (tokens-held (column m j) v (small m short v few j) COUNTS (omega arith))
+  marking-moderate {v} few h j b = subst Held (sym (h .tokens j b)) (tokens-held (column m j) v (small m short v few j) MAX-EVENTS (omega arith))

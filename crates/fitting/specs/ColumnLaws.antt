@@ -4,7 +4,7 @@ use mathlib.Core.Logic.{⊎-elim}
 use mathlib.Core.Bool.{true}
 use mathlib.Core.List.{List}
 use Prim.Native.Nat.{ℕ, _+_, _*_, _≤_, _<_}
-use native.Mathlib.Nat.{zero-mul, add-mul, eq-or-lt-of-le}
+use native.Mathlib.Nat.{add-mul, eq-or-lt-of-le}
 use native.Mathlib.Omega.{arith}
 use lib.Dec.{T}
 use lib.IntN.{ℤ, pos, subℕ, _+ℤ_, _-ℤ_, _*ℤ_, +ℤ-idr}
@@ -13,20 +13,21 @@ use lib.Seq.{getD-set-same, getD-set-other}
 use lib.Signed.{nonNeg}
 use Rattle.laws.specs.Booleans.{yes-true, implied, implies}
 use Rattle.laws.specs.Bits.{bit}
-use Rattle.laws.specs.Differences.{difference, difference-add, difference-mul, difference-same, pos-of-difference}
+use Rattle.laws.specs.Differences.{difference, difference-add, difference-mul, difference-same}
 use Rattle.laws.specs.Lists.{all-member, all-intro, tabulate, tabulate-inverse}
-use Rattle.laws.specs.Scans.{firstFailing, failing-never}
-use Rattle.laws.specs.Sums.{sum, sum-same, sum-zero}
-use Rattle.nets.specs.Nets.{Place, Step, Counts, at, tokens, surplus, placePermits}
-use Rattle.nets.specs.Machine.{COUNTS}
-use Rattle.nets.specs.Surplus.{given, taken, tokens-is, given-next, taken-next, tokens-row, permits→le, le→permits}
-use Rattle.bundles.specs.Layout.{PlaceFields, toPlace}
-use Rattle.bundles.specs.NumberSteps.{itemsAt, items-length, getD-items}
-use Rattle.bundles.specs.PlaceSteps.{placeSize, fieldsAt}
-use Rattle.logs.specs.Rows.{Row, none, rowAt}
-use Rattle.fitting.specs.Fitting.{rowFits, fitsRows}
-use Rattle.fitting.specs.FittingLaws.{permits-front}
-use Rattle.fitting.specs.Columns.{WIDTH, MATRIX, inRow, outRow, column, SamePlace, Marking, Covered, Shifted, Recounted, Beside, Written, putBetween, tookBetween, Between, AllFit}
+use Rattle.laws.specs.Scans.{failing-never}
+use Rattle.laws.specs.Sums.{sum, sum-same}
+use Rattle.limits.specs.Limits.{MAX-EVENTS}
+use Rattle.nets.specs.Nets.{Place, Step, Counts, at, tokens, surplus, placePermits, fits}
+use Rattle.nets.specs.Surplus.{given, taken, tokens-is, given-next, taken-next, tokens-row, permits→le, le→permits, tokens-zeros}
+use Rattle.bundles.specs.Readers.{eventsIn, logIn, netIn}
+use Rattle.logs.specs.Rows.{Row, none, rowAt, rowsOf}
+use Rattle.heads.specs.Heads.{HeadHeld}
+use Rattle.heads.specs.declared.TakenHead.{TakenHead}
+use Rattle.fitting.specs.Fitting.{rowFits, fitsRows, misfitIn, noPlace, placeIn}
+use Rattle.fitting.specs.FittingLaws.{permits-front, fits-held}
+use Rattle.fitting.specs.Columns.{WIDTH, MATRIX, inRow, outRow, column, SamePlace, Marking, Covered, Shifted, Recounted, Beside, Written, putBetween, tookBetween, Between}
+use Rattle.bundles.specs.HeadSteps.{net-size}
 
 -- ---- The tokens
 
@@ -38,8 +39,8 @@ module _ {count : ℕ} {m : List ℕ} {t : List ℤ} {before row : Counts} where
     tokens = λ j b.
         let p = column m j in
         h .tokens j b
-        ∙ tokens-is COUNTS p before
-        ∙ difference-same (given COUNTS p before) (taken COUNTS p before) (putBetween p before row 0) (tookBetween p before row 0) (omega arith);
+        ∙ tokens-is MAX-EVENTS p before
+        ∙ difference-same (given MAX-EVENTS p before) (taken MAX-EVENTS p before) (putBetween p before row 0) (tookBetween p before row 0) (omega arith);
   }
 
   pub between-next : {t′ : List ℤ} {i : ℕ} → Between count m t before row i → Recounted count m t t′ i (at before i) (at row i) → Between count m t′ before row (i + 1)
@@ -57,46 +58,36 @@ module _ {count : ℕ} {m : List ℕ} {t : List ℤ} {before row : Counts} where
         (omega (arith, given-next i p before, given-next i p row, taken-next i p before, taken-next i p row));
   }
 
-  pub between-end : {i : ℕ} → i ≡ COUNTS → Between count m t before row i → Marking count m t row
+  pub between-end : {i : ℕ} → i ≡ MAX-EVENTS → Between count m t before row i → Marking count m t row
   between-end {i} e h = record {
     tokens = λ j b.
         let p = column m j in
         subst (Between count m t before row) e h .tokens j b
-        ∙ difference-same (putBetween p before row COUNTS) (tookBetween p before row COUNTS) (given COUNTS p row) (taken COUNTS p row) (omega arith)
-        ∙ sym (tokens-is COUNTS p row);
+        ∙ difference-same (putBetween p before row MAX-EVENTS) (tookBetween p before row MAX-EVENTS) (given MAX-EVENTS p row) (taken MAX-EVENTS p row) (omega arith)
+        ∙ sym (tokens-is MAX-EVENTS p row);
   }
 
 -- at first the initial tokens
 pub marking-start : {count : ℕ} {m : List ℕ} {t : List ℤ} → ((j : ℕ) → j < count → getD t j (pos 0) ≡ pos (getD m j 0)) → Marking count m t none
-unfolding given taken
-marking-start {count} {m} {t} h = record {
-  tokens = λ j b.
-      let p = column m j in
-      let put = over-none (p .produced) in
-      let took = over-none (p .consumed) in
-      h j b ∙ sym (tokens-is COUNTS p none ∙ pos-of-difference (given COUNTS p none) (taken COUNTS p none) (omega (arith, took)) ∙ ap pos (omega (arith, put, took)));
-}
-  where
-    over-none : (f : ℕ → ℕ) → sum COUNTS (λ i. at none i * f i) ≡ 0
-    over-none f = sum-same COUNTS _ (λ i. 0) (λ i k. ap (λ (n : ℕ). n * f i) (getD-replicate COUNTS i 0 0 k) ∙ zero-mul (f i)) ∙ sum-zero COUNTS
+marking-start {count} {m} {t} h = record { tokens = λ j b. h j b ∙ sym (tokens-zeros MAX-EVENTS (column m j) none (λ i k. getD-replicate MAX-EVENTS i 0 0 k)) }
 
 -- only the counts below twelve matter
-pub marking-row : {count : ℕ} {m : List ℕ} {t : List ℤ} {u v : Counts} → ((i : ℕ) → i < COUNTS → at u i ≡ at v i) → Marking count m t u → Marking count m t v
-marking-row {m = m} {u = u} {v = v} h marking = record { tokens = λ j b. marking .tokens j b ∙ tokens-row COUNTS (column m j) u v h }
+pub marking-row : {count : ℕ} {m : List ℕ} {t : List ℤ} {u v : Counts} → ((i : ℕ) → i < MAX-EVENTS → at u i ≡ at v i) → Marking count m t u → Marking count m t v
+marking-row {m = m} {u = u} {v = v} h marking = record { tokens = λ j b. marking .tokens j b ∙ tokens-row MAX-EVENTS (column m j) u v h }
 
 -- where these are the tokens, a surplus of 0 or more permits the event
-tokens→permits : (p : Place) (v : Counts) (e : ℕ) {t : ℤ} → t ≡ tokens COUNTS p v → T (nonNeg (t -ℤ pos (p .consumed e))) → T (placePermits COUNTS p (record { row = v; event = e }))
+tokens→permits : (p : Place) (v : Counts) (e : ℕ) {t : ℤ} → t ≡ tokens MAX-EVENTS p v → T (nonNeg (t -ℤ pos (p .consumed e))) → T (placePermits MAX-EVENTS p (record { row = v; event = e }))
 unfolding placePermits surplus
 tokens→permits p v e is h = subst (λ (z : ℤ). T (nonNeg (z -ℤ pos (p .consumed e)))) is h
 
 -- a row whose events' tokens are covered fits each column
-pub row-covered : {count : ℕ} {m : List ℕ} {t : List ℤ} {l : List ℕ} → Marking count m t l → ((e : ℕ) → e < COUNTS → T (bit (at l COUNTS) e) → Covered count m t e)
+pub row-covered : {count : ℕ} {m : List ℕ} {t : List ℤ} {l : List ℕ} → Marking count m t l → ((e : ℕ) → e < MAX-EVENTS → T (bit (at l MAX-EVENTS) e) → Covered count m t (outRow e))
     → (j : ℕ) → j < count → rowFits (column m j) (rowAt l) ≡ true
 unfolding rowFits rowAt
-row-covered {count} {m} {t} {l} marking covered j b = yes-true _ (all-intro _ (tabulate COUNTS (λ e. e)) (λ e k.
-    let i = tabulate-inverse COUNTS (λ e. e) k in
-    let h : e < COUNTS = omega (arith, i .1, i .2) in
-    implies (bit (at l COUNTS) e) (placePermits COUNTS (column m j) (record { row = take COUNTS l; event = e })) (λ set.
+row-covered {count} {m} {t} {l} marking covered j b = yes-true _ (all-intro _ (tabulate MAX-EVENTS (λ e. e)) (λ e k.
+    let i = tabulate-inverse MAX-EVENTS (λ e. e) k in
+    let h : e < MAX-EVENTS = omega (arith, i .1, i .2) in
+    implies (bit (at l MAX-EVENTS) e) (placePermits MAX-EVENTS (column m j) (record { row = take MAX-EVENTS l; event = e })) (λ set.
     subst T (permits-front (column m j) l e) (tokens→permits (column m j) l e (marking .tokens j b) (covered e h set j b)))))
 
 -- a count that goes from x to x + d, one that goes back, and one that stays
@@ -130,23 +121,23 @@ module _ (count : ℕ) (m : List ℕ) (t : List ℤ) (i : ℕ) where
 -- ---- Places with the same numbers
 
 module _ {p q : Place} (s : SamePlace p q) where
-  same-given : (v : Counts) → given COUNTS p v ≡ given COUNTS q v
+  same-given : (v : Counts) → given MAX-EVENTS p v ≡ given MAX-EVENTS q v
   unfolding given
-  same-given v = ap₂ _+_ (s .initial) (sum-same COUNTS _ _ (λ i b. ap (λ (n : ℕ). at v i * n) (s .produced i b)))
+  same-given v = ap₂ _+_ (s .initial) (sum-same MAX-EVENTS _ _ (λ i b. ap (λ (n : ℕ). at v i * n) (s .produced i b)))
 
-  same-taken : (v : Counts) → taken COUNTS p v ≡ taken COUNTS q v
+  same-taken : (v : Counts) → taken MAX-EVENTS p v ≡ taken MAX-EVENTS q v
   unfolding taken
-  same-taken v = sum-same COUNTS _ _ (λ i b. ap (λ (n : ℕ). at v i * n) (s .consumed i b))
+  same-taken v = sum-same MAX-EVENTS _ _ (λ i b. ap (λ (n : ℕ). at v i * n) (s .consumed i b))
 
   same-row : (r : Row) → T (rowFits p r) → T (rowFits q r)
   unfolding rowFits
-  same-row r t = all-intro _ (tabulate COUNTS (λ e. e)) (λ e k.
-      let i = tabulate-inverse COUNTS (λ e. e) k in
-      let h : e < COUNTS = omega (arith, i .1, i .2) in
+  same-row r t = all-intro _ (tabulate MAX-EVENTS (λ e. e)) (λ e k.
+      let i = tabulate-inverse MAX-EVENTS (λ e. e) k in
+      let h : e < MAX-EVENTS = omega (arith, i .1, i .2) in
       let step : Step = record { row = r .counts; event = e } in
-      implies (bit (r .mask) e) (placePermits COUNTS q step) (λ set.
-      let permitted = implied (bit (r .mask) e) (placePermits COUNTS p step) (all-member _ (tabulate COUNTS (λ e. e)) t k) set in
-      le→permits COUNTS q step (omega (arith, permits→le COUNTS p step permitted, same-given (r .counts), same-taken (r .counts), s .consumed e h))))
+      implies (bit (r .mask) e) (placePermits MAX-EVENTS q step) (λ set.
+      let permitted = implied (bit (r .mask) e) (placePermits MAX-EVENTS p step) (all-member _ (tabulate MAX-EVENTS (λ e. e)) t k) set in
+      le→permits MAX-EVENTS q step (omega (arith, permits→le MAX-EVENTS p step permitted, same-given (r .counts), same-taken (r .counts), s .consumed e h))))
 
   pub same-fits : (rs : List Row) → fitsRows p rs ≡ true → fitsRows q rs ≡ true
   unfolding fitsRows
@@ -180,7 +171,7 @@ module _ {m₀ : List ℕ} {j : ℕ} {p : Place} where
   storing-start = record { size = refl; produced = λ i b. absurd (omega arith); consumed = λ i b. absurd (omega arith); beside = λ x k b ne. refl }
 
   module _ (column-there : j < WIDTH) (long : MATRIX ≤ length m₀) where
-    pub storing-next : {m : List ℕ} {e : ℕ} → e < COUNTS → Storing m₀ m j p e
+    pub storing-next : {m : List ℕ} {e : ℕ} → e < MAX-EVENTS → Storing m₀ m j p e
         → Storing m₀ (set (set m (inRow e + j) (p .produced e)) (outRow e + j) (p .consumed e)) j p (e + 1)
     storing-next {m} {e} h s =
         let x = p .produced e in
@@ -203,7 +194,7 @@ module _ {m₀ : List ℕ} {j : ℕ} {p : Place} where
         }
 
     -- the initial tokens last
-    pub stored : {m : List ℕ} {e : ℕ} → COUNTS ≤ e → Storing m₀ m j p e
+    pub stored : {m : List ℕ} {e : ℕ} → MAX-EVENTS ≤ e → Storing m₀ m j p e
         → let m′ = set m j (p .initial) in SamePlace (column m′ j) p × Beside m₀ m′ j
     stored {m} h s =
         let x = p .initial in
@@ -219,10 +210,9 @@ module _ {m₀ : List ℕ} {j : ℕ} {p : Place} where
 -- ---- The places of a bundle written into the columns
 
 -- one column more, the others untouched
-pub written-next : {n : ℕ} {b : List ℕ} {first : ℕ} {m m′ : List ℕ} {j : ℕ} → j < WIDTH → Written n b first m j → Beside m m′ j
-    → SamePlace (column m′ j) (toPlace (fieldsAt n b (first + 2 * (j * placeSize n)))) → Written n b first m′ (j + 1)
-written-next {n} {b} {first} {m} {m′} {j} few below beside here = record {
-  places = each-next (λ (i : ℕ). SamePlace (column m′ i) (toPlace (fieldsAt n b (first + 2 * (i * placeSize n))))) j
+pub written-next : {b m m′ : List ℕ} {j : ℕ} → j < WIDTH → Written b m j → Beside m m′ j → SamePlace (column m′ j) (placeIn b j) → Written b m′ (j + 1)
+written-next {b} {m} {m′} {j} few below beside here = record {
+  places = each-next (λ (i : ℕ). SamePlace (column m′ i) (placeIn b i)) j
       (λ i l.
       let there = below .places i l in
       let kept : (x : ℕ) → getD m′ (WIDTH * x + i) 0 ≡ getD m (WIDTH * x + i) 0 = λ x. beside x i (omega arith) (λ e. omega arith) in
@@ -237,17 +227,11 @@ written-next {n} {b} {first} {m} {m′} {j} few below beside here = record {
 
 -- ---- The places of a bundle that all fit
 
-pub all-fit : {n : ℕ} {b : List ℕ} {first : ℕ} {m : List ℕ} {count : ℕ} {rs : List Row} → Written n b first m count
-    → ((j : ℕ) → j < count → fitsRows (column m j) rs ≡ true) → AllFit n b first count rs
-all-fit {rs = rs} written fit = record { places = λ j h. same-fits (written .places j h) rs (fit j h) }
-
--- so none is the first that does not
-pub none-failing : {n : ℕ} {b : List ℕ} {first count : ℕ} {rs : List Row} → AllFit n b first count rs
-    → firstFailing (λ (f : PlaceFields). fitsRows (toPlace f) rs) (itemsAt (placeSize n) (fieldsAt n) count b first) ≡ count
-none-failing {n} {b} {first} {count} {rs} h =
-    let size = items-length (placeSize n) (fieldsAt n) count b first in
-    let d = fieldsAt n b first in
-    failing-never (λ (f : PlaceFields). fitsRows (toPlace f) rs) d (itemsAt (placeSize n) (fieldsAt n) count b first) (λ j l.
-    let few : j < count = omega (arith, size, l) in
-    rw (getD-items (placeSize n) (fieldsAt n) count b first j d few) (h .places j few))
-    ∙ size
+pub all-fit : {b t m : List ℕ} {head : TakenHead} → HeadHeld b t head → Written b m (head .places .count)
+    → ((j : ℕ) → j < head .places .count → fitsRows (column m j) (rowsOf (head .rows) t) ≡ true) → head .places .count ≡ misfitIn b
+all-fit {b} {t} {head = head} held written fit =
+    let size = net-size (held .found) in
+    sym (failing-never (fits (eventsIn b) (logIn b)) noPlace (netIn b) (λ j l.
+    let few : j < head .places .count = omega arith in
+    sym (fits-held held (placeIn b j)) ∙ same-fits (written .places j few) (rowsOf (head .rows) t) (fit j few))
+    ∙ size)

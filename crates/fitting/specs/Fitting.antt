@@ -1,4 +1,4 @@
--- Whether a place fits, from the rows of a table: it permits the events of each row's mask after the row's counts.
+-- Whether a place fits, from the rows of a table: it permits the events of each row's mask after the row's counts; and a bundle's first misfit.
 use mathlib.Core.Bool.{Bool, not, _||_}
 use mathlib.Core.List.{List}
 use Prim.Native.Nat.{ℕ}
@@ -7,13 +7,15 @@ use lib.ListN.{getD}
 use lib.Signed.{nonNeg}
 use Rattle.laws.specs.Lists.{all, tabulate}
 use Rattle.laws.specs.Bits.{bit}
-use Rattle.nets.specs.Nets.{Place, placePermits}
-use Rattle.nets.specs.Machine.{COUNTS}
+use Rattle.laws.specs.Scans.{firstFailing}
+use Rattle.limits.specs.Limits.{MAX-EVENTS}
+use Rattle.nets.specs.Nets.{Place, placePermits, fits}
 use Rattle.logs.specs.Rows.{Row}
+use Rattle.bundles.specs.Readers.{eventsIn, logIn, netIn}
 
 -- a place permits what a row allows
 unfoldable pub rowFits : Place → Row → Bool
-rowFits p r = all (λ e. not (bit (r .mask) e) || placePermits COUNTS p (record { row = r .counts; event = e })) (tabulate COUNTS (λ e. e))
+rowFits p r = all (λ e. not (bit (r .mask) e) || placePermits MAX-EVENTS p (record { row = r .counts; event = e })) (tabulate MAX-EVENTS (λ e. e))
 
 -- a place permits what every row allows
 unfoldable pub fitsRows : Place → List Row → Bool
@@ -25,4 +27,16 @@ eventFits tokens consumed mask e = not (bit mask e) || nonNeg (tokens -ℤ pos (
 
 -- the same at each event
 unfoldable pub eventsFit : ℤ → List ℕ → ℕ → Bool
-eventsFit tokens consumed mask = all (eventFits tokens consumed mask) (tabulate COUNTS (λ e. e))
+eventsFit tokens consumed mask = all (eventFits tokens consumed mask) (tabulate MAX-EVENTS (λ e. e))
+
+-- the first place of a bundle's net that does not fit its log, or the number of places
+abbrev pub misfitIn : List ℕ → ℕ
+misfitIn b = firstFailing (fits (eventsIn b) (logIn b)) (netIn b)
+
+-- a place without tokens, for an index behind the last place
+abbrev pub noPlace : Place
+noPlace = record { initial = 0; produced = λ e. 0; consumed = λ e. 0 }
+
+-- place j of a bundle's net
+abbrev pub placeIn : List ℕ → ℕ → Place
+placeIn b j = getD (netIn b) j noPlace

@@ -2,75 +2,91 @@
 use mathlib.Core.Path.{_≡_, refl, sym, ap, ap₂, _∙_, subst}
 use mathlib.Core.Bool.{Bool, true, false, not, _&&_, _||_, and-true, and-assoc}
 use mathlib.Core.List.{List, map, List·Memᴰ, Memᴰ·map, Memᴰ·of-map}
-use Prim.Native.Nat.{ℕ, _+_, _*_, _≤_, _<_}
+use Prim.Native.Nat.{ℕ, _+_, _-_, _*_, _≤_, _<_}
 use native.Mathlib.Omega.{arith}
 use lib.Dec.{T}
 use lib.IntN.{ℤ, pos, _-ℤ_}
-use lib.ListN.{length, getD, take, drop, drop-of-length-le}
-use lib.Seq.{getD-take}
+use lib.ListN.{length, getD, take, drop, length-drop, drop-of-length-le}
+use lib.Seq.{take-all, getD-take}
 use lib.Signed.{nonNeg}
 use Rattle.laws.specs.Booleans.{same-test, yes-true, implied, implies}
-use Rattle.laws.specs.Bits.{bit, bit-of-zero, maskOf, maskOf-bit}
-use Rattle.laws.specs.Lists.{all, all-member, all-intro, all-next, tabulate, length-tabulate, getD-tabulate, tabulate-member, tabulate-inverse}
+use Rattle.laws.specs.Bits.{bit, bit-of-zero}
+use Rattle.laws.specs.Lists.{all, all-member, all-intro, all-next, getD-map, tabulate, length-tabulate, getD-tabulate, tabulate-member, tabulate-inverse}
+use Rattle.limits.specs.Limits.{MAX-EVENTS}
 use Rattle.nets.specs.declared.Place as Declared
 use Rattle.nets.specs.Nets.{Log, Counts, Step, Place, tokens, surplus, placePermits, rows, allowed, allowedSteps, fits}
 use Rattle.nets.specs.CountLaws.{length-counts}
 use Rattle.nets.specs.Fits.{LogBelow, allowed-listed}
-use Rattle.nets.specs.Machine.{COUNTS, placeOf}
+use Rattle.nets.specs.Machine.{placeOf}
 use Rattle.nets.specs.Rows.{row→, continuation→, allowedStep→}
 use Rattle.nets.specs.Surplus.{tokens-row}
 use Rattle.nets.specs.Wide.{wide, permits-wide}
 use Rattle.logs.specs.Rows.{ROW, Row, rowAt, rowsOf}
 use Rattle.logs.specs.Flat.{length-rows, rows-at}
-use Rattle.logs.specs.Log.{logRows}
-use Rattle.logs.specs.LogTable.{logRows-is}
-use Rattle.fitting.specs.Fitting.{rowFits, fitsRows, eventFits, eventsFit}
+use Rattle.logs.specs.Log.{logRow, logRows}
+use Rattle.logs.specs.LogTable.{logRows-is, logRow-bit}
+use Rattle.bundles.specs.Layout.{toPlace, toNet}
+use Rattle.bundles.specs.Readers.{eventsIn, logIn}
+use Rattle.bundles.specs.NumberSteps.{itemsAt, items-length, getD-items}
+use Rattle.bundles.specs.PlaceSteps.{placeSize, fieldsAt, placeOn}
+use Rattle.bundles.specs.HeadSteps.{HeadAt}
+use Rattle.bundles.specs.declared.Places.{Places}
+use Rattle.heads.specs.Heads.{HeadHeld}
+use Rattle.heads.specs.declared.TakenHead.{TakenHead}
+use Rattle.fitting.specs.Fitting.{rowFits, fitsRows, eventFits, eventsFit, noPlace, placeIn}
 
 -- ---- a row
 
 -- a loop over the events that has tested those below e
 abbrev pub EventsBelow : ℤ → List ℕ → ℕ → Bool → ℕ → Type 0
-EventsBelow t consumed mask fit e = eventsFit t consumed mask ≡ (fit && all (eventFits t consumed mask) (drop e (tabulate COUNTS (λ e. e))))
+EventsBelow t consumed mask fit e = eventsFit t consumed mask ≡ (fit && all (eventFits t consumed mask) (drop e (tabulate MAX-EVENTS (λ e. e))))
 
 module _ (t : ℤ) (consumed : List ℕ) (mask : ℕ) where
   pub events-start : EventsBelow t consumed mask true 0
   unfolding eventsFit
   events-start = refl
 
-  pub events-next : (fit : Bool) (e : ℕ) → e < COUNTS → EventsBelow t consumed mask fit e
+  pub events-next : (fit : Bool) (e : ℕ) → e < MAX-EVENTS → EventsBelow t consumed mask fit e
       → EventsBelow t consumed mask (fit && (not (bit mask e) || nonNeg (t -ℤ pos (getD consumed e 0)))) (e + 1)
   unfolding eventFits
   events-next fit e h inv =
       let test : ℕ → Bool = eventFits t consumed mask in
-      let events : List ℕ = tabulate COUNTS (λ e. e) in
+      let events : List ℕ = tabulate MAX-EVENTS (λ e. e) in
       inv
-      ∙ ap (λ (b : Bool). fit && b) (all-next test events e 0 (rw length-tabulate h) ∙ ap (λ (x : ℕ). test x && all test (drop (e + 1) events)) (getD-tabulate COUNTS (λ e. e) e 0 h))
+      ∙ ap (λ (b : Bool). fit && b) (all-next test events e 0 (rw length-tabulate h) ∙ ap (λ (x : ℕ). test x && all test (drop (e + 1) events)) (getD-tabulate MAX-EVENTS (λ e. e) e 0 h))
       ∙ sym (and-assoc fit (test e) (all test (drop (e + 1) events)))
 
-  pub events-end : (fit : Bool) (e : ℕ) → COUNTS ≤ e → EventsBelow t consumed mask fit e → eventsFit t consumed mask ≡ fit
+  pub events-end : (fit : Bool) (e : ℕ) → MAX-EVENTS ≤ e → EventsBelow t consumed mask fit e → eventsFit t consumed mask ≡ fit
   unfolding all
   events-end fit e h inv =
-      inv ∙ rw (drop-of-length-le (tabulate COUNTS (λ e. e)) {i = e} (rw length-tabulate h)) (and-true fit)
+      inv ∙ rw (drop-of-length-le (tabulate MAX-EVENTS (λ e. e)) {i = e} (rw length-tabulate h)) (and-true fit)
 
 -- what stands behind the twelve counts of a row does not matter
-tokens-front : (p : Place) (t : List ℕ) → tokens COUNTS p t ≡ tokens COUNTS p (take COUNTS t)
-tokens-front p t = tokens-row COUNTS p t (take COUNTS t) (λ i b. sym (getD-take COUNTS t i 0 b))
+tokens-front : (p : Place) (t : List ℕ) → tokens MAX-EVENTS p t ≡ tokens MAX-EVENTS p (take MAX-EVENTS t)
+tokens-front p t = tokens-row MAX-EVENTS p t (take MAX-EVENTS t) (λ i b. sym (getD-take MAX-EVENTS t i 0 b))
 
-pub permits-front : (p : Place) (t : List ℕ) (e : ℕ) → placePermits COUNTS p (record { row = t; event = e }) ≡ placePermits COUNTS p (record { row = take COUNTS t; event = e })
+pub permits-front : (p : Place) (t : List ℕ) (e : ℕ) → placePermits MAX-EVENTS p (record { row = t; event = e }) ≡ placePermits MAX-EVENTS p (record { row = take MAX-EVENTS t; event = e })
 unfolding placePermits surplus
 permits-front p t e = ap (λ (z : ℤ). nonNeg (z -ℤ pos (p .consumed e))) (tokens-front p t)
 
 -- the tokens after the row's counts decide for its events
-pub row-fits : (p : Declared.Place) (t : List ℕ) → eventsFit (tokens COUNTS (placeOf p) t) (p .consumed) (getD t COUNTS 0) ≡ rowFits (placeOf p) (rowAt t)
+pub row-fits : (p : Declared.Place) (t : List ℕ) → eventsFit (tokens MAX-EVENTS (placeOf p) t) (p .consumed) (getD t MAX-EVENTS 0) ≡ rowFits (placeOf p) (rowAt t)
 unfolding rowFits eventsFit eventFits rowAt placePermits surplus
-row-fits p t = ap (λ (z : ℤ). eventsFit z (p .consumed) (getD t COUNTS 0)) (tokens-front (placeOf p) t)
+row-fits p t = ap (λ (z : ℤ). eventsFit z (p .consumed) (getD t MAX-EVENTS 0)) (tokens-front (placeOf p) t)
 
 -- a row that nothing follows asks for nothing
-pub row-empty : (p : Place) (t : List ℕ) → getD t COUNTS 0 ≡ 0 → rowFits p (rowAt t) ≡ true
+pub row-empty : (p : Place) (t : List ℕ) → getD t MAX-EVENTS 0 ≡ 0 → rowFits p (rowAt t) ≡ true
 unfolding rowFits rowAt
-row-empty p t none = rw none (yes-true _ (all-intro _ (tabulate COUNTS (λ e. e)) (λ e m. rw (bit-of-zero e) tt)))
+row-empty p t none = rw none (yes-true _ (all-intro _ (tabulate MAX-EVENTS (λ e. e)) (λ e m. rw (bit-of-zero e) tt)))
 
 -- ---- the rows
+
+-- the part of a list from an index on
+abbrev pub part : List ℕ → ℕ → List ℕ
+part l k = take (length l - k) (drop k l)
+
+pub part-is : (l : List ℕ) (k : ℕ) → part l k ≡ drop k l
+part-is l k = take-all (length l - k) (drop k l) (omega (arith, length-drop k l))
 
 module _ (p : Place) (k : ℕ) (t : List ℕ) where
   -- a loop over the rows that found no misfit below r
@@ -101,22 +117,22 @@ module _ (p : Place) (k : ℕ) (t : List ℕ) where
 -- ---- a log
 
 -- a place fits the rows of a log's table exactly when it fits the log
-pub fits-log : (n k : ℕ) (log : Log) → n + k ≡ COUNTS → LogBelow n log → (p : Place) → fitsRows p (logRows log) ≡ fits n log p
+pub fits-log : (n k : ℕ) (log : Log) → n + k ≡ MAX-EVENTS → LogBelow n log → (p : Place) → fitsRows p (logRows log) ≡ fits n log p
 unfolding fitsRows rowFits fits
 fits-log n k log width below p = ap (all (rowFits p)) (logRows-is n k log width below) ∙ same-test _ _ to from
   where
     row : Counts → Row
-    row v = record { counts = wide k v; mask = maskOf COUNTS (λ e. allowed n log (record { row = v; event = e })) }
+    row v = logRow log (wide k v)
 
     -- the test of an event in a row
     test : Counts → ℕ → Bool
-    test v e = not (bit (row v .mask) e) || placePermits COUNTS p (record { row = wide k v; event = e })
+    test v e = not (bit (row v .mask) e) || placePermits MAX-EVENTS p (record { row = wide k v; event = e })
 
-    test-is : (s : Step) → List·Memᴰ (s .row) (rows n log) → s .event < COUNTS → test (s .row) (s .event) ≡ (not (allowed n log s) || placePermits n p s)
+    test-is : (s : Step) → List·Memᴰ (s .row) (rows n log) → s .event < MAX-EVENTS → test (s .row) (s .event) ≡ (not (allowed n log s) || placePermits n p s)
     test-is s m h =
         let u = row→ n log m in
         ap₂ (λ (a b : Bool). not a || b)
-        (maskOf-bit COUNTS (λ e. allowed n log (record { row = s .row; event = e })) (s .event) h)
+        (logRow-bit n k log width below (s .row) (s .event) h)
         (ap (λ (c : ℕ). placePermits c p (record { row = wide k (s .row); event = s .event })) (sym width)
         ∙ permits-wide n k p (s .row) (s .event) (ap length (sym (u .2)) ∙ length-counts n (u .0)))
 
@@ -124,17 +140,37 @@ fits-log n k log width below p = ap (all (rowFits p)) (logRows-is n k log width 
     to t = all-intro (placePermits n p) (allowedSteps n log) (λ s m.
         let a = allowedStep→ n log s m in
         let c = continuation→ n log s (a .0) in
-        let h : s .event < COUNTS = omega (arith, c .1) in
+        let h : s .event < MAX-EVENTS = omega (arith, c .1) in
         let tests = all-member (rowFits p) (map row (rows n log)) t (Memᴰ·map row (c .0)) in
-        let here = all-member (test (s .row)) (tabulate COUNTS (λ e. e)) tests (tabulate-member COUNTS (λ e. e) (s .event) h) in
+        let here = all-member (test (s .row)) (tabulate MAX-EVENTS (λ e. e)) tests (tabulate-member MAX-EVENTS (λ e. e) (s .event) h) in
         implied (allowed n log s) (placePermits n p s) (subst T (test-is s (c .0) h) here) (a .1))
 
     from : T (all (placePermits n p) (allowedSteps n log)) → T (all (rowFits p) (map row (rows n log)))
     from t = all-intro (rowFits p) (map row (rows n log)) (λ r m.
         let v = Memᴰ·of-map row (rows n log) m in
         subst (λ (x : Row). T (rowFits p x)) (v .2)
-        (all-intro (test (v .0)) (tabulate COUNTS (λ e. e)) (λ e k.
-        let i = tabulate-inverse COUNTS (λ e. e) k in
+        (all-intro (test (v .0)) (tabulate MAX-EVENTS (λ e. e)) (λ e k.
+        let i = tabulate-inverse MAX-EVENTS (λ e. e) k in
         let s : Step = record { row = v .0; event = e } in
-        let h : e < COUNTS = omega (arith, i .1, i .2) in
+        let h : e < MAX-EVENTS = omega (arith, i .1, i .2) in
         subst T (sym (test-is s (v .1) h)) (implies (allowed n log s) (placePermits n p s) (λ a. all-member (placePermits n p) (allowedSteps n log) t (allowed-listed n log below s a))))))
+
+-- ---- a bundle
+
+-- whose head was read
+module _ {b : List ℕ} {n : ℕ} {ps : Places} (found : HeadAt b n ps) where
+  pub place-is : (j : ℕ) → j < ps .count → placeIn b j ≡ placeOn n b (ps .first + 2 * (j * placeSize n))
+  unfolding toNet
+  place-is j h =
+      let d = fieldsAt n b 0 in
+      let items = itemsAt (placeSize n) (fieldsAt n) (ps .count) b (ps .first) in
+      rw (found .places)
+      (getD-map toPlace items j d noPlace (rw (items-length (placeSize n) (fieldsAt n) (ps .count) b (ps .first)) h)
+      ∙ ap toPlace (getD-items (placeSize n) (fieldsAt n) (ps .count) b (ps .first) j d h))
+
+-- and whose log is in a table: a place fits its rows exactly when it fits the log
+pub fits-held : {b t : List ℕ} {head : TakenHead} → HeadHeld b t head
+    → (p : Place) → fitsRows p (rowsOf (head .rows) t) ≡ fits (eventsIn b) (logIn b) p
+fits-held {b} held p =
+    let width : eventsIn b + (MAX-EVENTS - eventsIn b) ≡ MAX-EVENTS = omega (arith, held .found .events, held .found .limits) in
+    rw (held .table) (fits-log (eventsIn b) (MAX-EVENTS - eventsIn b) (logIn b) width (held .below) p)

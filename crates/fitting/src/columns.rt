@@ -1,8 +1,9 @@
 // The places of a bundle side by side, so that the compiler takes several at a time. The contracts cite specs/Columns.antt.
 // All are inner functions.
-use bundles::Places;
+use heads::TakenHead;
+use limits::MAX_EVENTS;
+use limits::MAX_PLACES;
 use logs::rows::ROW;
-use nets::COUNTS;
 use nets::Place;
 use nets::gain;
 use nets::has_bit;
@@ -11,21 +12,20 @@ ghost use mathlib.Core.Path.{_≡_};
 ghost use mathlib.Core.Bool.{true};
 ghost use Prim.Native.Nat.{ℕ, _+_, _*_, _≤_, _<_};
 ghost use lib.Dec.{T};
-ghost use lib.IntN.{pos, _-ℤ_};
 ghost use lib.ListN.{length, getD};
-ghost use lib.Signed.{nonNeg};
 ghost use Rattle.laws.specs.Bits.{bit};
-ghost use Rattle.nets.specs.Machine.{COUNTS, placeOf};
-ghost use Rattle.bundles.specs.PlaceSteps.{placeSize};
+ghost use Rattle.limits.specs.Limits.{MAX-EVENTS};
+ghost use Rattle.nets.specs.Machine.{placeOf};
+ghost use Rattle.bundles.specs.HeadSteps.{HeadAt};
 ghost use Rattle.logs.specs.Rows.{ROW, none, rowsOf};
 ghost use Rattle.fitting.specs.Fitting.{fitsRows};
-ghost use Rattle.fitting.specs.Columns.{WIDTH, MATRIX, column, SamePlace, Moderate, Marking, Covered, Shifted, Recounted, Beside, Written};
+ghost use Rattle.fitting.specs.Columns.{WIDTH, MATRIX, Sides, outRow, column, SamePlace, Moderate, Marking, Covered, Shiftable, Shifted, Recounted, Beside, Written};
 
 // The columns of a matrix: as many as a bundle may have places.
-pub const WIDTH: usize = 64;
+pub const WIDTH: usize = MAX_PLACES;
 
 // The numbers of a matrix: a row for each number of a place.
-pub const MATRIX: usize = 1600;
+pub const MATRIX: usize = WIDTH * (1 + 2 * MAX_EVENTS);
 
 // Adds `times` the row at `plus` to the tokens, and takes off `times` the row at `minus`.
 fn shift_times(
@@ -36,7 +36,7 @@ fn shift_times(
     minus: usize,
     times: u16,
 )
-    requires { ⌜ (count ≤ length (now tokens)) × (plus + count ≤ length (now matrix)) × (minus + count ≤ length (now matrix)) × Moderate count (now tokens) ⌝ }
+    requires { ⌜ Shiftable count (now tokens) (now matrix) plus minus ⌝ }
     ensures { λ u. ⌜ Shifted count (now (matrix .entry)) (now (tokens .entry)) (now (tokens .exit)) plus minus times ⌝ }
 {
     let mut j = 0;
@@ -48,7 +48,7 @@ fn shift_times(
 
 // The same. Mostly it is once, which needs no product.
 fn shift(tokens: &mut [i64], count: usize, matrix: &[u16], plus: usize, minus: usize, times: u16)
-    requires { ⌜ (count ≤ length (now tokens)) × (plus + count ≤ length (now matrix)) × (minus + count ≤ length (now matrix)) × Moderate count (now tokens) ⌝ }
+    requires { ⌜ Shiftable count (now tokens) (now matrix) plus minus ⌝ }
     ensures { λ u. ⌜ Shifted count (now (matrix .entry)) (now (tokens .entry)) (now (tokens .exit)) plus minus times ⌝ }
 {
     if times == 1 {
@@ -61,8 +61,10 @@ fn shift(tokens: &mut [i64], count: usize, matrix: &[u16], plus: usize, minus: u
 // Whether the surplus is 0 or more in each column, where an event takes what the row at an offset says. The sign of `all` is set where that of
 // one surplus is: so it takes no branch.
 fn covers_row(tokens: &[i64], count: usize, matrix: &[u16], at: usize) -> bool
-    requires { ⌜ (count ≤ length (now tokens)) × (at + count ≤ length (now matrix)) × Moderate count (now tokens) ⌝ }
-    ensures { λ r. ⌜ (r ≡ true → (j : ℕ) → j < count → T (nonNeg (getD (now (tokens .entry)) j (pos 0) -ℤ pos (getD (now (matrix .entry)) (at + j) 0)))) ⌝ }
+    requires { ⌜ (count ≤ length (now tokens))
+        × (at + count ≤ length (now matrix))
+        × Moderate count (now tokens) ⌝ }
+    ensures { λ r. ⌜ (r ≡ true → Covered count (now (matrix .entry)) (now (tokens .entry)) at) ⌝ }
 {
     let mut all = 0i64;
     let mut j = 0;
@@ -75,11 +77,11 @@ fn covers_row(tokens: &[i64], count: usize, matrix: &[u16], at: usize) -> bool
 
 // The tokens where event i goes from `before` to `after` occurrences.
 fn recount(tokens: &mut [i64], count: usize, matrix: &[u16], i: usize, before: u16, after: u16)
-    requires { ⌜ (count ≤ WIDTH) × (count ≤ length (now tokens)) × (MATRIX ≤ length (now matrix)) × (i < COUNTS) × Moderate count (now tokens) ⌝ }
+    requires { ⌜ Sides count (now tokens) (now matrix) × Moderate count (now tokens) × (i < MAX-EVENTS) ⌝ }
     ensures { λ u. ⌜ Recounted count (now (matrix .entry)) (now (tokens .entry)) (now (tokens .exit)) i before after ⌝ }
 {
     let produced = WIDTH * (1 + i);
-    let consumed = WIDTH * (1 + COUNTS + i);
+    let consumed = WIDTH * (1 + MAX_EVENTS + i);
     if before < after {
         shift(tokens, count, matrix, produced, consumed, after - before);
         return;
@@ -91,11 +93,12 @@ fn recount(tokens: &mut [i64], count: usize, matrix: &[u16], i: usize, before: u
 
 // The tokens after the counts of a row, from those after the counts `before`.
 fn advance(tokens: &mut [i64], count: usize, matrix: &[u16], before: [u16; 12], row: &[u16])
-    requires { ⌜ (count ≤ WIDTH) × (count ≤ length (now tokens)) × (MATRIX ≤ length (now matrix)) × (COUNTS ≤ length (now row)) × Marking count (now matrix) (now tokens) before ⌝ }
+    requires { ⌜ Sides count (now tokens) (now matrix) × Marking count (now matrix) (now tokens) before ⌝ }
+    requires { ⌜ MAX-EVENTS ≤ length (now row) ⌝ }
     ensures { λ u. ⌜ Marking count (now (matrix .entry)) (now (tokens .exit)) (now (row .entry)) ⌝ }
 {
     let mut i = 0;
-    while i < COUNTS {
+    while i < MAX_EVENTS {
         recount(tokens, count, matrix, i, before[i], row[i]);
         i += 1;
     }
@@ -103,23 +106,23 @@ fn advance(tokens: &mut [i64], count: usize, matrix: &[u16], before: [u16; 12], 
 
 // Whether the tokens cover what event e takes, in each column, if its bit is set in the mask.
 fn covers_event(tokens: &[i64], count: usize, matrix: &[u16], mask: u16, e: usize) -> bool
-    requires { ⌜ (count ≤ WIDTH) × (count ≤ length (now tokens)) × (MATRIX ≤ length (now matrix)) × (e < COUNTS) × Moderate count (now tokens) ⌝ }
-    ensures { λ r. ⌜ (r ≡ true → T (bit mask e) → Covered count (now (matrix .entry)) (now (tokens .entry)) e) ⌝ }
+    requires { ⌜ Sides count (now tokens) (now matrix) × Moderate count (now tokens) × (e < MAX-EVENTS) ⌝ }
+    ensures { λ r. ⌜ (r ≡ true → T (bit mask e) → Covered count (now (matrix .entry)) (now (tokens .entry)) (outRow e)) ⌝ }
 {
     if !has_bit(mask, e) {
         return true;
     }
-    let at = WIDTH * (1 + COUNTS + e);
+    let at = WIDTH * (1 + MAX_EVENTS + e);
     covers_row(tokens, count, matrix, at)
 }
 
 // Whether the tokens cover what each event of the mask takes, in each column.
 fn covers_mask(tokens: &[i64], count: usize, matrix: &[u16], mask: u16) -> bool
-    requires { ⌜ (count ≤ WIDTH) × (count ≤ length (now tokens)) × (MATRIX ≤ length (now matrix)) × Moderate count (now tokens) ⌝ }
-    ensures { λ r. ⌜ (r ≡ true → (e : ℕ) → e < COUNTS → T (bit mask e) → Covered count (now (matrix .entry)) (now (tokens .entry)) e) ⌝ }
+    requires { ⌜ Sides count (now tokens) (now matrix) × Moderate count (now tokens) ⌝ }
+    ensures { λ r. ⌜ (r ≡ true → (e : ℕ) → e < MAX-EVENTS → T (bit mask e) → Covered count (now (matrix .entry)) (now (tokens .entry)) (outRow e)) ⌝ }
 {
     let mut e = 0;
-    while e < COUNTS {
+    while e < MAX_EVENTS {
         if !covers_event(tokens, count, matrix, mask, e) {
             return false;
         }
@@ -130,12 +133,12 @@ fn covers_mask(tokens: &[i64], count: usize, matrix: &[u16], mask: u16) -> bool
 
 // The counts of the row at the front of a slice.
 fn counts_of(row: &[u16]) -> [u16; 12]
-    requires { ⌜ COUNTS ≤ length (now row) ⌝ }
-    ensures { λ r. ⌜ ((i : ℕ) → i < COUNTS → getD r i 0 ≡ getD (now (row .entry)) i 0) ⌝ }
+    requires { ⌜ MAX-EVENTS ≤ length (now row) ⌝ }
+    ensures { λ r. ⌜ ((i : ℕ) → i < MAX-EVENTS → getD r i 0 ≡ getD (now (row .entry)) i 0) ⌝ }
 {
     let mut counts = [0u16; 12];
     let mut i = 0;
-    while i < COUNTS {
+    while i < MAX_EVENTS {
         counts[i] = row[i];
         i += 1;
     }
@@ -150,7 +153,8 @@ pub fn columns_fit(
     table: &[u16],
     rows: usize,
 ) -> bool
-    requires { ⌜ (count ≤ WIDTH) × (count ≤ length (now tokens)) × (MATRIX ≤ length (now matrix)) × (ROW * rows ≤ length (now table)) × Marking count (now matrix) (now tokens) none ⌝ }
+    requires { ⌜ Sides count (now tokens) (now matrix) × Marking count (now matrix) (now tokens) none ⌝ }
+    requires { ⌜ ROW * rows ≤ length (now table) ⌝ }
     ensures { λ r. ⌜ (r ≡ true → (j : ℕ) → j < count → fitsRows (column (now (matrix .entry)) j) (rowsOf rows (now (table .entry))) ≡ true) ⌝ }
 {
     let mut before = [0u16; 12];
@@ -158,7 +162,7 @@ pub fn columns_fit(
     while r < rows {
         let at = ROW * r;
         advance(tokens, count, matrix, before, &table[at..]);
-        if !covers_mask(tokens, count, matrix, table[at + COUNTS]) {
+        if !covers_mask(tokens, count, matrix, table[at + MAX_EVENTS]) {
             return false;
         }
         let counts = counts_of(&table[at..]);
@@ -186,22 +190,23 @@ fn write_column(matrix: &mut [u16], j: usize, place: Place)
     ensures { λ u. ⌜ SamePlace (column (now (matrix .exit)) j) (placeOf place) × Beside (now (matrix .entry)) (now (matrix .exit)) j ⌝ }
 {
     let mut e = 0;
-    while e < COUNTS {
+    while e < MAX_EVENTS {
         matrix[WIDTH * (1 + e) + j] = place.produced[e];
-        matrix[WIDTH * (1 + COUNTS + e) + j] = place.consumed[e];
+        matrix[WIDTH * (1 + MAX_EVENTS + e) + j] = place.consumed[e];
         e += 1;
     }
     matrix[j] = place.initial;
 }
 
 // Writes the places of a bundle into the columns of a matrix.
-pub fn write_columns(bundle: &[u8], n: usize, places: Places, matrix: &mut [u16])
-    requires { ⌜ (n ≤ 12) × (places .first + 2 * (places .count * placeSize n) ≤ length (now bundle)) × (places .count ≤ WIDTH) × (MATRIX ≤ length (now matrix)) ⌝ }
-    ensures { λ u. ⌜ Written n (now (bundle .entry)) (places .first) (now (matrix .exit)) (places .count) ⌝ }
+pub fn write_columns(bundle: &[u8], head: TakenHead, matrix: &mut [u16])
+    requires { ⌜ HeadAt (now bundle) (head .n) (head .places) × (MATRIX ≤ length (now matrix)) ⌝ }
+    ensures { λ u. ⌜ Written (now (bundle .entry)) (now (matrix .exit)) (head .places .count) ⌝ }
 {
+    let n = head.n;
     let size = 2 * (1 + 2 * n);
-    let count = places.count;
-    let mut at = places.first;
+    let count = head.places.count;
+    let mut at = head.places.first;
     let mut j = 0;
     while j < count {
         let place = bundles::net::place_at(bundle, at, n);

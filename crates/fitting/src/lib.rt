@@ -1,29 +1,25 @@
 // Whether the places of a bundle fit its log, from the rows of the log table. All are inner functions.
 mod columns; // the places side by side
 
-use bundles::Places;
 use columns::MATRIX;
 use columns::WIDTH;
 use columns::columns_fit;
 use columns::start;
 use columns::write_columns;
+use heads::TakenHead;
+use limits::MAX_EVENTS;
 use logs::rows::ROW;
-use nets::COUNTS;
 use nets::Place;
 use nets::covers;
 use nets::has_bit;
 ghost use mathlib.Core.Path.{_≡_};
 ghost use mathlib.Core.Bool.{true};
-ghost use Prim.Native.Nat.{_+_, _*_, _≤_};
+ghost use Prim.Native.Nat.{_*_, _≤_};
 ghost use lib.ListN.{length};
-ghost use Rattle.laws.specs.Scans.{firstFailing};
 ghost use Rattle.nets.specs.Machine.{placeOf, Held};
-ghost use Rattle.bundles.specs.Layout.{PlaceFields, toPlace};
-ghost use Rattle.bundles.specs.NumberSteps.{itemsAt};
-ghost use Rattle.bundles.specs.PlaceSteps.{placeSize, fieldsAt};
 ghost use Rattle.logs.specs.Rows.{ROW, rowAt, rowsOf};
-ghost use Rattle.fitting.specs.Fitting.{eventsFit, rowFits, fitsRows};
-ghost use Rattle.fitting.specs.Columns.{AllFit};
+ghost use Rattle.heads.specs.Heads.{HeadHeld};
+ghost use Rattle.fitting.specs.Fitting.{eventsFit, rowFits, fitsRows, misfitIn};
 
 // Whether the tokens cover what each event of the mask takes. All twelve are tested without a branch: which bits are set is hard to predict.
 fn events_fit(tokens: i64, consumed: [u16; 12], mask: u16) -> bool
@@ -32,7 +28,7 @@ fn events_fit(tokens: i64, consumed: [u16; 12], mask: u16) -> bool
 {
     let mut fit = true;
     let mut e = 0;
-    while e < COUNTS {
+    while e < MAX_EVENTS {
         fit = fit & (!has_bit(mask, e) | covers(tokens, consumed[e]));
         e += 1;
     }
@@ -44,7 +40,7 @@ fn row_fits(place: Place, row: &[u16]) -> bool
     requires { ⌜ ROW ≤ length (now row) ⌝ }
     ensures { λ r. ⌜ r ≡ rowFits (placeOf place) (rowAt (now (row .entry))) ⌝ }
 {
-    let mask = row[COUNTS];
+    let mask = row[MAX_EVENTS];
     if mask == 0 {
         return true;
     }
@@ -71,37 +67,35 @@ fn fits(place: Place, table: &[u16], rows: usize) -> bool
 
 // Whether the places of a bundle all fit, tested side by side, eight at a time: the columns behind the last place are zero, and fit. False says
 // nothing: it is the answer also where there is so little to test that clearing the matrix would take longer.
-fn all_fit(bundle: &[u8], n: usize, places: Places, table: &[u16], rows: usize) -> bool
-    requires { ⌜ (n ≤ 12) × (places .first + 2 * (places .count * placeSize n) ≤ length (now bundle)) × (ROW * rows ≤ length (now table)) ⌝ }
-    ensures { λ r. ⌜ (r ≡ true → AllFit n (now (bundle .entry)) (places .first) (places .count) (rowsOf rows (now (table .entry)))) ⌝ }
+fn all_fit(bundle: &[u8], head: TakenHead, table: &[u16]) -> bool
+    requires { ⌜ HeadHeld (now bundle) (now table) head ⌝ }
+    ensures { λ r. ⌜ (r ≡ true → head .places .count ≡ misfitIn (now (bundle .entry))) ⌝ }
 {
-    let count = places.count;
-    if WIDTH < count {
-        return false;
-    }
-    if (count < 8) & (rows < 8) {
+    let count = head.places.count;
+    if (count < 8) & (head.rows < 8) {
         return false;
     }
     let mut matrix = [0u16; MATRIX];
-    write_columns(bundle, n, places, &mut matrix);
+    write_columns(bundle, head, &mut matrix);
     let mut tokens = [0i64; WIDTH];
     let width = (count + 7) / 8 * 8;
     start(&mut tokens, width, &matrix);
-    columns_fit(&mut tokens, width, &matrix, table, rows)
+    columns_fit(&mut tokens, width, &matrix, table, head.rows)
 }
 
 // The first place of a bundle that does not fit, or the number of places, each tested on its own.
-fn search_misfit(bundle: &[u8], n: usize, places: Places, table: &[u16], rows: usize) -> usize
-    requires { ⌜ (n ≤ 12) × (places .first + 2 * (places .count * placeSize n) ≤ length (now bundle)) × (ROW * rows ≤ length (now table)) ⌝ }
-    ensures { λ r. ⌜ r ≡ firstFailing (λ (f : PlaceFields). fitsRows (toPlace f) (rowsOf rows (now (table .entry)))) (itemsAt (placeSize n) (fieldsAt n) (places .count) (now (bundle .entry)) (places .first)) ⌝ }
+fn search_misfit(bundle: &[u8], head: TakenHead, table: &[u16]) -> usize
+    requires { ⌜ HeadHeld (now bundle) (now table) head ⌝ }
+    ensures { λ r. ⌜ r ≡ misfitIn (now (bundle .entry)) ⌝ }
 {
+    let n = head.n;
     let size = 2 * (1 + 2 * n);
-    let count = places.count;
-    let mut at = places.first;
+    let count = head.places.count;
+    let mut at = head.places.first;
     let mut j = 0;
     while j < count {
         let place = bundles::net::place_at(bundle, at, n);
-        if !fits(place, table, rows) {
+        if !fits(place, table, head.rows) {
             return j;
         }
         at += size;
@@ -111,12 +105,12 @@ fn search_misfit(bundle: &[u8], n: usize, places: Places, table: &[u16], rows: u
 }
 
 // The first place of a bundle that does not fit, or the number of places. Mostly all fit, which is faster to find out.
-pub fn first_misfit(bundle: &[u8], n: usize, places: Places, table: &[u16], rows: usize) -> usize
-    requires { ⌜ (n ≤ 12) × (places .first + 2 * (places .count * placeSize n) ≤ length (now bundle)) × (ROW * rows ≤ length (now table)) ⌝ }
-    ensures { λ r. ⌜ r ≡ firstFailing (λ (f : PlaceFields). fitsRows (toPlace f) (rowsOf rows (now (table .entry)))) (itemsAt (placeSize n) (fieldsAt n) (places .count) (now (bundle .entry)) (places .first)) ⌝ }
+pub fn first_misfit(bundle: &[u8], head: TakenHead, table: &[u16]) -> usize
+    requires { ⌜ HeadHeld (now bundle) (now table) head ⌝ }
+    ensures { λ r. ⌜ r ≡ misfitIn (now (bundle .entry)) ⌝ }
 {
-    if all_fit(bundle, n, places, table, rows) {
-        return places.count;
+    if all_fit(bundle, head, table) {
+        return head.places.count;
     }
-    search_misfit(bundle, n, places, table, rows)
+    search_misfit(bundle, head, table)
 }

@@ -10,15 +10,15 @@ use lib.Dec.{leb}
 use lib.ListN.{length, getD, drop, replicate, length-replicate}
 use borrow.Author.Tests.{le-leb, lt-leb, ltb-true}
 use Rattle.laws.specs.Every.{Every, every-last}
+use Rattle.limits.specs.Limits.{MAX-EVENTS, MAX-LOG-EVENTS, MAX-ROWS}
 use Rattle.refusals.specs.Table.{ROWS}
 use Rattle.refusals.specs.declared.Refusal.{Refusal}
 use Rattle.nets.specs.Events.{EventsBelow}
 use Rattle.nets.specs.Nets.{Word, Log, eventCount, rows}
 use Rattle.nets.specs.LogLaws.{eventCount-snoc}
 use Rattle.nets.specs.Fits.{Below, LogBelow}
-use Rattle.nets.specs.Machine.{COUNTS}
 use Rattle.logs.specs.Rows.{ROW, Row, rowsOf, newRow, none, takeWord, newRows, Holds, Added}
-use Rattle.logs.specs.Answers.{TABLE, MAX-ROWS}
+use Rattle.logs.specs.Answers.{TABLE}
 use Rattle.logs.specs.Index.{Index}
 use Rattle.logs.specs.Log.{logRows}
 use Rattle.logs.specs.LogRows.{take-word, first-row}
@@ -26,23 +26,30 @@ use Rattle.logs.specs.LogTable.{length-logRows, each-below}
 use Rattle.logs.specs.Growth.{length-take}
 use Rattle.logs.specs.Taking.{drop-more}
 use Rattle.logs.specs.Flat.{length-rows}
-use Rattle.bundles.specs.Reading.{got, failed, andThen, _>>_, require, byte, each, times, following}
-use Rattle.bundles.specs.Readers.{anything, wordAfter, word}
+use Rattle.bundles.specs.Reading.{got, _>>_, require, byte, each, times, following, onward}
+use Rattle.refusals.specs.Results.{refused, bind}
+use Rattle.bundles.specs.Readers.{anything, wordAfter, word, rowsInLimit}
 use Rattle.bundles.specs.FieldSteps.{below, byte-got}
-use Rattle.bundles.specs.ReadingLaws.{andThen-got}
-use Rattle.bundles.specs.WordSteps.{mapRead, mapRead-got, mapRead-failed, require-got, rest, rest-all, rest-none, rest-more, rest-failed, eventsAt, word-limit, word-part, word-tested}
+use Rattle.bundles.specs.ReadingLaws.{andThen-got, require-got}
+use Rattle.bundles.specs.WordSteps.{mapRead, mapRead-got, mapRead-failed, rest, rest-all, rest-none, rest-more, rest-failed, eventsAt, word-limit, word-part, word-tested}
 use Rattle.refusals.specs.Table.{EVENTS}
-use Rattle.verdicts.specs.Judging.{rowsInLimit}
 use Rattle.heads.specs.declared.LogTaken.{LogTaken}
 use Rattle.heads.specs.declared.LogTaken.the-variants as log-taken
+
+-- ---- what the code is given
+
+-- a table that has the row of the empty log
+pub record Fresh (t : List ℕ) : Type 0 where
+  pub long : TABLE ≤ length t
+  pub first : rowsOf 1 t ≡ newRow none ∷ []
 
 -- ---- what the code gives
 
 -- t is the table t₀ with the rows of the log over n events, which are so many, as are its events
-pub record Held (n : ℕ) (log : Log) (t₀ t : List ℕ) (rowCount events : ℕ) : Type 0 where
+pub record LogHeld (n : ℕ) (log : Log) (t₀ t : List ℕ) (rowCount events : ℕ) : Type 0 where
   pub below : LogBelow n log
   pub total : events ≡ eventCount log
-  pub limit : events ≤ 1024
+  pub limit : events ≤ MAX-LOG-EVENTS
   pub size : rowCount ≡ length (rows n log)
   pub few : rowCount ≤ MAX-ROWS
   pub same : length t ≡ length t₀
@@ -51,16 +58,16 @@ pub record Held (n : ℕ) (log : Log) (t₀ t : List ℕ) (rowCount events : ℕ
 -- after a word at an offset behind a log: the log with it, or its refusal with the table as it was
 abbrev pub OneMore : ℕ → List ℕ → ℕ → Log → List ℕ → List ℕ → ℕ → ℕ → LogTaken → Type 0
 OneMore n b at log t₀ t′ rowCount events (log-taken.Taken rowCount′ events′ next) =
-    (w : Word) × (word (rowsInLimit n) n log b at ≡ got w next) × Held n (log ++ w ∷ []) t₀ t′ rowCount′ events′
+    (w : Word) × (word (rowsInLimit n) n log b at ≡ got w next) × LogHeld n (log ++ w ∷ []) t₀ t′ rowCount′ events′
 OneMore n b at log t₀ t′ rowCount events (log-taken.Refused r) =
-    (word (rowsInLimit n) n log b at ≡ failed (r .number) (r .spot)) × Held n log t₀ t′ rowCount events
+    (word (rowsInLimit n) n log b at ≡ refused (r .number) (r .spot)) × LogHeld n log t₀ t′ rowCount events
 
 -- after the words at an offset: the log and its rows, or a refusal with the table changed in its first numbers only
 abbrev pub AllTaken : ℕ → List ℕ → ℕ → ℕ → List ℕ → List ℕ → LogTaken → Type 0
 AllTaken n b at count t₀ t (log-taken.Taken rowCount events next) =
-    (log : Log) × (following count (word (rowsInLimit n) n) b at ≡ got log next) × Held n log t₀ t rowCount events
+    (log : Log) × (following count (word (rowsInLimit n) n) b at ≡ got log next) × LogHeld n log t₀ t rowCount events
 AllTaken n b at count t₀ t (log-taken.Refused r) =
-    (following count (word (rowsInLimit n) n) b at ≡ failed (r .number) (r .spot)) × (drop TABLE t ≡ drop TABLE t₀)
+    (following count (word (rowsInLimit n) n) b at ≡ refused (r .number) (r .spot)) × (drop TABLE t ≡ drop TABLE t₀)
 
 -- behind a word that was taken, l is an index of the rows of t
 abbrev pub Reindexed : List ℕ → List ℕ → LogTaken → Type 0
@@ -90,10 +97,10 @@ every-below n c h (x ∷ w) v (suc k) l = every-below n c h w (v .1) k (le-of-su
 
 -- the events of a word that was read are below n
 word-in : (n count : ℕ) (b : List ℕ) (at : ℕ) (w : Word) (next : ℕ) → wordAfter n count b at ≡ got w next → Every (λ x. below n x ≡ true) w
-unfolding wordAfter andThen
+unfolding wordAfter bind onward
 word-in n count b at w next e =
-    let m = andThen-got b (byte anything b at) (λ size. require (leb (count + size) 1024) EVENTS at >> times size (byte (below n))) w next e in
-    let t = require-got (leb (count + m .0) 1024) EVENTS at (times (m .0) (byte (below n))) b (m .1) w next (m .3) in
+    let m = andThen-got b (byte anything b at) (λ size. require (leb (count + size) MAX-LOG-EVENTS) EVENTS at >> times size (byte (below n))) w next e in
+    let t = require-got (leb (count + m .0) MAX-LOG-EVENTS) EVENTS at (times (m .0) (byte (below n))) b (m .1) w next (m .3) in
     each-in (below n) b (m .0) [] (m .1) w next tt (t .1)
 
 -- the word at an offset behind so many events, where the code has read its size
@@ -101,13 +108,13 @@ pub record WordRead (n count : ℕ) (b : List ℕ) (at k next : ℕ) : Type 0 wh
   pub w : Word
   pub read : wordAfter n count b at ≡ got w next
   pub size : length w ≡ k
-  pub limit : count + length w ≤ 1024
+  pub limit : count + length w ≤ MAX-LOG-EVENTS
   pub part : eventsAt b at ≡ w
   pub within : at + 1 + getD b at 0 ≤ length b
   pub events : EventsBelow n w
-  pub below : EventsBelow COUNTS w
+  pub below : EventsBelow MAX-EVENTS w
 
-pub word-read : (n events : ℕ) (b : List ℕ) (at size next : ℕ) → n ≤ COUNTS → mapRead length (wordAfter n events b at) ≡ got size next → WordRead n events b at size next
+pub word-read : (n events : ℕ) (b : List ℕ) (at size next : ℕ) → n ≤ MAX-EVENTS → mapRead length (wordAfter n events b at) ≡ got size next → WordRead n events b at size next
 unfolding eventsAt
 word-read n events b at size next h e =
     let m = mapRead-got length (wordAfter n events b at) size next e in
@@ -121,17 +128,17 @@ word-read n events b at size next h e =
       part = sym (part .part);
       within = omega (arith, part .end, part .within);
       events = every-below n n (omega arith) (m .0) all;
-      below = every-below n COUNTS h (m .0) all;
+      below = every-below n MAX-EVENTS h (m .0) all;
     }
 
 -- ---- one word more
 
-module _ {n : ℕ} {log : Log} {t₀ t : List ℕ} {rowCount events : ℕ} (h : Held n log t₀ t rowCount events) (most : n ≤ COUNTS) (b : List ℕ) (at : ℕ) where
+module _ {n : ℕ} {log : Log} {t₀ t : List ℕ} {rowCount events : ℕ} (h : LogHeld n log t₀ t rowCount events) (most : n ≤ MAX-EVENTS) (b : List ℕ) (at : ℕ) where
   -- the word's refusal
-  pub word-refused : {number spot : ℕ} → mapRead length (wordAfter n events b at) ≡ failed number spot → word (rowsInLimit n) n log b at ≡ failed number spot
-  unfolding word andThen
+  pub word-refused : {number spot : ℕ} → mapRead length (wordAfter n events b at) ≡ refused number spot → word (rowsInLimit n) n log b at ≡ refused number spot
+  unfolding word bind onward
   word-refused {number} {spot} e =
-      let read : wordAfter n (eventCount log) b at ≡ failed number spot = rw (h .total) at (mapRead-failed length (wordAfter n events b at) number spot e) in
+      let read : wordAfter n (eventCount log) b at ≡ refused number spot = rw (h .total) at (mapRead-failed length (wordAfter n events b at) number spot e) in
       rw read
 
   module _ {size next : ℕ} (r : WordRead n events b at size next) where
@@ -143,28 +150,28 @@ module _ {n : ℕ} {log : Log} {t₀ t : List ℕ} {rowCount events : ℕ} (h : 
         one v (List·Memᴰ·tail m) = absurd (List·Memᴰ·not-nil m)
 
     rows-next : takeWord (rowsOf rowCount t) none (r .w) ≡ logRows (log ++ r .w ∷ [])
-    rows-next = ap (λ (rs : List Row). takeWord rs none (r .w)) (h .holds .front) ∙ take-word log (r .w) (each-below COUNTS (r .w) (r .below))
+    rows-next = ap (λ (rs : List Row). takeWord rs none (r .w)) (h .holds .front) ∙ take-word log (r .w) (each-below MAX-EVENTS (r .w) (r .below))
 
     -- there are as many rows as before, and those of the word that are new
     rows-size : length (rows n (log ++ r .w ∷ [])) ≡ rowCount + newRows (rowsOf rowCount t) none (r .w)
     rows-size =
         sym (length-logRows n (log ++ r .w ∷ []) most log-below)
         ∙ ap length (sym rows-next)
-        ∙ length-take (rowsOf rowCount t) none (r .w) (length-replicate {A = ℕ} COUNTS 0) (r .below)
+        ∙ length-take (rowsOf rowCount t) none (r .w) (length-replicate {A = ℕ} MAX-EVENTS 0) (r .below)
         ∙ ap (λ (k : ℕ). k + newRows (rowsOf rowCount t) none (r .w)) (length-rows rowCount t)
 
-    tested : word (rowsInLimit n) n log b at ≡ cond (rowsInLimit n (log ++ r .w ∷ [])) (got (r .w) next) (failed ROWS at)
+    tested : word (rowsInLimit n) n log b at ≡ cond (rowsInLimit n (log ++ r .w ∷ [])) (got (r .w) next) (refused ROWS at)
     tested = word-tested (rowsInLimit n) n log b at (r .w) next (rw (h .total) at (r .read))
 
     -- its rows are added to the table, or there are too many
     module _ (k : ℕ) (t′ : List ℕ) (added : Added MAX-ROWS rowCount (r .w) t t′ k) where
-      pub no-room : MAX-ROWS < k → (word (rowsInLimit n) n log b at ≡ failed ROWS at) × Held n log t₀ t′ rowCount events
+      pub no-room : MAX-ROWS < k → (word (rowsInLimit n) n log b at ≡ refused ROWS at) × LogHeld n log t₀ t′ rowCount events
       no-room full = (
         tested ∙ rw (lt-leb (length (rows n (log ++ r .w ∷ []))) MAX-ROWS (omega (arith, rows-size, added .size))),
-        subst (λ (l : List ℕ). Held n log t₀ l rowCount events) (sym (added .full full)) h,
+        subst (λ (l : List ℕ). LogHeld n log t₀ l rowCount events) (sym (added .full full)) h,
       )
 
-      pub word-taken : k ≤ MAX-ROWS → length t′ ≡ length t → (w : Word) × (word (rowsInLimit n) n log b at ≡ got w next) × Held n (log ++ w ∷ []) t₀ t′ k (events + size)
+      pub word-taken : k ≤ MAX-ROWS → length t′ ≡ length t → (w : Word) × (word (rowsInLimit n) n log b at ≡ got w next) × LogHeld n (log ++ w ∷ []) t₀ t′ k (events + size)
       word-taken room kept =
           let is : k ≡ length (rows n (log ++ r .w ∷ [])) = added .size ∙ sym rows-size in (
             r .w,
@@ -188,15 +195,15 @@ module _ {n : ℕ} {log : Log} {t₀ t : List ℕ} {rowCount events : ℕ} (h : 
 -- so far a log was read whose rows the table has, and so many words are left behind it
 pub record TakenSoFar (n : ℕ) (b : List ℕ) (at count : ℕ) (t₀ t : List ℕ) (rowCount events next left : ℕ) : Type 0 where
   pub log : Log
-  pub held : Held n log t₀ t rowCount events
+  pub held : LogHeld n log t₀ t rowCount events
   pub same : following count (word (rowsInLimit n) n) b at ≡ rest (word (rowsInLimit n) n) b left log next
 
 -- the rows of a log end before number 3,328
-pub held-rest : {n : ℕ} {log : Log} {t₀ t : List ℕ} {rowCount events : ℕ} → Held n log t₀ t rowCount events → drop TABLE t ≡ drop TABLE t₀
+pub held-rest : {n : ℕ} {log : Log} {t₀ t : List ℕ} {rowCount events : ℕ} → LogHeld n log t₀ t rowCount events → drop TABLE t ≡ drop TABLE t₀
 held-rest {n} {log} {t₀} {t} {rowCount} {events} h = drop-more (ROW * rowCount) TABLE t t₀ (omega (arith, h .few)) (h .holds .rest)
 
 module _ (n : ℕ) (b : List ℕ) (at count : ℕ) (t₀ : List ℕ) where
-  pub taken-start : n ≤ COUNTS → rowsOf 1 t₀ ≡ newRow none ∷ [] → TakenSoFar n b at count t₀ t₀ 1 0 at count
+  pub taken-start : n ≤ MAX-EVENTS → rowsOf 1 t₀ ≡ newRow none ∷ [] → TakenSoFar n b at count t₀ t₀ 1 0 at count
   unfolding eventCount
   taken-start most e = record {
     log = [];

@@ -1,31 +1,29 @@
 // Reading a bundle up to its last place, with the rows of its log taken into a table.
 use bundles::Field;
-use bundles::Head;
+use bundles::Places;
 use bundles::PlacesRead;
 use bundles::fields::any_byte;
 use bundles::fields::byte_between;
 use bundles::net::read_places;
 use bundles::words::read_word;
 use bundles::words::word_at;
-use logs::MAX_ROWS;
+use limits::MAX_ROWS;
 use logs::index::INDEX;
 use logs::index::index_rows;
 use logs::words::add_word;
 use refusals::ROWS;
 use refusals::Refusal;
 ghost use mathlib.Core.Path.{_≡_};
-ghost use mathlib.Core.List.{List, [], _∷_};
+ghost use mathlib.Core.List.{List};
 ghost use Prim.Native.Nat.{ℕ, _≤_, _<_};
 ghost use lib.ListN.{length};
+ghost use Rattle.limits.specs.Limits.{MAX-EVENTS, MAX-LOG-EVENTS, MAX-ROWS};
 ghost use Rattle.nets.specs.Nets.{Log};
-ghost use Rattle.nets.specs.Machine.{COUNTS};
-ghost use Rattle.logs.specs.Rows.{rowsOf, newRow, none};
-ghost use Rattle.logs.specs.Answers.{TABLE, MAX-ROWS};
+ghost use Rattle.logs.specs.Answers.{TABLE};
 ghost use Rattle.logs.specs.Index.{INDEX, Index};
-ghost use Rattle.bundles.specs.Readers.{head};
-ghost use Rattle.bundles.specs.HeadSteps.{headAfter};
-ghost use Rattle.verdicts.specs.Judging.{rowsInLimit};
-ghost use Rattle.heads.specs.Taken.{Held, OneMore, AllTaken, Reindexed};
+ghost use Rattle.bundles.specs.Reading.{got, byte};
+ghost use Rattle.bundles.specs.FieldSteps.{between};
+ghost use Rattle.heads.specs.Taken.{Fresh, LogHeld, OneMore, AllTaken, Reindexed};
 ghost use Rattle.heads.specs.Heads.{HeadIs};
 
 // A log so far: its rows, its events, and the offset behind it.
@@ -45,8 +43,14 @@ fn take_word(
     index: &mut [u16],
     numbers: &mut [u16],
 ) -> LogTaken
-    requires { ⌜ (n ≤ COUNTS) × (rows ≤ MAX-ROWS) × (events ≤ 1024) × (TABLE ≤ length (now table)) × (INDEX ≤ length (now index)) × (255 < length (now numbers)) × Index rows (now table) (now index) ⌝ }
-    ensures { λ r. ⌜ ((log : Log) (t₀ : List ℕ) → Held n log t₀ (now (table .entry)) rows events → OneMore n (now (bundle .entry)) at log t₀ (now (table .exit)) rows events r) ⌝ }
+    requires { ⌜ (n ≤ MAX-EVENTS)
+        × (rows ≤ MAX-ROWS)
+        × (events ≤ MAX-LOG-EVENTS)
+        × (TABLE ≤ length (now table)) ⌝ }
+    requires { ⌜ Index rows (now table) (now index)
+        × (INDEX ≤ length (now index))
+        × (255 < length (now numbers)) ⌝ }
+    ensures { λ r. ⌜ ((log : Log) (t₀ : List ℕ) → LogHeld n log t₀ (now (table .entry)) rows events → OneMore n (now (bundle .entry)) at log t₀ (now (table .exit)) rows events r) ⌝ }
     ensures { λ r. ⌜ Reindexed (now (table .exit)) (now (index .exit)) r ⌝ }
 {
     match read_word(bundle, at, n, events) {
@@ -68,7 +72,7 @@ fn take_word(
 
 // Takes the words of a log at an offset into a table that has the row of the empty log.
 fn take_words(bundle: &[u8], at: usize, n: usize, count: usize, table: &mut [u16]) -> LogTaken
-    requires { ⌜ (n ≤ COUNTS) × (TABLE ≤ length (now table)) × (rowsOf 1 (now table) ≡ newRow none ∷ []) ⌝ }
+    requires { ⌜ (n ≤ MAX-EVENTS) × Fresh (now table) ⌝ }
     ensures { λ r. ⌜ AllTaken n (now (bundle .entry)) at count (now (table .entry)) (now (table .exit)) r ⌝ }
 {
     let mut index = [0u16; INDEX];
@@ -100,16 +104,22 @@ fn take_words(bundle: &[u8], at: usize, n: usize, count: usize, table: &mut [u16
     LogTaken::Taken(rows, events, next)
 }
 
-// A bundle up to its last place: its event count and its places, and the rows of its log.
+// A bundle up to its last place whose log is in a table: its event count, its places, and the rows of its log.
+pub struct TakenHead {
+    pub n: usize,
+    pub places: Places,
+    pub rows: usize,
+}
+
 pub enum HeadTaken {
-    Taken(Head, usize),
+    Taken(TakenHead),
     Refused(Refusal),
 }
 
-// A head from its word count on.
+// A head from its word count on, behind n.
 fn take_after(bundle: &[u8], at: usize, n: usize, table: &mut [u16]) -> HeadTaken
-    requires { ⌜ (n ≤ COUNTS) × (TABLE ≤ length (now table)) × (rowsOf 1 (now table) ≡ newRow none ∷ []) ⌝ }
-    ensures { λ r. ⌜ HeadIs (headAfter rowsInLimit n (now (bundle .entry)) at) (now (table .entry)) (now (table .exit)) r ⌝ }
+    requires { ⌜ (byte (between 1 12) (now bundle) 0 ≡ got n at) × Fresh (now table) ⌝ }
+    ensures { λ r. ⌜ HeadIs (now (bundle .entry)) (now (table .entry)) (now (table .exit)) r ⌝ }
 {
     match any_byte(bundle, at) {
         Field::Refused(refusal) => HeadTaken::Refused(refusal),
@@ -117,7 +127,7 @@ fn take_after(bundle: &[u8], at: usize, n: usize, table: &mut [u16]) -> HeadTake
             LogTaken::Refused(refusal) => HeadTaken::Refused(refusal),
             LogTaken::Taken(rows, _, end) => match read_places(bundle, end, n) {
                 PlacesRead::Refused(refusal) => HeadTaken::Refused(refusal),
-                PlacesRead::Read(places) => HeadTaken::Taken(Head { n, places }, rows),
+                PlacesRead::Read(places) => HeadTaken::Taken(TakenHead { n, places, rows }),
             },
         },
     }
@@ -125,8 +135,8 @@ fn take_after(bundle: &[u8], at: usize, n: usize, table: &mut [u16]) -> HeadTake
 
 // Reads a bundle up to its last place, and takes its log into a table that has the row of the empty log. (Inner function.)
 pub fn take_head(bundle: &[u8], table: &mut [u16]) -> HeadTaken
-    requires { ⌜ (TABLE ≤ length (now table)) × (rowsOf 1 (now table) ≡ newRow none ∷ []) ⌝ }
-    ensures { λ r. ⌜ HeadIs (head rowsInLimit (now (bundle .entry)) 0) (now (table .entry)) (now (table .exit)) r ⌝ }
+    requires { ⌜ Fresh (now table) ⌝ }
+    ensures { λ r. ⌜ HeadIs (now (bundle .entry)) (now (table .entry)) (now (table .exit)) r ⌝ }
 {
     match byte_between(bundle, 0, 1, 12) {
         Field::Refused(refusal) => HeadTaken::Refused(refusal),

@@ -1,12 +1,14 @@
--- The verdict on a sealed file.
-use Rattle.refusals.specs.Answers.{Result}
-use Rattle.refusals.specs.Answers.Result.{bytes, refused}
+-- The verdict on a sealed file, with an output for every bundle and a whole table.
+use mathlib.Core.List.{List}
+use Prim.Native.Nat.{ℕ}
+use Rattle.refusals.specs.Results.{_>>=_}
+use Rattle.block.specs.File.{opened}
 use Rattle.logs.specs.Answers.{TABLE}
-use Rattle.verdicts.specs.Judging.{verdict}
+use Rattle.verdicts.specs.Judging.{judged, verdictOn}
 use Rattle.verdicts.specs.declared.Verdict.{Verdict}
-use Rattle.verdicts.specs.declared.Verdict.the-variants.{Refused}
 
--- the verdict on what opening owes: its refusal, or the verdict on the bundle
-unfoldable pub fileVerdict : Result → Verdict
-fileVerdict (bytes b) = verdict TABLE b
-fileVerdict (refused r) = Refused r
+-- 1, 2, then the judge's refusals
+unfoldable pub inputVerdict : List ℕ → Verdict
+inputVerdict input = verdictOn (do
+  b ← opened input
+  judged TABLE b 0)

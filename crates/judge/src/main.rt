@@ -3,17 +3,16 @@ use console::Input;
 use console::print_line;
 use console::print_refusal;
 use libc::STDIN_FILENO;
+use logs::TABLE;
 use refusals::FILE_LENGTH;
 use refusals::Refusal;
-use refusals::Written;
 use verdicts::Verdict;
 ghost use mathlib.Core.Path.{_≡_};
 ghost use mathlib.Core.List.{List};
 ghost use Prim.Native.Nat.{ℕ, _≤_, _<_};
 ghost use lib.ListN.{length};
-ghost use Rattle.block.specs.File.{opened};
 ghost use Rattle.block.specs.Whole.{InputRead};
-ghost use Rattle.judge.specs.Files.{fileVerdict};
+ghost use Rattle.judge.specs.Files.{inputVerdict};
 
 fn print_verdict(verdict: Verdict) {
     match verdict {
@@ -34,18 +33,15 @@ fn print_verdict(verdict: Verdict) {
     }
 }
 
-// The verdict on the sealed file that came to a buffer, its first n bytes: that of opening it, or that on its bundle. The buffer is longer than
-// every file, so the verdict is that on the whole input, however long it is.
+// The verdict on the sealed file that came to a buffer, its first n bytes. The buffer is longer than every file, so the verdict is that on the
+// whole input, however long it is.
 fn judge_file(buffer: &[u8], n: usize) -> Verdict
     requires { ⌜ (n ≤ length (now buffer)) × (65536 < length (now buffer)) ⌝ }
-    ensures { λ r. ⌜ ((input : List ℕ) → InputRead input (now (buffer .entry)) n → r ≡ fileVerdict (opened input)) ⌝ }
+    ensures { λ r. ⌜ ((input : List ℕ) → InputRead input (now (buffer .entry)) n → r ≡ inputVerdict input) ⌝ }
 {
-    let mut bundle = io::large_buffer();
-    let mut table = [0u16; 3328];
-    match block::open(&buffer[..n], &mut bundle) {
-        Written::Refused(refusal) => Verdict::Refused(refusal),
-        Written::Length(size) => judging::judge(&bundle[..size], &mut table),
-    }
+    let mut bundle = [0u8; 64512];
+    let mut table = [0u16; TABLE];
+    judging::judge_file(&buffer[..n], &mut bundle, &mut table)
 }
 
 fn main() {

@@ -1,11 +1,14 @@
 // Judging a bundle. The contracts cite crate verdicts' definitions.
-use bundles::Head;
-use bundles::size_fits;
+pub mod files; // judging a sealed file
+
 use certifying::Certified;
 use certifying::certify;
+pub use files::judge_file;
 use fitting::first_misfit;
 use heads::HeadTaken;
+use heads::TakenHead;
 use heads::take_head;
+use limits::size_fits;
 use logs::TABLE;
 use logs::clear;
 use refusals::BUNDLE_LENGTH;
@@ -15,15 +18,13 @@ use refusals::Refusal;
 use refusals::TABLE_SHORT;
 use verdicts::Verdict;
 ghost use mathlib.Core.Path.{_≡_};
-ghost use mathlib.Core.List.{[], _∷_};
-ghost use Prim.Native.Nat.{_+_, _*_, _≤_};
 ghost use lib.ListN.{length};
 ghost use Rattle.refusals.specs.Answers.{refusal};
-ghost use Rattle.bundles.specs.PlaceSteps.{placeSize};
-ghost use Rattle.logs.specs.Rows.{ROW, rowsOf, newRow, none};
-ghost use Rattle.logs.specs.Answers.{TABLE};
+ghost use Rattle.bundles.specs.Readers.{headOf};
+ghost use Rattle.heads.specs.Taken.{Fresh};
+ghost use Rattle.heads.specs.Heads.{HeadHeld};
 ghost use Rattle.verdicts.specs.Judging.{judging, verdictOn, verdict, tableAfter};
-ghost use Rattle.judging.specs.Steps.{endedAs, NetJudged, TableLeft, isRefused};
+ghost use Rattle.judging.specs.Steps.{afterwards, endedAs, TableLeft, isRefused};
 
 fn refused(number: u8, spot: usize) -> Verdict
     ensures { λ r. ⌜ r ≡ Verdict.Refused (refusal number spot) ⌝ }
@@ -47,27 +48,26 @@ fn ended(bundle: &[u8], certified: Certified) -> Verdict
 }
 
 // The verdict on a bundle whose head is read and whose log is in the table.
-fn judge_net(bundle: &[u8], head: Head, table: &[u16], rows: usize) -> Verdict
-    requires { ⌜ (head .n ≤ 12) × (head .places .count ≤ 64) × (head .places .first + 2 * (head .places .count * placeSize (head .n)) ≤ length (now bundle)) × (rows ≤ 256) × (ROW * rows ≤ length (now table)) ⌝ }
-    ensures { λ r. ⌜ NetJudged (now (bundle .entry)) (now (table .entry)) head rows r ⌝ }
+fn judge_net(bundle: &[u8], head: TakenHead, table: &[u16]) -> Verdict
+    requires { ⌜ HeadHeld (now bundle) (now table) head ⌝ }
+    ensures { λ r. ⌜ r ≡ verdictOn (afterwards (headOf (now (bundle .entry))) (now (bundle .entry)) (head .places .next)) ⌝ }
 {
-    let misfit = first_misfit(bundle, head.n, head.places, table, rows);
+    let misfit = first_misfit(bundle, head, table);
     if misfit < head.places.count {
         return refused(PLACE_FIT, misfit);
     }
-    let certified = certify(bundle, head.places.next, head.n, head.places, table, rows);
-    ended(bundle, certified)
+    ended(bundle, certify(bundle, head, table))
 }
 
 // The verdict on a bundle's fields. The table has the row of the empty log.
 fn judge_fields(bundle: &[u8], table: &mut [u16]) -> Verdict
-    requires { ⌜ (TABLE ≤ length (now table)) × (rowsOf 1 (now table) ≡ newRow none ∷ []) ⌝ }
+    requires { ⌜ Fresh (now table) ⌝ }
     ensures { λ r. ⌜ r ≡ verdictOn (judging (now (bundle .entry)) 0) ⌝ }
     ensures { λ _. ⌜ TableLeft (judging (now (bundle .entry)) 0) (now (table .entry)) (now (table .exit)) ⌝ }
 {
     match take_head(bundle, table) {
         HeadTaken::Refused(refusal) => Verdict::Refused(refusal),
-        HeadTaken::Taken(head, rows) => judge_net(bundle, head, table, rows),
+        HeadTaken::Taken(head) => judge_net(bundle, head, table),
     }
 }
 
@@ -86,7 +86,7 @@ pub fn judge(bundle: &[u8], table: &mut [u16]) -> Verdict
     ensures { λ r. ⌜ r ≡ verdict (length (now (table .entry))) (now (bundle .entry)) ⌝ }
     ensures { λ _. ⌜ now (table .exit) ≡ tableAfter (now (bundle .entry)) (now (table .entry)) ⌝ }
 {
-    if !size_fits(bundle) {
+    if !size_fits(bundle.len()) {
         return refused(BUNDLE_LENGTH, 0);
     }
     if table.len() < TABLE {

@@ -1,13 +1,15 @@
 -- The lowest index at which a test fails: of the numbers below n, and of the elements of a list.
-use mathlib.Core.Path.{_≡_, refl, ap, ap₂, _∙_}
-use mathlib.Core.Bool.{Bool, true, false, cond, _&&_}
+use mathlib.Core.Path.{_≡_, refl, sym, ap, ap₂, _∙_}
+use mathlib.Core.Bool.{Bool, true, false, true≢false, cond, _&&_}
+use mathlib.Core.Logic.{⊎-elim}
 use mathlib.Core.List.{List, [], _∷_, _++_, map}
 use Prim.Native.Nat.{ℕ, zero, suc, _+_, _≤_, _<_, zero-le, suc-le-suc}
-use native.Mathlib.Nat.{not-suc-le-zero, le-of-suc-le-suc, zero-lt-suc, suc-inj}
+use native.Mathlib.Nat.{not-suc-le-zero, le-of-suc-le-suc, le-antisymm, zero-lt-suc, suc-inj}
 use native.Mathlib.Numerals.{add-one}
 use native.Mathlib.Omega.{arith}
 use lib.ListN.{length, drop, getD, drop-of-length-le}
 use lib.Seq.{drop-cons}
+use Rattle.laws.specs.Booleans.{lt-or-le}
 use Rattle.laws.specs.Lists.{all}
 
 -- ---- Of numbers
@@ -160,6 +162,16 @@ module _ {A : Type 0} where
       go : (b : Bool) → (firstFailing test l < length l → all test l ≡ false) → cond b (suc (firstFailing test l)) 0 < suc (length l) → (b && all test l) ≡ false
       go true rest h = rest (le-of-suc-le-suc h)
       go false rest h = refl
+
+  -- and the other way
+  pub all-failing : (test : A → Bool) (l : List A) → all test l ≡ true → firstFailing test l ≡ length l
+  all-failing test l e = ⊎-elim
+      (λ some. absurd (true≢false (sym e ∙ failing-some test l some)))
+      (λ none. le-antisymm (failing-most test l) none)
+      (lt-or-le (firstFailing test l) (length l))
+
+  pub some-failing : (test : A → Bool) (l : List A) → all test l ≡ false → firstFailing test l < length l
+  some-failing test l e = ⊎-elim (λ some. some) (λ none. absurd (true≢false (sym (failing-all test l none) ∙ e))) (lt-or-le (firstFailing test l) (length l))
 
 -- of the images of a list, where the tests agree
 pub failing-map : {A B : Type 0} (p : B → Bool) (q : A → Bool) (f : A → B) → ((x : A) → q x ≡ p (f x)) → (l : List A) → firstFailing q l ≡ firstFailing p (map f l)

@@ -1,39 +1,47 @@
--- What a taken word answers, by the tests in their order.
-use mathlib.Core.Path.{_≡_, refl, _∙_}
+-- How taking a word ends: one law for each way, by the tests in their order.
+use mathlib.Core.Path.{_≡_, refl, sym, ap, _∙_}
 use mathlib.Core.Bool.{true, false}
 use mathlib.Core.List.{List}
-use Prim.Native.Nat.{ℕ, _+_, _*_, _-_, _<_, _≤_}
+use Prim.Native.Nat.{ℕ, _+_, _-_, _<_, _≤_}
 use native.Mathlib.Nat.{lt-of-lt-of-le}
 use native.Mathlib.Omega.{arith}
 use lib.ListN.{length}
-use lib.Dec.{ltb}
-use borrow.Author.Tests.{lt-ltb, le-ltb, ltb-false}
-use Rattle.laws.specs.Booleans.{neither}
+use lib.Dec.{leb, ltb}
+use borrow.Author.Tests.{leb-true, lt-leb, le-leb}
+use Rattle.laws.specs.Booleans.{impossible, and-left, and-right}
+use Rattle.laws.specs.Scans.{failing-all, failing-some}
+use Rattle.limits.specs.Limits.{MAX-EVENTS, MAX-LOG-EVENTS, MAX-ROWS}
 use Rattle.refusals.specs.Table.{TABLE-SHORT, VALUE, EVENTS, ROWS, SUMMARY}
+use Rattle.refusals.specs.Results.{Result, value, refused, _>>_, require, passes, fails}
 use Rattle.refusals.specs.Answers.{refusal}
 use Rattle.refusals.specs.declared.Refusal.{Refusal}
-use Rattle.nets.specs.Events.{firstBad, EventsBelow, none-bad}
-use Rattle.nets.specs.Machine.{COUNTS}
-use Rattle.logs.specs.Rows.{ROW, rowsOf, newRows, none, Holds}
-use Rattle.logs.specs.Answers.{TABLE, MAX-ROWS, MAX-LOG-EVENTS, badEventCount, badSummary, rowsAfter, takenAnswer, takenTable}
-use Rattle.logs.specs.Flat.{length-rows, held, holds-with}
+use Rattle.nets.specs.Events.{firstBad, none-bad}
+use Rattle.logs.specs.Rows.{rowsOf, none, Added}
+use Rattle.logs.specs.Answers.{TABLE, rightEventCount, rightSummary, takenOf, rowsAfter, wordTaken, takenAnswer, takenTable}
+use Rattle.logs.specs.Takable.{Takable}
+use Rattle.logs.specs.Flat.{length-rows, holds-with}
 use Rattle.logs.specs.Growth.{length-take}
 use Rattle.logs.specs.declared.Summary.{Summary}
+use Rattle.logs.specs.declared.Taken.{Taken}
 use Rattle.logs.specs.declared.Taken.the-variants.{Next, Refused}
 
--- the bounds of a summary that is not bad
-pub record Good (s : Summary) : Type 0 where
-  pub n-most : s .n ≤ COUNTS
-  pub rows-most : s .rows ≤ MAX-ROWS
-  pub events-most : s .events ≤ MAX-LOG-EVENTS
+-- an answer with a summary is that of the chain behind it
+pub next→value : (m : Result Summary) (s : Summary) → takenOf m ≡ Next s → m ≡ value s
+unfolding takenOf
+next→value (value s′) s e = cc
+next→value (refused number spot) s e = impossible cc
 
-pub good : (s : Summary) → badSummary s ≡ false → Good s
-good s h =
-    let a = neither (badEventCount (s .n)) _ h in
-    let b = neither (ltb (s .n) 1) _ (a .0) in
-    let d = neither (ltb (s .rows) 1) _ (a .1) in
-    let e = neither (ltb MAX-ROWS (s .rows)) _ (d .1) in
-    record { n-most = ltb-false _ _ (b .1); rows-most = ltb-false _ _ (e .0); events-most = ltb-false _ _ (e .1) }
+-- the bounds of numbers within their ranges
+pub rightEventCount-most : (n : ℕ) → rightEventCount n ≡ true → n ≤ MAX-EVENTS
+unfolding rightEventCount
+rightEventCount-most n e = leb-true n MAX-EVENTS (and-right (leb 1 n) (leb n MAX-EVENTS) e)
+
+pub rightSummary-bounds : (s : Summary) → rightSummary s ≡ true → (s .n ≤ MAX-EVENTS) × (s .rows ≤ MAX-ROWS) × (s .events ≤ MAX-LOG-EVENTS)
+unfolding rightSummary
+rightSummary-bounds s e =
+    let n = rightEventCount-most _ (and-left (rightEventCount (s .n)) _ e) in
+    let rest = and-right (leb 1 (s .rows)) _ (and-right (rightEventCount (s .n)) _ e) in
+    (n, leb-true _ _ (and-left (leb (s .rows) MAX-ROWS) _ rest), leb-true _ _ (and-right (leb (s .rows) MAX-ROWS) _ rest))
 
 module _ (s : Summary) (t w : List ℕ) where
   -- a refused word leaves the table
@@ -41,34 +49,44 @@ module _ (s : Summary) (t w : List ℕ) where
   unfolding takenTable
   refused-table r e = rw e
 
-  pub answer-5 : length t < TABLE → takenAnswer s t w ≡ Refused (refusal TABLE-SHORT TABLE)
-  unfolding takenAnswer
-  answer-5 h = rw (lt-ltb _ _ h)
+  -- the answer and the table afterwards, together
+  abbrev pub Ends : Taken → List ℕ → Type 0
+  Ends answer after = (answer ≡ takenAnswer s t w) × (after ≡ takenTable (takenAnswer s t w) s t w)
 
-  pub answer-16 : TABLE ≤ length t → badSummary s ≡ true → takenAnswer s t w ≡ Refused (refusal SUMMARY 0)
-  unfolding takenAnswer
-  answer-16 long h = rw (le-ltb _ _ long, h)
+  ends-refused : (number spot : ℕ) → wordTaken s t w ≡ refused number spot → Ends (Refused (refusal number spot)) t
+  unfolding takenAnswer takenOf
+  ends-refused number spot e = let a = ap takenOf e in (sym a, refused-table (refusal number spot) a)
 
-  pub answer-8 : TABLE ≤ length t → badSummary s ≡ false → MAX-LOG-EVENTS - s .events < length w → takenAnswer s t w ≡ Refused (refusal EVENTS 0)
-  unfolding takenAnswer
+  pub answer-5 : length t < TABLE → Ends (Refused (refusal TABLE-SHORT TABLE)) t
+  unfolding wordTaken
+  answer-5 h = ends-refused _ _ (fails _ _ _ _ (lt-leb _ _ h))
+
+  pub answer-16 : TABLE ≤ length t → rightSummary s ≡ false → Ends (Refused (refusal SUMMARY 0)) t
+  unfolding wordTaken
+  answer-16 long e = ends-refused _ _ (passes _ _ _ _ (le-leb _ _ long) ∙ fails _ _ _ _ e)
+
+  pub answer-8 : TABLE ≤ length t → rightSummary s ≡ true → MAX-LOG-EVENTS - s .events < length w → Ends (Refused (refusal EVENTS 0)) t
+  unfolding wordTaken
   answer-8 long fine h =
       let over : MAX-LOG-EVENTS < s .events + length w = omega arith in
-      rw (le-ltb _ _ long, fine, lt-ltb _ _ over)
+      ends-refused _ _ (passes _ _ _ _ (le-leb _ _ long) ∙ passes _ _ _ _ fine ∙ fails _ _ _ _ (lt-leb _ _ over))
 
   -- the tests that come before those of the word's events
   pub record Admitted : Type 0 where
     pub long : TABLE ≤ length t
-    pub fine : badSummary s ≡ false
+    pub fine : rightSummary s ≡ true
     pub few : length w ≤ MAX-LOG-EVENTS - s .events
 
   within : Admitted → s .events + length w ≤ MAX-LOG-EVENTS
-  within a = let g = good s (a .fine) in omega arith
+  within a = let g = rightSummary-bounds s (a .fine) in omega arith
 
-  pub answer-7 : Admitted → (bad : ℕ) → bad ≡ firstBad (s .n) w → bad < length w → takenAnswer s t w ≡ Refused (refusal VALUE bad)
-  unfolding takenAnswer
+  pub answer-7 : Admitted → (bad : ℕ) → bad ≡ firstBad (s .n) w → bad < length w → Ends (Refused (refusal VALUE bad)) t
+  unfolding wordTaken firstBad
   answer-7 a bad first h =
-      let below : firstBad (s .n) w < length w = rw first at h in
-      rw (le-ltb _ _ (a .long), a .fine, le-ltb _ _ (within a), lt-ltb _ _ below, ← first)
+      let some = failing-some (λ e. ltb e (s .n)) w (omega arith) in
+      rw first
+      (ends-refused _ _ (passes _ _ _ _ (le-leb _ _ (a .long)) ∙ passes _ _ _ _ (a .fine) ∙ passes _ _ _ _ (le-leb _ _ (within a))
+      ∙ fails _ _ _ _ some))
 
   -- and with those
   pub record Readable : Type 0 where
@@ -76,40 +94,37 @@ module _ (s : Summary) (t w : List ℕ) where
     pub events : length w ≤ firstBad (s .n) w
 
   module _ (r : Readable) where
-    bounds : Good s
-    bounds = good s (r .admitted .fine)
-
     -- what the loops over the word ask
-    pub rows-most : s .rows ≤ MAX-ROWS
-    rows-most = bounds .rows-most
+    pub takable : Takable (s .rows) t w
+    takable =
+        let g = rightSummary-bounds s (r .admitted .fine) in
+        record {
+          rows = g .1;
+          table = r .admitted .long;
+          short = omega (arith, within (r .admitted));
+          below = λ k h. lt-of-lt-of-le (none-bad (s .n) w (r .events) k h) (g .0);
+        }
 
-    pub short : length w ≤ MAX-LOG-EVENTS
-    short = omega (arith, within (r .admitted))
+    -- its rows are added to the table, or there are too many
+    module _ (k : ℕ) (t′ : List ℕ) (added : Added MAX-ROWS (s .rows) w t t′ k) where
+      size : length (rowsAfter s t w) ≡ k
+      size = length-take (rowsOf (s .rows) t) none w refl (takable .below) ∙ rw length-rows (sym (added .size))
 
-    pub events-below : EventsBelow COUNTS w
-    events-below k h = lt-of-lt-of-le (none-bad (s .n) w (r .events) k h) (bounds .n-most)
+      abbrev next : Summary
+      next = record { n = s .n; rows = k; events = s .events + length w }
 
-    after : length (rowsAfter s t w) ≡ s .rows + newRows (rowsOf (s .rows) t) none w
-    after = length-take (rowsOf (s .rows) t) none w refl events-below ∙ rw length-rows
+      -- the test that is left
+      rows-test : wordTaken s t w ≡ require (leb k MAX-ROWS) ROWS 0 >> value next
+      unfolding wordTaken firstBad
+      rows-test =
+          let a = r .admitted in
+          passes _ _ _ _ (le-leb _ _ (a .long)) ∙ passes _ _ _ _ (a .fine) ∙ passes _ _ _ _ (le-leb _ _ (within a))
+          ∙ passes _ _ _ _ (failing-all (λ e. ltb e (s .n)) w (r .events)) ∙ rw size
 
-    pub answer-9 : MAX-ROWS - s .rows < newRows (rowsOf (s .rows) t) none w → takenAnswer s t w ≡ Refused (refusal ROWS 0)
-    unfolding takenAnswer
-    answer-9 h =
-        let over : MAX-ROWS < length (rowsAfter s t w) = omega (arith, bounds, after) in
-        rw (le-ltb _ _ (r .admitted .long), r .admitted .fine, le-ltb _ _ (within (r .admitted)), le-ltb _ _ (r .events), lt-ltb _ _ over)
+      pub answer-9 : MAX-ROWS < k → Ends (Refused (refusal ROWS 0)) t′
+      answer-9 over = let e = ends-refused _ _ (rows-test ∙ fails _ _ _ _ (lt-leb _ _ over)) in (e .0, added .full over ∙ e .1)
 
-    module _ (room : newRows (rowsOf (s .rows) t) none w ≤ MAX-ROWS - s .rows) where
-      fits : length (rowsAfter s t w) ≤ MAX-ROWS
-      fits = omega (arith, bounds, after)
-
-      rows-room : ROW * length (rowsAfter s t w) ≤ length t
-      rows-room = omega (arith, fits, r .admitted .long)
-
-      pub answer-next : (k : ℕ) (t′ : List ℕ) → length t′ ≡ length t → Holds k (rowsAfter s t w) t t′
-          → (Next (record { n = s .n; rows = k; events = s .events + length w }) ≡ takenAnswer s t w)
-          × (t′ ≡ takenTable (takenAnswer s t w) s t w)
-      unfolding takenAnswer takenTable
-      answer-next k t′ size holds =
-          let n : k ≡ length (rowsAfter s t w) = held k _ t t′ holds in
-          rw (le-ltb _ _ (r .admitted .long), r .admitted .fine, le-ltb _ _ (within (r .admitted)), le-ltb _ _ (r .events), le-ltb _ _ fits, n)
-          (refl, holds-with k _ t t′ holds (omega (arith, rows-room)))
+      pub answer-next : k ≤ MAX-ROWS → length t′ ≡ length t → Ends (Next next) t′
+      unfolding takenAnswer takenTable takenOf
+      answer-next room kept =
+          rw (rows-test ∙ passes _ _ _ _ (le-leb _ _ room)) (refl, holds-with k _ t t′ (added .fits room) (omega (arith, r .admitted .long)))

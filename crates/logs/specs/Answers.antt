@@ -1,45 +1,53 @@
 -- What a fresh summary and a taken word answer, and what they leave in the table.
-use mathlib.Core.Bool.{Bool, cond, _||_}
+use mathlib.Core.Bool.{Bool, _&&_}
 use mathlib.Core.List.{List}
-use Prim.Native.Nat.{ℕ, _+_}
+use Prim.Native.Nat.{ℕ, _+_, _*_}
 use lib.ListN.{length}
-use lib.Dec.{ltb}
+use lib.Dec.{leb, ltb}
+use Rattle.laws.specs.Lists.{all}
+use Rattle.limits.specs.Limits.{MAX-EVENTS, MAX-LOG-EVENTS, MAX-ROWS}
 use Rattle.refusals.specs.Table.{TABLE-SHORT, VALUE, EVENTS, ROWS, SUMMARY}
+use Rattle.refusals.specs.Results.{Result, value, refused, _>>_, require}
 use Rattle.refusals.specs.Answers.{refusal}
 use Rattle.nets.specs.Events.{firstBad}
 use Rattle.nets.specs.Nets.{Word}
-use Rattle.nets.specs.Machine.{COUNTS}
-use Rattle.logs.specs.Rows.{Row, rowsOf, withRows, takeWord, none, cleared}
+use Rattle.logs.specs.Rows.{ROW, Row, rowsOf, withRows, takeWord, none, cleared}
 use Rattle.logs.specs.declared.Summary.{Summary}
 use Rattle.logs.specs.declared.Taken.{Taken}
 use Rattle.logs.specs.declared.Taken.the-variants.{Next, Refused}
 
--- the numbers of a table, its rows, and a log's events at most
+-- the numbers that a table has at least
 abbrev pub TABLE : ℕ
-TABLE = 3328
+TABLE = ROW * MAX-ROWS
 
-abbrev pub MAX-ROWS : ℕ
-MAX-ROWS = 256
+-- 1 to 12 events
+unfoldable pub rightEventCount : ℕ → Bool
+rightEventCount n = leb 1 n && leb n MAX-EVENTS
 
-abbrev pub MAX-LOG-EVENTS : ℕ
-MAX-LOG-EVENTS = 1024
+-- a summary within its ranges: n 1-12, rows 1-256, at most 1,024 events
+unfoldable pub rightSummary : Summary → Bool
+rightSummary s = rightEventCount (s .n) && (leb 1 (s .rows) && (leb (s .rows) MAX-ROWS && leb (s .events) MAX-LOG-EVENTS))
 
--- an event count outside 1 to 12
-abbrev pub badEventCount : ℕ → Bool
-badEventCount n = ltb n 1 || ltb COUNTS n
-
--- a summary outside its ranges: n not 1-12, rows not 1-256, events above 1,024
-abbrev pub badSummary : Summary → Bool
-badSummary s = badEventCount (s .n) || (ltb (s .rows) 1 || (ltb MAX-ROWS (s .rows) || ltb MAX-LOG-EVENTS (s .events)))
+-- a call's answer: the next summary, or the refusal
+unfoldable pub takenOf : Result Summary → Taken
+takenOf (value s) = Next s
+takenOf (refused number spot) = Refused (refusal number spot)
 
 -- ---- A fresh summary
 
--- refusal 5, then 16, else a summary with one row and no events
+-- one row and no events
+abbrev pub freshSummary : ℕ → Summary
+freshSummary n = record { n = n; rows = 1; events = 0 }
+
+-- what starting a log gives: 5, 16; else its summary
+unfoldable pub logStarted : ℕ → List ℕ → Result Summary
+logStarted n t = do
+  require (leb TABLE (length t)) TABLE-SHORT TABLE
+  require (rightEventCount n) SUMMARY 0
+  value (freshSummary n)
+
 unfoldable pub freshAnswer : ℕ → List ℕ → Taken
-freshAnswer n t =
-    cond (ltb (length t) TABLE) (Refused (refusal TABLE-SHORT TABLE))
-    (cond (badEventCount n) (Refused (refusal SUMMARY 0))
-    (Next (record { n = n; rows = 1; events = 0 })))
+freshAnswer n t = takenOf (logStarted n t)
 
 -- the table afterwards: its first 3,328 numbers zero; after a refusal as it was
 unfoldable pub freshTable : Taken → List ℕ → List ℕ
@@ -52,15 +60,22 @@ freshTable (Refused r) t = t
 abbrev pub rowsAfter : Summary → List ℕ → Word → List Row
 rowsAfter s t w = takeWord (rowsOf (s .rows) t) none w
 
--- refusal 5, 16, 8, 7 or 9, in this order, else the next summary
+-- the summary after it
+abbrev pub summaryAfter : Summary → List ℕ → Word → Summary
+summaryAfter s t w = record { n = s .n; rows = length (rowsAfter s t w); events = s .events + length w }
+
+-- what taking the word gives: 5, 16, 8, 7, 9; else the next summary
+unfoldable pub wordTaken : Summary → List ℕ → Word → Result Summary
+wordTaken s t w = do
+  require (leb TABLE (length t)) TABLE-SHORT TABLE
+  require (rightSummary s) SUMMARY 0
+  require (leb (s .events + length w) MAX-LOG-EVENTS) EVENTS 0
+  require (all (λ e. ltb e (s .n)) w) VALUE (firstBad (s .n) w)
+  require (leb (length (rowsAfter s t w)) MAX-ROWS) ROWS 0
+  value (summaryAfter s t w)
+
 unfoldable pub takenAnswer : Summary → List ℕ → Word → Taken
-takenAnswer s t w =
-    cond (ltb (length t) TABLE) (Refused (refusal TABLE-SHORT TABLE))
-    (cond (badSummary s) (Refused (refusal SUMMARY 0))
-    (cond (ltb MAX-LOG-EVENTS (s .events + length w)) (Refused (refusal EVENTS 0))
-    (cond (ltb (firstBad (s .n) w) (length w)) (Refused (refusal VALUE (firstBad (s .n) w)))
-    (cond (ltb MAX-ROWS (length (rowsAfter s t w))) (Refused (refusal ROWS 0))
-    (Next (record { n = s .n; rows = length (rowsAfter s t w); events = s .events + length w }))))))
+takenAnswer s t w = takenOf (wordTaken s t w)
 
 -- the table afterwards: with the rows after the word; after a refusal as it was
 unfoldable pub takenTable : Taken → Summary → List ℕ → Word → List ℕ

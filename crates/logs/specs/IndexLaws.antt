@@ -2,7 +2,7 @@
 use mathlib.Core.Path.{_≡_, refl, sym, ap, _∙_}
 use mathlib.Core.Logic.{_≢_, ⊎-elim}
 use mathlib.Core.Bool.{Bool, true, false, not, cond}
-use mathlib.Core.List.{List, [], _∷_, _++_}
+use mathlib.Core.List.{List, [], _∷_, _++_, map, map-map}
 use Prim.Native.Nat.{ℕ, zero, suc, _+_, _*_, _-_, _%_, _<_, _≤_, zero-le}
 use native.Mathlib.Nat.{le-refl, not-suc-le-zero, le-of-suc-le-suc, mul-one}
 use native.Mathlib.Numerals.{add-one}
@@ -15,23 +15,24 @@ use Rattle.laws.specs.Booleans.{lt-or-le, true-or-false}
 use Rattle.laws.specs.Lists.{all, all-member, getD-member, getD-copies, getD-map, map-append, equal, equal-true}
 use Rattle.laws.specs.Scans.{firstFailing}
 use Rattle.laws.specs.Sums.{weighted-more, weighted-zeros}
+use Rattle.limits.specs.Limits.{MAX-EVENTS}
 use Rattle.nets.specs.Nets.{Counts}
-use Rattle.nets.specs.Machine.{COUNTS}
-use Rattle.logs.specs.Rows.{ROW, Row, rowAt, rowsOf, findRow, newRow, present, marked, updateAt, addEvent, takeWord, none, Holds}
+use Rattle.logs.specs.Rows.{ROW, Row, rowAt, rowsOf, findRow, newRow, visit, follow, addEvent, takeWord, none, Holds}
 use Rattle.logs.specs.Flat.{held, length-rows, rows-at, rows-last}
-use Rattle.logs.specs.Growth.{length-update, present-cases, present-le, length-present}
+use Rattle.logs.specs.Visiting.{countsOf, visit-cases, length-visit, counts-follow, length-follow}
+use Rattle.logs.specs.Growth.{visit-le}
 use Rattle.logs.specs.Index.{multipliers, multiplier, key, CHAINS, INDEX, chains, lastIn, Index}
 
 -- ---- Keys
 
 -- a multiplier is a byte
-pub multiplier-small : (e : ℕ) → e < COUNTS → multiplier e < 256
+pub multiplier-small : (e : ℕ) → e < MAX-EVENTS → multiplier e < 256
 unfolding multipliers all
 multiplier-small e h = ltb→lt (multiplier e) 256 (all-member (λ x. ltb x 256) multipliers tt (getD-member multipliers e 0 h))
 
 pub key-none : key none ≡ 0
 unfolding key
-key-none = weighted-zeros multiplier COUNTS
+key-none = weighted-zeros multiplier MAX-EVENTS
 
 pub key-addEvent : (v : List ℕ) (e : ℕ) → e < length v → key (addEvent v e) ≡ key v + multiplier e
 unfolding key addEvent
@@ -57,31 +58,32 @@ chains-last : (k : ℕ) (t : List ℕ) → chains (rowsOf (suc k) t) ≡ chains 
 unfolding chains
 chains-last k t = ap chains (rows-last k t) ∙ chains-append (rowsOf k t) (rowAt (drop (ROW * k) t) ∷ [])
 
--- a mark keeps the counts
-chains-update : (r e : ℕ) (rs : List Row) → chains (updateAt r (marked e) rs) ≡ chains rs
-unfolding chains updateAt
-chains-update r e [] = refl
-chains-update zero e (x ∷ rs) = refl
-chains-update (suc r) e (x ∷ rs) = ap (λ (l : List ℕ). key (x .counts) % CHAINS ∷ l) (chains-update r e rs)
+-- they depend on the counts of the rows only
+chains-same : (rs qs : List Row) → countsOf rs ≡ countsOf qs → chains rs ≡ chains qs
+unfolding chains countsOf
+chains-same rs qs same =
+    sym (map-map (λ (v : Counts). key v % CHAINS) (λ (r : Row). r .counts) rs)
+    ∙ ap (map (λ (v : Counts). key v % CHAINS)) same
+    ∙ map-map (λ (v : Counts). key v % CHAINS) (λ (r : Row). r .counts) qs
 
 -- a new row stands behind the others
-chains-present : (v : List ℕ) (rs : List Row) → take (length rs) (chains (present v rs)) ≡ chains rs
-chains-present v rs =
-    ⊎-elim (λ p. rw (p .0) (take-all (length rs) (chains rs) (rw length-chains (le-refl (length rs)))))
-    (λ p. rw (p .0, chains-append) (take-at (chains rs) (chains (newRow v ∷ [])) (length rs) (length-chains rs)))
-    (present-cases v rs)
+chains-visit : (v : List ℕ) (rs : List Row) → take (length rs) (chains (visit v rs)) ≡ chains rs
+chains-visit v rs =
+    ⊎-elim (λ p. rw (chains-same (visit v rs) rs (p .0)) (take-all (length rs) (chains rs) (rw length-chains (le-refl (length rs)))))
+    (λ p. rw (chains-same (visit v rs) (rs ++ (newRow v ∷ [])) (p .0), chains-append) (take-at (chains rs) (chains (newRow v ∷ [])) (length rs) (length-chains rs)))
+    (visit-cases v rs)
 
 -- so taking a word keeps the chains of the rows that are there
 chains-take : (rs : List Row) (v w : List ℕ) → take (length rs) (chains (takeWord rs v w)) ≡ chains rs
 unfolding takeWord
-chains-take rs v [] = chains-present v rs
+chains-take rs v [] = chains-visit v rs
 chains-take rs v (e ∷ w) =
-    let rs′ : List Row = updateAt (findRow v rs) (marked e) (present v rs) in
+    let rs′ : List Row = follow v e (visit v rs) in
     let all : List ℕ = chains (takeWord rs′ (addEvent v e) w) in
-    let more : length rs ≤ length rs′ = omega (arith, length-update (findRow v rs) (marked e) (present v rs), length-present v rs) in
+    let more : length rs ≤ length rs′ = omega (arith, length-follow v e (visit v rs), length-visit v rs) in
     sym (take-take (length rs) (length rs′) all more)
-    ∙ ap (take (length rs)) (chains-take rs′ (addEvent v e) w ∙ chains-update (findRow v rs) e (present v rs))
-    ∙ chains-present v rs
+    ∙ ap (take (length rs)) (chains-take rs′ (addEvent v e) w ∙ chains-same (follow v e (visit v rs)) (visit v rs) (counts-follow v e (visit v rs)))
+    ∙ chains-visit v rs
 
 -- the chains of the first k rows
 chains-part : (k : ℕ) (rs : List Row) → take k (chains rs) ≡ chains (take k rs)
@@ -146,7 +148,7 @@ index-same k t t′ l same i = record { last = λ room c b. rw same (i .last roo
 pub index-taken : (k m : ℕ) (w t t′ l : List ℕ) → Holds m (takeWord (rowsOf k t) none w) t t′ → Index k t l → Index k t′ l
 index-taken k m w t t′ l holds i =
     let rs : List Row = takeWord (rowsOf k t) none w in
-    let more : k ≤ m = omega (arith, held m rs t t′ holds, length-rows k t, length-present none (rowsOf k t), present-le (rowsOf k t) none w) in
+    let more : k ≤ m = omega (arith, held m rs t t′ holds, length-rows k t, length-visit none (rowsOf k t), visit-le (rowsOf k t) none w) in
     let kept : take k (chains rs) ≡ chains (rowsOf k t) = rw length-rows at (chains-take (rowsOf k t) none w) in
     index-same k t t′ l (chains-held k m rs t t′ holds more ∙ kept) i
 
@@ -233,9 +235,9 @@ pub record Following (v : Counts) (k : ℕ) (t : List ℕ) (lowest left : ℕ) :
   pub chained : 0 < left → getD (chains (rowsOf k t)) (left - 1) 0 ≡ key v % CHAINS
 
 -- from the rows below x to the last of them that is in the chain
-follow-from : (v : Counts) (k : ℕ) (t : List ℕ) (lowest x left : ℕ) → x ≤ k → lowest ≡ x + findRow v (drop x (rowsOf k t))
+chain-from : (v : Counts) (k : ℕ) (t : List ℕ) (lowest x left : ℕ) → x ≤ k → lowest ≡ x + findRow v (drop x (rowsOf k t))
     → left ≡ lastIn (key v % CHAINS) (chains (rowsOf k t)) x → Following v k t lowest left
-follow-from v k t lowest x left h e at =
+chain-from v k t lowest x left h e at =
     let within : left ≤ k = omega (arith, last-le (key v % CHAINS) (chains (rowsOf k t)) x) in
     record {
       within = within;
@@ -244,11 +246,11 @@ follow-from v k t lowest x left h e at =
     }
 
 module _ (v : Counts) (k : ℕ) (t l : List ℕ) (room : INDEX ≤ length l) (i : Index k t l) where
-  pub follow-start : (sum : ℕ) → sum ≡ key v → Following v k t k (getD l (sum % CHAINS) 0)
+  pub chain-start : (sum : ℕ) → sum ≡ key v → Following v k t k (getD l (sum % CHAINS) 0)
   unfolding findRow firstFailing
-  follow-start sum e =
+  chain-start sum e =
       let end : drop k (rowsOf k t) ≡ [] = drop-of-length-le (rowsOf k t) {i = k} (rw length-rows (le-refl k)) in
-      follow-from v k t k k (getD l (sum % CHAINS) 0) (le-refl k) (rw end (omega arith)) (rw e (i .last room (key v % CHAINS) (omega arith)))
+      chain-from v k t k k (getD l (sum % CHAINS) 0) (le-refl k) (rw end (omega arith)) (rw e (i .last room (key v % CHAINS) (omega arith)))
 
   -- one row more
   module _ (lowest left : ℕ) (some : 0 < left) (f : Following v k t lowest left) where
@@ -258,25 +260,25 @@ module _ (v : Counts) (k : ℕ) (t l : List ℕ) (room : INDEX ≤ length l) (i 
     before-in : getD l (CHAINS + (left - 1)) 0 ≡ lastIn (key v % CHAINS) (chains (rowsOf k t)) (left - 1)
     before-in = i .before room (left - 1) below ∙ rw (f .chained some)
 
-    pub follow-less : getD l (CHAINS + (left - 1)) 0 < left
-    follow-less = omega (arith, before-in, last-le (key v % CHAINS) (chains (rowsOf k t)) (left - 1))
+    pub chain-less : getD l (CHAINS + (left - 1)) 0 < left
+    chain-less = omega (arith, before-in, last-le (key v % CHAINS) (chains (rowsOf k t)) (left - 1))
 
     -- b is the test on it, and u its counts
-    pub follow-next : (u : Counts) (b : Bool) (lowest′ : ℕ) → u ≡ rowAt (drop (ROW * (left - 1)) t) .counts → b ≡ equal u v → lowest′ ≡ cond b (left - 1) lowest
+    pub chain-next : (u : Counts) (b : Bool) (lowest′ : ℕ) → u ≡ rowAt (drop (ROW * (left - 1)) t) .counts → b ≡ equal u v → lowest′ ≡ cond b (left - 1) lowest
         → Following v k t lowest′ (getD l (CHAINS + (left - 1)) 0)
-    follow-next u b lowest′ is test e =
+    chain-next u b lowest′ is test e =
         let rs : List Row = rowsOf k t in
         let r : ℕ = left - 1 in
         let row : equal (getD rs r (newRow none) .counts) v ≡ b =
         ap (λ (x : Row). equal (x .counts) v) (rows-at k t r (newRow none) below) ∙ rw (test, is) in
         let step : findRow v (drop r rs) ≡ cond (not b) (suc (findRow v (drop (suc r) rs))) 0 = find-cons v rs r (newRow none) (rw length-rows below) ∙ rw row in
         let next : suc r ≡ left = omega arith in
-        follow-from v k t lowest′ r (getD l (CHAINS + r) 0) (omega arith) (e ∙ lower b r rs step (rw next (f .found))) before-in
+        chain-from v k t lowest′ r (getD l (CHAINS + r) 0) (omega arith) (e ∙ lower b r rs step (rw next (f .found))) before-in
       where
         lower : (b : Bool) (r : ℕ) (rs : List Row) → findRow v (drop r rs) ≡ cond (not b) (suc (findRow v (drop (suc r) rs))) 0
             → lowest ≡ suc r + findRow v (drop (suc r) rs) → cond b r lowest ≡ r + findRow v (drop r rs)
         lower true r rs e f = omega arith
         lower false r rs e f = omega arith
 
-pub follow-end : (v : Counts) (k : ℕ) (t : List ℕ) (lowest left : ℕ) → Following v k t lowest left → left ≡ 0 → lowest ≡ findRow v (rowsOf k t)
-follow-end v k t lowest left f e = f .found ∙ rw e (omega arith)
+pub chain-end : (v : Counts) (k : ℕ) (t : List ℕ) (lowest left : ℕ) → Following v k t lowest left → left ≡ 0 → lowest ≡ findRow v (rowsOf k t)
+chain-end v k t lowest left f e = f .found ∙ rw e (omega arith)

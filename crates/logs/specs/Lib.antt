@@ -1,7 +1,10 @@
 pub mod Rows
 pub mod Index
 pub mod Answers
+pub mod Takable
+pub mod Visiting
 pub mod Flat
+pub mod Storing
 pub mod Searching
 pub mod Prefixes
 pub mod Growth

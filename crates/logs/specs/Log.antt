@@ -3,8 +3,8 @@ use mathlib.Core.Path.{_≡_}
 use mathlib.Core.List.{List, [], _∷_, map}
 use Prim.Native.Nat.{ℕ}
 use Rattle.laws.specs.Bits.{maskOf}
+use Rattle.limits.specs.Limits.{MAX-EVENTS}
 use Rattle.nets.specs.Nets.{Log, Counts, rows, allowed}
-use Rattle.nets.specs.Machine.{COUNTS}
 use Rattle.logs.specs.Rows.{Row, takeWord, none}
 use Rattle.logs.specs.Answers.{takenAnswer, takenTable}
 use Rattle.logs.specs.declared.Summary.{Summary}
@@ -12,15 +12,15 @@ use Rattle.logs.specs.declared.Taken.the-variants.{Next}
 
 -- the events that the log allows after the counts v, as a mask
 unfoldable pub maskAt : Log → Counts → ℕ
-maskAt log v = maskOf COUNTS (λ e. allowed COUNTS log (record { row = v; event = e }))
+maskAt log v = maskOf MAX-EVENTS (λ e. allowed MAX-EVENTS log (record { row = v; event = e }))
 
--- counts with their masks, as rows
-abbrev pub withMasks : (Counts → ℕ) → List Counts → List Row
-withMasks m vs = map (λ (v : Counts). record { counts = v; mask = m v }) vs
+-- the row of the log for the counts v
+abbrev pub logRow : Log → Counts → Row
+logRow log v = record { counts = v; mask = maskAt log v }
 
--- the rows of a log, in their order, with twelve counts (`logRows-is`: those over n events, with zeros from n on)
+-- the rows of a log, in their order, with twelve counts (`logRows-is`, `logRow-mask`: those over n events, with zeros from n on)
 unfoldable pub logRows : Log → List Row
-logRows log = withMasks (maskAt log) (rows COUNTS log)
+logRows log = map (logRow log) (rows MAX-EVENTS log)
 
 -- the rows after the words of a log are taken one after the other
 unfoldable pub takeLog : List Row → Log → List Row

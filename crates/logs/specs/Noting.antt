@@ -6,7 +6,7 @@ use native.Mathlib.Numerals.{add-one}
 use native.Mathlib.Omega.{arith}
 use lib.ListN.{length, getD, take, drop, set, length-set, drop-of-length-le}
 use lib.Seq.{drop-cons, take-suc, take-set-le, getD-set-same, append-snoc}
-use Rattle.nets.specs.Machine.{COUNTS}
+use Rattle.limits.specs.Limits.{MAX-EVENTS}
 use Rattle.logs.specs.Rows.{Row, addEvent, absent, rowOr, newRows, numbered, none}
 use Rattle.logs.specs.Index.{key, multiplier}
 use Rattle.logs.specs.IndexLaws.{key-none, key-addEvent}
@@ -38,7 +38,7 @@ module _ (rs : List Row) (k₀ : ℕ) (w ns₀ ns v : List ℕ) (sum k i : ℕ) 
   here = omega (arith, s .size, s .passed)
 
   -- a turn of the loop
-  pub noting-again : (v′ : List ℕ) (g : ℕ) → i < length w → getD w i 0 < COUNTS → v′ ≡ addEvent v (getD w i 0) → g ≡ multiplier (getD w i 0) → g < 256
+  pub noting-again : (v′ : List ℕ) (g : ℕ) → i < length w → getD w i 0 < MAX-EVENTS → v′ ≡ addEvent v (getD w i 0) → g ≡ multiplier (getD w i 0) → g < 256
       → Noting rs k₀ w ns₀ ns′ v′ (sum + g) k′ (i + 1)
   unfolding numbered
   noting-again v′ g h event next grows few =

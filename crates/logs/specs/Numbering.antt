@@ -1,9 +1,9 @@
 -- The row of each prefix of a word is known before anything is written: none of them finds a row that the same word appends.
 use mathlib.Core.Path.{_≡_, refl, sym, ap, ap₂, _∙_}
 use mathlib.Core.Logic.{_⊎_, inl, inr, ⊎-elim}
-use mathlib.Core.Bool.{false, not, cond}
+use mathlib.Core.Bool.{false, not}
 use mathlib.Core.List.{List, [], _∷_, _++_}
-use Prim.Native.Nat.{ℕ, zero, suc, _+_, _<_, _≤_, zero-le, suc-le-suc}
+use Prim.Native.Nat.{ℕ, _+_, _<_, _≤_, zero-le, suc-le-suc}
 use native.Mathlib.Nat.{le-refl}
 use native.Mathlib.Numerals.{add-one}
 use native.Mathlib.Omega.{arith}
@@ -12,17 +12,18 @@ use lib.Seq.{drop-drop, drop-cons}
 use borrow.Author.Tests.{lt-ltb, le-ltb}
 use Rattle.laws.specs.Booleans.{lt-or-le}
 use Rattle.laws.specs.Lists.{equal}
-use Rattle.laws.specs.Scans.{firstFailing, failing-most, failing-found, failing-past}
+use Rattle.laws.specs.Scans.{failing-most, failing-found, failing-past}
+use Rattle.limits.specs.Limits.{MAX-EVENTS}
 use Rattle.nets.specs.Events.{EventsBelow}
 use Rattle.nets.specs.Nets.{Counts, Word}
-use Rattle.nets.specs.Machine.{COUNTS}
-use Rattle.logs.specs.Rows.{Row, findRow, newRow, present, marked, updateAt, addEvent, absent, rowOr, numbered}
-use Rattle.logs.specs.Growth.{total, total-addEvent, differ, below-tail, length-addEvent, length-update, length-present, present-cases}
+use Rattle.logs.specs.Rows.{Row, findRow, newRow, visit, follow, addEvent, absent, rowOr, numbered}
+use Rattle.logs.specs.Visiting.{countsOf, length-same, find-same, visit-cases, length-visit, counts-follow, length-follow}
+use Rattle.logs.specs.Growth.{total, total-addEvent, differ, below-tail, length-addEvent}
 
 -- the rows that taking a word uses, from the prefix with counts v on
 unfoldable pub used : List Row → Counts → Word → List ℕ
 used rs v [] = findRow v rs ∷ []
-used rs v (e ∷ w) = findRow v rs ∷ used (updateAt (findRow v rs) (marked e) (present v rs)) (addEvent v e) w
+used rs v (e ∷ w) = findRow v rs ∷ used (follow v e (visit v rs)) (addEvent v e) w
 
 pub used-first : (rs : List Row) (v : Counts) (w : Word) → getD (used rs v w) 0 0 ≡ findRow v rs
 unfolding used
@@ -31,19 +32,12 @@ used-first rs v (e ∷ w) = refl
 
 -- a loop over the prefixes of w, at the prefix of i events, whose counts are v and rows rs; v′ and rs′ are the next prefix's
 pub use-again : (rs : List Row) (v v′ w : List ℕ) (i : ℕ) (ns : List ℕ) (rs′ : List Row) → drop i ns ≡ used rs v (drop i w) → i < length w
-    → rs′ ≡ updateAt (findRow v rs) (marked (getD w i 0)) (present v rs) → v′ ≡ addEvent v (getD w i 0) → drop (i + 1) ns ≡ used rs′ v′ (drop (i + 1) w)
+    → rs′ ≡ follow v (getD w i 0) (visit v rs) → v′ ≡ addEvent v (getD w i 0) → drop (i + 1) ns ≡ used rs′ v′ (drop (i + 1) w)
 unfolding used
 use-again rs v v′ w i ns rs′ inv h here next =
     sym (drop-drop 1 i ns) ∙ rw (inv, drop-cons w i 0 h, here, next, add-one)
 
 -- ---- Counts looked for in rows that have changed
-
--- a change of one row that keeps its counts
-find-update : (r : ℕ) (f : Row → Row) → ((x : Row) → f x .counts ≡ x .counts) → (u : Counts) (rs : List Row) → findRow u (updateAt r f rs) ≡ findRow u rs
-unfolding findRow firstFailing updateAt
-find-update r f keeps u [] = refl
-find-update zero f keeps u (x ∷ rs) = rw (keeps x)
-find-update (suc r) f keeps u (x ∷ rs) = ap (λ (n : ℕ). cond (not (equal (x .counts) u)) (suc n) 0) (find-update r f keeps u rs)
 
 find-most : (u : Counts) (rs : List Row) → findRow u rs ≤ length rs
 unfolding findRow
@@ -53,7 +47,11 @@ find-most u rs = failing-most (λ r. not (equal (r .counts) u)) rs
 abbrev Agree : List Row → List Row → Counts → Type 0
 Agree rs₀ rs u = ((findRow u rs₀ < length rs₀) × (findRow u rs ≡ findRow u rs₀)) ⊎ ((length rs₀ ≤ findRow u rs₀) × (length rs ≤ findRow u rs))
 
--- so it stays where a row with other counts is appended
+-- so it stays where the counts of the rows do
+agree-same : (rs₀ rs qs : List Row) → countsOf qs ≡ countsOf rs → (u : Counts) → Agree rs₀ rs u → Agree rs₀ qs u
+agree-same rs₀ rs qs same u a = rw (find-same qs rs same u, length-same qs rs same) a
+
+-- and where a row with other counts is appended
 agree-append : (rs₀ rs : List Row) (v u : Counts) → length rs₀ ≤ length rs → equal v u ≡ false → Agree rs₀ rs u → Agree rs₀ (rs ++ (newRow v ∷ [])) u
 unfolding findRow
 agree-append rs₀ rs v u more other (inl (h, e)) =
@@ -87,32 +85,29 @@ module _ (rs₀ rs : List Row) (v : Counts) (g : Grown rs₀ rs v) where
       (g .agree v (le-refl _))
 
   -- the next prefix
-  grown-next : (e : ℕ) → e < length v → Grown rs₀ (updateAt (findRow v rs) (marked e) (present v rs)) (addEvent v e)
+  grown-next : (e : ℕ) → e < length v → Grown rs₀ (follow v e (visit v rs)) (addEvent v e)
   grown-next e h = record {
-    more = omega (arith, g .more, length-update (findRow v rs) (marked e) (present v rs), length-present v rs);
-    agree = λ u k. kept u (later u (omega (arith, k, total-addEvent v e h)));
+    more = omega (arith, g .more, length-follow v e (visit v rs), length-visit v rs);
+    agree = λ u k. agree-same rs₀ (visit v rs) (follow v e (visit v rs)) (counts-follow v e (visit v rs)) u (later u (omega (arith, k, total-addEvent v e h)));
   }
     where
-      later : (u : Counts) → total v < total u → Agree rs₀ (present v rs) u
+      later : (u : Counts) → total v < total u → Agree rs₀ (visit v rs) u
       later u k = ⊎-elim
-          (λ p. rw (p .0) (g .agree u (omega arith)))
-          (λ p. rw (p .0) (agree-append rs₀ rs v u (g .more) (differ v u k) (g .agree u (omega arith))))
-          (present-cases v rs)
+          (λ p. agree-same rs₀ rs (visit v rs) (p .0) u (g .agree u (omega arith)))
+          (λ p. agree-same rs₀ (rs ++ (newRow v ∷ [])) (visit v rs) (p .0) u (agree-append rs₀ rs v u (g .more) (differ v u k) (g .agree u (omega arith))))
+          (visit-cases v rs)
 
-      kept : (u : Counts) → Agree rs₀ (present v rs) u → Agree rs₀ (updateAt (findRow v rs) (marked e) (present v rs)) u
-      kept u a = rw (find-update (findRow v rs) (marked e) (λ x. refl) u (present v rs), length-update (findRow v rs) (marked e) (present v rs)) a
-
-numbered-from : (rs₀ rs : List Row) (v : Counts) (w : Word) → Grown rs₀ rs v → length v ≡ COUNTS → EventsBelow COUNTS w → numbered rs₀ (length rs) v w ≡ used rs v w
+numbered-from : (rs₀ rs : List Row) (v : Counts) (w : Word) → Grown rs₀ rs v → length v ≡ MAX-EVENTS → EventsBelow MAX-EVENTS w → numbered rs₀ (length rs) v w ≡ used rs v w
 unfolding numbered used
 numbered-from rs₀ rs v [] g twelve below = ap (λ (r : ℕ). r ∷ []) (number-here rs₀ rs v g)
 numbered-from rs₀ rs v (e ∷ w) g twelve below =
     let h : e < length v = rw twelve (below 0 (suc-le-suc zero-le)) in
-    let size : length rs + absent v rs₀ ≡ length (updateAt (findRow v rs) (marked e) (present v rs)) =
-    ap (λ (k : ℕ). length rs + k) (absent-here rs₀ rs v g) ∙ sym (length-update (findRow v rs) (marked e) (present v rs) ∙ length-present v rs) in
+    let size : length rs + absent v rs₀ ≡ length (follow v e (visit v rs)) =
+    ap (λ (k : ℕ). length rs + k) (absent-here rs₀ rs v g) ∙ sym (length-follow v e (visit v rs) ∙ length-visit v rs) in
     ap₂ _∷_ (number-here rs₀ rs v g)
     (ap (λ (k : ℕ). numbered rs₀ k (addEvent v e) w) size
-    ∙ numbered-from rs₀ (updateAt (findRow v rs) (marked e) (present v rs)) (addEvent v e) w (grown-next rs₀ rs v g e h) (length-addEvent v e ∙ twelve) (below-tail COUNTS e w below))
+    ∙ numbered-from rs₀ (follow v e (visit v rs)) (addEvent v e) w (grown-next rs₀ rs v g e h) (length-addEvent v e ∙ twelve) (below-tail MAX-EVENTS e w below))
 
 -- the rows numbered before anything is written are those that are used
-pub numbered-used : (rs : List Row) (v : Counts) (w : Word) → length v ≡ COUNTS → EventsBelow COUNTS w → numbered rs (length rs) v w ≡ used rs v w
+pub numbered-used : (rs : List Row) (v : Counts) (w : Word) → length v ≡ MAX-EVENTS → EventsBelow MAX-EVENTS w → numbered rs (length rs) v w ≡ used rs v w
 numbered-used rs v w twelve below = numbered-from rs rs v w (grown-none rs v) twelve below

@@ -13,16 +13,16 @@ use lib.Seq.{drop-cons, set-getD}
 use borrow.Author.Tests.{eqb-true, eqb-false, lt-ltb, le-ltb}
 use Rattle.laws.specs.Booleans.{true-or-false, lt-or-le}
 use Rattle.laws.specs.Lists.{getD-copies}
-use Rattle.nets.specs.Machine.{COUNTS}
-use Rattle.logs.specs.Rows.{Row, findRow, present, marked, updateAt, addEvent, absent, newRows, takeWord, none}
+use Rattle.limits.specs.Limits.{MAX-EVENTS}
+use Rattle.logs.specs.Rows.{Row, visit, follow, addEvent, absent, newRows, takeWord, none}
 
 -- v counts at most i events
 pub record Counted (v : List ℕ) (i : ℕ) : Type 0 where
-  pub twelve : length v ≡ COUNTS
+  pub twelve : length v ≡ MAX-EVENTS
   pub few : (j : ℕ) → getD v j 0 ≤ i
 
 pub counted-none : Counted none 0
-counted-none = record { twelve = refl; few = λ j. rw (getD-copies {A = ℕ} COUNTS j 0) (le-refl 0) }
+counted-none = record { twelve = refl; few = λ j. rw (getD-copies {A = ℕ} MAX-EVENTS j 0) (le-refl 0) }
 
 set-le : (v : List ℕ) (e j x m : ℕ) → getD v j 0 ≤ m → x ≤ m → getD (set v e x) j 0 ≤ m
 set-le [] e j x m h hx = h
@@ -31,7 +31,7 @@ set-le (y ∷ v) zero (suc j) x m h hx = h
 set-le (y ∷ v) (suc e) zero x m h hx = h
 set-le (y ∷ v) (suc e) (suc j) x m h hx = set-le v e j x m h hx
 
-pub counted-addEvent : (v : List ℕ) (i e : ℕ) → e < COUNTS → Counted v i → Counted (addEvent v e) (i + 1)
+pub counted-addEvent : (v : List ℕ) (i e : ℕ) → e < MAX-EVENTS → Counted v i → Counted (addEvent v e) (i + 1)
 unfolding addEvent
 counted-addEvent v i e h c =
     record { twelve = length-set v e _ ∙ c .twelve; few = λ j. set-le v e j _ (i + 1) (omega (arith, c .few j)) (omega (arith, c .few e)) }
@@ -55,7 +55,7 @@ module _ (v : List ℕ) (e : ℕ) where
   pub adding-none : v ≡ adding v e 0
   adding-none = sym (before 0 zero-le)
 
-  pub adding-end : e < COUNTS → (i : ℕ) → COUNTS ≤ i → adding v e i ≡ addEvent v e
+  pub adding-end : e < MAX-EVENTS → (i : ℕ) → MAX-EVENTS ≤ i → adding v e i ≡ addEvent v e
   adding-end h i end = after i (omega arith)
 
   -- x is what count i grows by
@@ -101,10 +101,10 @@ module _ (rs : List Row) (v v′ w : List ℕ) (i : ℕ) where
 
   -- that takes the word: all the rows that it leads to are all, and rs′ those after this prefix
   module _ (all rs′ : List Row) (inv : takeWord rs v (drop i w) ≡ all) where
-    pub take-again : i < length w → rs′ ≡ updateAt (findRow v rs) (marked (getD w i 0)) (present v rs) → v′ ≡ addEvent v (getD w i 0) → takeWord rs′ v′ (drop (i + 1) w) ≡ all
+    pub take-again : i < length w → rs′ ≡ follow v (getD w i 0) (visit v rs) → v′ ≡ addEvent v (getD w i 0) → takeWord rs′ v′ (drop (i + 1) w) ≡ all
     unfolding takeWord
     take-again h here next = rw (here, next, ← inv, drop-cons w i 0 h, add-one)
 
-    pub take-end : length w ≤ i → present v rs ≡ all
+    pub take-end : length w ≤ i → visit v rs ≡ all
     unfolding takeWord
     take-end h = rw (← inv, drop-of-length-le w h)

@@ -1,42 +1,39 @@
 -- The refusal numbers of each call are those of its line in the order of refusals: fresh 5, 16; summary 5, 16, 8, 7, 9.
 use mathlib.Core.Path.{_≡_, refl}
-use mathlib.Core.Bool.{Bool, true, false, cond}
+use mathlib.Core.Bool.{Bool, true}
+use mathlib.Core.Logic.{inr}
 use mathlib.Core.List.{List, [], _∷_}
-use Prim.Native.Nat.{ℕ, _+_}
-use lib.ListN.{length}
-use lib.Dec.{ltb}
+use Prim.Native.Nat.{ℕ}
 use Rattle.laws.specs.Lists.{any, among}
 use Rattle.refusals.specs.Table.{TABLE-SHORT, VALUE, EVENTS, ROWS, SUMMARY}
-use Rattle.refusals.specs.Answers.{refusal}
-use Rattle.nets.specs.Events.{firstBad}
+use Rattle.refusals.specs.Results.{Result, value, refused, _>>_, require, numberIn, Refuses, refuses-value, refuses-require, refuses-then, numbers-listed}
 use Rattle.nets.specs.Nets.{Word}
-use Rattle.logs.specs.Answers.{TABLE, MAX-ROWS, MAX-LOG-EVENTS, badEventCount, badSummary, rowsAfter, freshAnswer, takenAnswer, takenNumber}
+use Rattle.logs.specs.Answers.{TABLE, takenOf, logStarted, freshAnswer, wordTaken, takenAnswer, takenNumber}
 use Rattle.logs.specs.declared.Summary.{Summary}
-use Rattle.logs.specs.declared.Taken.{Taken}
-use Rattle.logs.specs.declared.Taken.the-variants.{Refused}
 
--- a refusal with a number of the list, or what follows
-either : (numbers : List ℕ) (b : Bool) (n at : ℕ) (rest : Taken) → among n numbers ≡ true → among (takenNumber rest) numbers ≡ true
-    → among (takenNumber (cond b (Refused (refusal n at)) rest)) numbers ≡ true
-unfolding takenNumber
-either numbers true n at rest here there = here
-either numbers false n at rest here there = there
+-- a test that refuses with a number of the list, then the rest
+tested : {ns : List ℕ} (ok : Bool) (n at : ℕ) {m : Result Summary} → among n ns ≡ true → Refuses ns m → Refuses ns (require ok n at >> m)
+tested ok n at listed rest = refuses-then (refuses-require ok n at (inr listed)) (λ u. rest)
 
-abbrev pub freshNumbers : List ℕ
-freshNumbers = 0 ∷ TABLE-SHORT ∷ SUMMARY ∷ []
+-- the answer's number is that of the chain
+answered : (numbers : List ℕ) (m : Result Summary) → Refuses numbers m → among (takenNumber (takenOf m)) (0 ∷ numbers) ≡ true
+unfolding takenNumber takenOf numberIn
+answered numbers (value s) r = numbers-listed r
+answered numbers (refused number spot) r = numbers-listed r
 
-pub fresh-numbers : (n : ℕ) (t : List ℕ) → among (takenNumber (freshAnswer n t)) freshNumbers ≡ true
-unfolding freshAnswer takenNumber any
-fresh-numbers n t = either freshNumbers (ltb (length t) TABLE) TABLE-SHORT TABLE _ refl (either freshNumbers (badEventCount n) SUMMARY 0 _ refl refl)
+abbrev freshNumbers : List ℕ
+freshNumbers = TABLE-SHORT ∷ SUMMARY ∷ []
 
-abbrev pub takeNumbers : List ℕ
-takeNumbers = 0 ∷ TABLE-SHORT ∷ SUMMARY ∷ EVENTS ∷ VALUE ∷ ROWS ∷ []
+pub fresh-numbers : (n : ℕ) (t : List ℕ) → among (takenNumber (freshAnswer n t)) (0 ∷ freshNumbers) ≡ true
+unfolding freshAnswer logStarted any
+fresh-numbers n t = answered freshNumbers (logStarted n t) (tested _ TABLE-SHORT TABLE refl (tested _ SUMMARY 0 refl (refuses-value _)))
 
-pub take-numbers : (s : Summary) (t : List ℕ) (w : Word) → among (takenNumber (takenAnswer s t w)) takeNumbers ≡ true
-unfolding takenAnswer takenNumber any
+abbrev takeNumbers : List ℕ
+takeNumbers = TABLE-SHORT ∷ SUMMARY ∷ EVENTS ∷ VALUE ∷ ROWS ∷ []
+
+pub take-numbers : (s : Summary) (t : List ℕ) (w : Word) → among (takenNumber (takenAnswer s t w)) (0 ∷ takeNumbers) ≡ true
+unfolding takenAnswer wordTaken any
 take-numbers s t w =
-    either takeNumbers (ltb (length t) TABLE) TABLE-SHORT TABLE _ refl
-    (either takeNumbers (badSummary s) SUMMARY 0 _ refl
-    (either takeNumbers (ltb MAX-LOG-EVENTS (s .events + length w)) EVENTS 0 _ refl
-    (either takeNumbers (ltb (firstBad (s .n) w) (length w)) VALUE (firstBad (s .n) w) _ refl
-    (either takeNumbers (ltb MAX-ROWS (length (rowsAfter s t w))) ROWS 0 _ refl refl))))
+    answered takeNumbers (wordTaken s t w)
+    (tested _ TABLE-SHORT TABLE refl (tested _ SUMMARY 0 refl
+    (tested _ EVENTS 0 refl (tested _ VALUE _ refl (tested _ ROWS 0 refl (refuses-value _))))))

@@ -8,8 +8,8 @@ use lib.Dec.{ltb}
 use Rattle.laws.specs.Lists.{equal}
 use Rattle.laws.specs.Scans.{firstFailing}
 use Rattle.laws.specs.Bits.{withBit}
+use Rattle.limits.specs.Limits.{MAX-EVENTS}
 use Rattle.nets.specs.Nets.{Word, Counts, at}
-use Rattle.nets.specs.Machine.{COUNTS}
 
 -- ---- How rows lie in a table
 
@@ -24,7 +24,7 @@ pub record Row : Type 0 where
 
 -- the row that a list of numbers starts with, and a row as numbers
 unfoldable pub rowAt : List ℕ → Row
-rowAt t = record { counts = take COUNTS t; mask = getD t COUNTS 0 }
+rowAt t = record { counts = take MAX-EVENTS t; mask = getD t MAX-EVENTS 0 }
 
 unfoldable pub numbers : Row → List ℕ
 numbers r = r .counts ++ (r .mask ∷ [])
@@ -57,9 +57,9 @@ findRow v rs = firstFailing (λ r. not (equal (r .counts) v)) rs
 abbrev pub newRow : Counts → Row
 newRow v = record { counts = v; mask = 0 }
 
--- the rows with a row for the counts v: as they are, or with a new one appended
-unfoldable pub present : Counts → List Row → List Row
-present v rs = cond (ltb (findRow v rs) (length rs)) rs (rs ++ (newRow v ∷ []))
+-- a prefix with the counts v is visited: the rows in which these counts have a row, as they are or with a new one appended
+unfoldable pub visit : Counts → List Row → List Row
+visit v rs = cond (ltb (findRow v rs) (length rs)) rs (rs ++ (newRow v ∷ []))
 
 -- the row with bit e of its mask set
 abbrev pub marked : ℕ → Row → Row
@@ -71,18 +71,22 @@ updateAt r f [] = []
 updateAt zero f (x ∷ rs) = f x ∷ rs
 updateAt (suc r) f (x ∷ rs) = x ∷ updateAt r f rs
 
+-- the event e follows a prefix with the counts v: its bit is set in the lowest row with these counts
+unfoldable pub follow : Counts → ℕ → List Row → List Row
+follow v e rs = updateAt (findRow v rs) (marked e) rs
+
 -- the counts with one more of event e
 unfoldable pub addEvent : Counts → ℕ → Counts
 addEvent v e = set v e (at v e + 1)
 
--- from the prefix with counts v on, shortest first: its row is found or appended, then the bit of the event that follows is set in it
+-- from the prefix with counts v on, shortest first: each is visited, and followed by the next event
 unfoldable pub takeWord : List Row → Counts → Word → List Row
-takeWord rs v [] = present v rs
-takeWord rs v (e ∷ w) = takeWord (updateAt (findRow v rs) (marked e) (present v rs)) (addEvent v e) w
+takeWord rs v [] = visit v rs
+takeWord rs v (e ∷ w) = takeWord (follow v e (visit v rs)) (addEvent v e) w
 
 -- the counts of the empty prefix
 abbrev pub none : Counts
-none = replicate COUNTS 0
+none = replicate MAX-EVENTS 0
 
 -- ---- What the code knows on its way; no public contract speaks of it
 

@@ -5,12 +5,13 @@ use Prim.Native.Nat.{ℕ, _+_, _*_, _-_, _<_, _≤_}
 use native.Mathlib.Omega.{arith}
 use lib.ListN.{length, getD, drop}
 use lib.Seq.{drop-drop, getD-drop}
-use Rattle.nets.specs.Machine.{COUNTS}
-use Rattle.logs.specs.Rows.{ROW, Row, rowsOf, findRow, present, marked, updateAt, addEvent, takeWord, none, Holds}
+use Rattle.limits.specs.Limits.{MAX-EVENTS}
+use Rattle.logs.specs.Rows.{ROW, Row, rowsOf, findRow, visit, follow, addEvent, takeWord, none, Holds}
 use Rattle.logs.specs.Flat.{length-rows, held}
 use Rattle.logs.specs.Prefixes.{Counted, counted-none, counted-addEvent, take-again, take-end}
 use Rattle.logs.specs.Numbering.{used, used-first, use-again}
-use Rattle.logs.specs.Growth.{length-present, length-update, present-le}
+use Rattle.logs.specs.Visiting.{length-visit, length-follow}
+use Rattle.logs.specs.Growth.{visit-le}
 
 -- after i events of w, whose prefixes have the rows ns: the table t₀ is t, with k rows, the prefix has the counts v, and the rest of the word
 -- leads to the rows all
@@ -41,23 +42,23 @@ module _ (t₀ w ns : List ℕ) (all : List Row) (t : List ℕ) (k : ℕ) (v : L
       ap (λ (j : ℕ). getD ns j 0) (sym same) ∙ sym (getD-drop i ns 0 0) ∙ ap (λ (l : List ℕ). getD l 0 0) (taking .noted) ∙ used-first (rowsOf k t) v (drop i w)
 
   -- there is room for the row of the prefix
-  pub taking-room : (n : ℕ) → ROW * length all ≤ n → ROW * length (present v (rowsOf k t)) ≤ n
+  pub taking-room : (n : ℕ) → ROW * length all ≤ n → ROW * length (visit v (rowsOf k t)) ≤ n
   taking-room n h =
-      let le = present-le (rowsOf k t) v (drop i w) in
-      let le′ : length (present v (rowsOf k t)) ≤ length all = rw (taking .leads) at le in
+      let le = visit-le (rowsOf k t) v (drop i w) in
+      let le′ : length (visit v (rowsOf k t)) ≤ length all = rw (taking .leads) at le in
       omega arith
 
-  later : (k′ : ℕ) (t′ : List ℕ) → k′ ≡ length (present v (rowsOf k t)) → drop (ROW * k′) t′ ≡ drop (ROW * k′) t → drop (ROW * k′) t′ ≡ drop (ROW * k′) t₀
+  later : (k′ : ℕ) (t′ : List ℕ) → k′ ≡ length (visit v (rowsOf k t)) → drop (ROW * k′) t′ ≡ drop (ROW * k′) t → drop (ROW * k′) t′ ≡ drop (ROW * k′) t₀
   later k′ t′ n rest =
-      let more = length-present v (rowsOf k t) in
+      let more = length-visit v (rowsOf k t) in
       rest ∙ drop-more (ROW * k) (ROW * k′) t t₀ (omega (arith, length-rows k t)) (taking .rest)
 
   -- a turn of the loop
-  pub taking-again : (t′ : List ℕ) (k′ : ℕ) (v′ : List ℕ) → i < length w → getD w i 0 < COUNTS → length t′ ≡ length t → ROW * length all ≤ length t
-      → Holds k′ (updateAt (findRow v (rowsOf k t)) (marked (getD w i 0)) (present v (rowsOf k t))) t t′ → v′ ≡ addEvent v (getD w i 0)
+  pub taking-again : (t′ : List ℕ) (k′ : ℕ) (v′ : List ℕ) → i < length w → getD w i 0 < MAX-EVENTS → length t′ ≡ length t → ROW * length all ≤ length t
+      → Holds k′ (follow v (getD w i 0) (visit v (rowsOf k t))) t t′ → v′ ≡ addEvent v (getD w i 0)
       → Taking t₀ w ns all t′ k′ v′ (i + 1)
   taking-again t′ k′ v′ h event size room holds next =
-      let n : k′ ≡ length (present v (rowsOf k t)) = held _ _ _ _ holds ∙ simp length-update in
+      let n : k′ ≡ length (visit v (rowsOf k t)) = held _ _ _ _ holds ∙ simp length-follow in
       record {
         passed = omega arith;
         counted = rw next (counted-addEvent v i (getD w i 0) event (taking .counted));
@@ -69,6 +70,6 @@ module _ (t₀ w ns : List ℕ) (all : List Row) (t : List ℕ) (k : ℕ) (v : L
       }
 
   -- the last prefix
-  pub taking-end : (t′ : List ℕ) (k′ : ℕ) → length w ≤ i → Holds k′ (present v (rowsOf k t)) t t′ → Holds k′ all t₀ t′
+  pub taking-end : (t′ : List ℕ) (k′ : ℕ) → length w ≤ i → Holds k′ (visit v (rowsOf k t)) t t′ → Holds k′ all t₀ t′
   taking-end t′ k′ h holds =
       record { front = holds .front ∙ take-end (rowsOf k t) v v w i all [] (taking .leads) h; rest = later k′ t′ (held _ _ _ _ holds) (holds .rest) }

@@ -3,11 +3,11 @@
 use crate::rows::counts_of;
 use crate::rows::same_counts;
 use crate::rows::scan_rows;
-use nets::COUNTS;
+use limits::MAX_EVENTS;
 ghost use mathlib.Core.Path.{_≡_};
 ghost use Prim.Native.Nat.{_+_, _*_, _<_, _≤_};
 ghost use lib.ListN.{length};
-ghost use Rattle.nets.specs.Machine.{COUNTS};
+ghost use Rattle.limits.specs.Limits.{MAX-EVENTS};
 ghost use Rattle.logs.specs.Rows.{ROW, findRow, rowsOf};
 ghost use Rattle.logs.specs.Index.{multiplier, key as keyOf, INDEX, CHAINS, Index};
 
@@ -21,7 +21,7 @@ const MULTIPLIERS: [u16; 12] = [1, 37, 89, 151, 211, 17, 73, 131, 193, 241, 53, 
 
 // The multiplier of an event in a key.
 pub fn multiplier_of(e: usize) -> usize
-    requires { ⌜ e < COUNTS ⌝ }
+    requires { ⌜ e < MAX-EVENTS ⌝ }
     ensures { λ r. ⌜ (r ≡ multiplier e) × (r < 256) ⌝ }
 {
     MULTIPLIERS[e] as usize
@@ -29,12 +29,12 @@ pub fn multiplier_of(e: usize) -> usize
 
 // The key of counts.
 fn key_of(counts: &[u16]) -> usize
-    requires { ⌜ length (now counts) ≡ COUNTS ⌝ }
+    requires { ⌜ length (now counts) ≡ MAX-EVENTS ⌝ }
     ensures { λ r. ⌜ r ≡ keyOf (now (counts .entry)) ⌝ }
 {
     let mut sum = 0;
     let mut i = 0;
-    while i < COUNTS {
+    while i < MAX_EVENTS {
         sum += multiplier_of(i) * counts[i] as usize;
         i += 1;
     }
@@ -43,7 +43,10 @@ fn key_of(counts: &[u16]) -> usize
 
 // Puts row r, the first behind those indexed, at the end of the chain of its key.
 fn link(table: &[u16], r: usize, index: &mut [u16])
-    requires { ⌜ (r < CHAINS) × (INDEX ≤ length (now index)) × (ROW * r + ROW ≤ length (now table)) × Index r (now table) (now index) ⌝ }
+    requires { ⌜ (r < CHAINS)
+        × (INDEX ≤ length (now index))
+        × (ROW * r + ROW ≤ length (now table))
+        × Index r (now table) (now index) ⌝ }
     ensures { λ _. ⌜ Index (r + 1) (now (table .entry)) (now (index .exit)) ⌝ }
 {
     let chain = key_of(counts_of(table, r)) % CHAINS;
@@ -53,7 +56,11 @@ fn link(table: &[u16], r: usize, index: &mut [u16])
 
 // Indexes the rows up to `end`, behind the `start` rows that are indexed.
 pub fn index_rows(table: &[u16], start: usize, end: usize, index: &mut [u16])
-    requires { ⌜ (start ≤ end) × (end ≤ CHAINS) × (INDEX ≤ length (now index)) × (ROW * end ≤ length (now table)) × Index start (now table) (now index) ⌝ }
+    requires { ⌜ (start ≤ end)
+        × (end ≤ CHAINS)
+        × (INDEX ≤ length (now index))
+        × (ROW * end ≤ length (now table))
+        × Index start (now table) (now index) ⌝ }
     ensures { λ _. ⌜ Index end (now (table .entry)) (now (index .exit)) ⌝ }
 {
     let mut r = start;
@@ -65,7 +72,11 @@ pub fn index_rows(table: &[u16], start: usize, end: usize, index: &mut [u16])
 
 // The lowest row below `rows` with these counts, or `rows`. The rows in the chain of their key are looked at, the last first.
 fn follow_chain(table: &[u16], rows: usize, counts: [u16; 12], index: &[u16], key: usize) -> usize
-    requires { ⌜ (rows ≤ CHAINS) × (ROW * rows ≤ length (now table)) × (INDEX ≤ length (now index)) × Index rows (now table) (now index) × (key ≡ keyOf counts) ⌝ }
+    requires { ⌜ (rows ≤ CHAINS)
+        × (ROW * rows ≤ length (now table))
+        × (INDEX ≤ length (now index))
+        × Index rows (now table) (now index)
+        × (key ≡ keyOf counts) ⌝ }
     ensures { λ r. ⌜ r ≡ findRow counts (rowsOf rows (now (table .entry))) ⌝ }
 {
     let mut lowest = rows;
@@ -82,7 +93,10 @@ fn follow_chain(table: &[u16], rows: usize, counts: [u16; 12], index: &[u16], ke
 
 // The lowest row below `rows` with these counts, or `rows`. An index that is too short is not used.
 pub fn find_row(table: &[u16], rows: usize, counts: [u16; 12], index: &[u16], key: usize) -> usize
-    requires { ⌜ (rows ≤ CHAINS) × (ROW * rows ≤ length (now table)) × Index rows (now table) (now index) × (key ≡ keyOf counts) ⌝ }
+    requires { ⌜ (rows ≤ CHAINS)
+        × (ROW * rows ≤ length (now table))
+        × Index rows (now table) (now index)
+        × (key ≡ keyOf counts) ⌝ }
     ensures { λ r. ⌜ r ≡ findRow counts (rowsOf rows (now (table .entry))) ⌝ }
 {
     if index.len() < INDEX {

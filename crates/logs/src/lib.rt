@@ -1,9 +1,11 @@
 // The log table and its summary: taking a log word by word. The contracts cite specs/Rows.antt and specs/Answers.antt.
 pub mod index; // where to look for a row
-pub mod rows; // a row found, appended, marked
+pub mod rows; // a row found, visited, marked
 pub mod words; // a word taken
 
-use nets::COUNTS;
+use limits::MAX_EVENTS;
+use limits::MAX_LOG_EVENTS;
+use limits::MAX_ROWS;
 use nets::first_bad;
 use refusals::EVENTS;
 use refusals::ROWS;
@@ -11,21 +13,17 @@ use refusals::Refusal;
 use refusals::SUMMARY;
 use refusals::TABLE_SHORT;
 use refusals::VALUE;
+use rows::ROW;
 use words::add_alone;
 ghost use mathlib.Core.Path.{_≡_};
 ghost use Prim.Native.Nat.{_≤_};
 ghost use lib.ListN.{length};
 ghost use Rattle.refusals.specs.Answers.{refusal};
 ghost use Rattle.logs.specs.Rows.{cleared};
-ghost use Rattle.logs.specs.Answers.{TABLE, badEventCount, badSummary, freshAnswer, freshTable, takenAnswer, takenTable};
+ghost use Rattle.logs.specs.Answers.{TABLE, rightEventCount, rightSummary, freshAnswer, freshTable, takenAnswer, takenTable};
 
 // The numbers that a table has at least.
-pub const TABLE: usize = 3328;
-
-// The rows and the events that a log has at most.
-pub const MAX_ROWS: usize = 256;
-
-pub const MAX_LOG_EVENTS: usize = 1024;
+pub const TABLE: usize = ROW * MAX_ROWS;
 
 // What is kept of a log beside its table: the event count n, the rows and the events so far.
 pub struct Summary {
@@ -52,27 +50,27 @@ pub fn clear(table: &mut [u16])
     }
 }
 
-// Whether an event count is not 1 to 12.
-fn bad_event_count(n: usize) -> bool
-    ensures { λ r. ⌜ r ≡ badEventCount n ⌝ }
+// Whether an event count is 1 to 12.
+fn right_event_count(n: usize) -> bool
+    ensures { λ r. ⌜ r ≡ rightEventCount n ⌝ }
 {
-    n < 1 || COUNTS < n
+    1 <= n && n <= MAX_EVENTS
 }
 
-// Whether a summary's numbers are outside their ranges.
-fn bad_summary(s: Summary) -> bool
-    ensures { λ r. ⌜ r ≡ badSummary s ⌝ }
+// Whether a summary's numbers are within their ranges.
+fn right_summary(s: Summary) -> bool
+    ensures { λ r. ⌜ r ≡ rightSummary s ⌝ }
 {
-    if bad_event_count(s.n) {
-        return true;
+    if !right_event_count(s.n) {
+        return false;
     }
     if s.rows < 1 {
-        return true;
+        return false;
     }
     if MAX_ROWS < s.rows {
-        return true;
+        return false;
     }
-    MAX_LOG_EVENTS < s.events
+    s.events <= MAX_LOG_EVENTS
 }
 
 fn refused(number: u8, spot: usize) -> Taken
@@ -90,7 +88,7 @@ pub fn fresh(n: usize, table: &mut [u16]) -> Taken
     if table.len() < TABLE {
         return refused(TABLE_SHORT, TABLE);
     }
-    if bad_event_count(n) {
+    if !right_event_count(n) {
         return refused(SUMMARY, 0);
     }
     clear(table);
@@ -114,7 +112,7 @@ impl Summary {
         if table.len() < TABLE {
             return refused(TABLE_SHORT, TABLE);
         }
-        if bad_summary(self) {
+        if !right_summary(self) {
             return refused(SUMMARY, 0);
         }
         if MAX_LOG_EVENTS - events < word.len() {

@@ -1,5 +1,5 @@
 // The rows of a log table: a slice with `ROW` numbers a row. All are inner functions.
-use nets::COUNTS;
+use limits::MAX_EVENTS;
 use nets::with_bit;
 ghost use mathlib.Core.Path.{_≡_};
 ghost use mathlib.Core.Bool.{true};
@@ -8,8 +8,8 @@ ghost use Prim.Native.Nat.{_+_, _*_, _<_, _≤_};
 ghost use lib.ListN.{length, getD, set, take, drop};
 ghost use Rattle.laws.specs.Lists.{equal};
 ghost use Rattle.laws.specs.Bits.{withBit};
-ghost use Rattle.nets.specs.Machine.{COUNTS};
-ghost use Rattle.logs.specs.Rows.{ROW, rowAt, findRow, rowsOf, newRow, present, Holds};
+ghost use Rattle.limits.specs.Limits.{MAX-EVENTS};
+ghost use Rattle.logs.specs.Rows.{ROW, rowAt, findRow, rowsOf, newRow, visit, Holds};
 
 // The numbers of a row: twelve counts, then the mask.
 pub const ROW: usize = 13;
@@ -17,17 +17,20 @@ pub const ROW: usize = 13;
 // The counts of a row.
 pub fn counts_of(table: &[u16], row: usize) -> &[u16]
     requires { ⌜ ROW * row + ROW ≤ length (now table) ⌝ }
-    ensures { λ r. ⌜ (now r ≡ rowAt (drop (ROW * row) (now (table .entry))) .counts) × (length (now r) ≡ COUNTS) ⌝ }
+    ensures { λ r. ⌜ (now r ≡ rowAt (drop (ROW * row) (now (table .entry))) .counts) × (length (now r) ≡ MAX-EVENTS) ⌝ }
 {
     let start = ROW * row;
-    let end = start + COUNTS;
+    let end = start + MAX_EVENTS;
     &table[start..end]
 }
 
 // Whether a row and the counts, which are equal up to `start`, are equal up to `end`. No branch is taken on the way, so that the compiler takes
 // several at a time.
 fn same_part(row: &[u16], counts: &[u16], start: usize, end: usize) -> bool
-    requires { ⌜ (start ≤ end) × (end ≤ length (now row)) × (end ≤ length (now counts)) × (equal (take start (now row)) (take start (now counts)) ≡ true) ⌝ }
+    requires { ⌜ (start ≤ end)
+        × (end ≤ length (now row))
+        × (end ≤ length (now counts))
+        × (equal (take start (now row)) (take start (now counts)) ≡ true) ⌝ }
     ensures { λ r. ⌜ r ≡ equal (take end (now (row .entry))) (take end (now (counts .entry))) ⌝ }
 {
     let mut same = true;
@@ -41,13 +44,13 @@ fn same_part(row: &[u16], counts: &[u16], start: usize, end: usize) -> bool
 
 // Whether a row has these counts. Most rows differ in the first eight, which are one vector.
 pub fn same_counts(row: &[u16], counts: &[u16]) -> bool
-    requires { ⌜ (length (now row) ≡ COUNTS) × (length (now counts) ≡ COUNTS) ⌝ }
+    requires { ⌜ (length (now row) ≡ MAX-EVENTS) × (length (now counts) ≡ MAX-EVENTS) ⌝ }
     ensures { λ r. ⌜ r ≡ equal (now (row .entry)) (now (counts .entry)) ⌝ }
 {
     if !same_part(row, counts, 0, 8) {
         return false;
     }
-    same_part(row, counts, 8, COUNTS)
+    same_part(row, counts, 8, MAX_EVENTS)
 }
 
 // The lowest row below `rows` with these counts, or `rows`. All rows are looked at in turn.
@@ -72,17 +75,18 @@ fn append_row(table: &mut [u16], rows: usize, counts: [u16; 12])
 {
     let at = ROW * rows;
     let mut k = 0;
-    while k < COUNTS {
+    while k < MAX_EVENTS {
         table[at + k] = counts[k];
         k += 1;
     }
-    table[at + COUNTS] = 0;
+    table[at + MAX_EVENTS] = 0;
 }
 
-// Makes sure that there is a row with these counts, which is found at r or nowhere: then it is appended. Returns how many rows there are.
-pub fn use_row(table: &mut [u16], rows: usize, counts: [u16; 12], r: usize) -> usize
-    requires { ⌜ (r ≡ findRow counts (rowsOf rows (now table))) × (ROW * rows ≤ length (now table)) × (ROW * length (present counts (rowsOf rows (now table))) ≤ length (now table)) ⌝ }
-    ensures { λ k. ⌜ Holds k (present counts (rowsOf rows (now (table .entry)))) (now (table .entry)) (now (table .exit)) ⌝ }
+// Visits a prefix with these counts: their row is found at r, or nowhere and then appended. Returns how many rows there are.
+pub fn visit_row(table: &mut [u16], rows: usize, counts: [u16; 12], r: usize) -> usize
+    requires { ⌜ r ≡ findRow counts (rowsOf rows (now table)) ⌝ }
+    requires { ⌜ (ROW * rows ≤ length (now table)) × (ROW * length (visit counts (rowsOf rows (now table))) ≤ length (now table)) ⌝ }
+    ensures { λ k. ⌜ Holds k (visit counts (rowsOf rows (now (table .entry)))) (now (table .entry)) (now (table .exit)) ⌝ }
 {
     if r < rows {
         return rows;
@@ -93,9 +97,9 @@ pub fn use_row(table: &mut [u16], rows: usize, counts: [u16; 12], r: usize) -> u
 
 // Sets bit e of row r's mask.
 pub fn mark_row(table: &mut [u16], r: usize, e: usize)
-    requires { ⌜ (ROW * r + ROW ≤ length (now table)) × (e < COUNTS) ⌝ }
-    ensures { λ u. ⌜ now (table .exit) ≡ set (now (table .entry)) (ROW * r + COUNTS) (withBit (getD (now (table .entry)) (ROW * r + COUNTS) 0) e) ⌝ }
+    requires { ⌜ (ROW * r + ROW ≤ length (now table)) × (e < MAX-EVENTS) ⌝ }
+    ensures { λ u. ⌜ now (table .exit) ≡ set (now (table .entry)) (ROW * r + MAX-EVENTS) (withBit (getD (now (table .entry)) (ROW * r + MAX-EVENTS) 0) e) ⌝ }
 {
-    let at = ROW * r + COUNTS;
+    let at = ROW * r + MAX_EVENTS;
     table[at] = with_bit(table[at], e);
 }

@@ -1,23 +1,22 @@
 // Taking a word: its prefixes, shortest first, each with its counts. The row of each is looked up, or numbered where there is none, before
 // anything is written.
-use crate::MAX_ROWS;
 use crate::index::INDEX;
 use crate::index::find_row;
 use crate::index::index_rows;
 use crate::index::multiplier_of;
 use crate::rows::mark_row;
-use crate::rows::use_row;
-use nets::COUNTS;
+use crate::rows::visit_row;
+use limits::MAX_EVENTS;
+use limits::MAX_ROWS;
 ghost use mathlib.Core.Path.{_≡_};
 ghost use mathlib.Core.Bool.{cond};
 ghost use Prim.Native.Nat.{_+_, _*_, _<_, _≤_};
 ghost use lib.ListN.{length, getD, set, take};
-ghost use Rattle.nets.specs.Events.{EventsBelow};
-ghost use Rattle.nets.specs.Machine.{COUNTS};
-ghost use Rattle.logs.specs.Rows.{ROW, addEvent, findRow, rowsOf, present, marked, updateAt, absent, rowOr, newRows, numbered, takeWord, none, Holds, Added};
+ghost use Rattle.limits.specs.Limits.{MAX-EVENTS, MAX-ROWS};
+ghost use Rattle.logs.specs.Rows.{ROW, addEvent, findRow, rowsOf, visit, follow, absent, rowOr, newRows, numbered, takeWord, none, Holds, Added};
 ghost use Rattle.logs.specs.Numbering.{used};
 ghost use Rattle.logs.specs.Index.{key as keyOf, Index};
-ghost use Rattle.logs.specs.Answers.{TABLE, MAX-ROWS, MAX-LOG-EVENTS};
+ghost use Rattle.logs.specs.Takable.{Takable};
 
 // 1 for one more, else 0.
 fn one_if(more: bool) -> u16
@@ -32,11 +31,11 @@ fn one_if(more: bool) -> u16
 // Adds an event to the counts. All twelve are written, so that the compiler takes several at a time, and the next comparison need not wait for one
 // of them.
 fn add_event(counts: &mut [u16], e: usize)
-    requires { ⌜ (length (now counts) ≡ COUNTS) × (e < COUNTS) × (getD (now counts) e 0 < 65535) ⌝ }
+    requires { ⌜ (length (now counts) ≡ MAX-EVENTS) × (e < MAX-EVENTS) × (getD (now counts) e 0 < 65535) ⌝ }
     ensures { λ _. ⌜ now (counts .exit) ≡ addEvent (now (counts .entry)) e ⌝ }
 {
     let mut i = 0;
-    while i < COUNTS {
+    while i < MAX_EVENTS {
         counts[i] = counts[i] + one_if(i == e);
         i += 1;
     }
@@ -53,8 +52,11 @@ fn number_row(
     i: usize,
     next: usize,
 ) -> usize
-    requires { ⌜ (rows ≤ MAX-ROWS) × (ROW * rows ≤ length (now table)) × Index rows (now table) (now index) × (key ≡ keyOf counts) × (i < length (now numbers)) × (next < 65536) ⌝ }
-    ensures { λ r. ⌜ (r ≡ next + absent counts (rowsOf rows (now (table .entry)))) × (now (numbers .exit) ≡ set (now (numbers .entry)) i (rowOr (rowsOf rows (now (table .entry))) next counts)) ⌝ }
+    requires { ⌜ (rows ≤ MAX-ROWS) × (ROW * rows ≤ length (now table)) ⌝ }
+    requires { ⌜ Index rows (now table) (now index) × (key ≡ keyOf counts) ⌝ }
+    requires { ⌜ (i < length (now numbers)) × (next < 65536) ⌝ }
+    ensures { λ r. ⌜ r ≡ next + absent counts (rowsOf rows (now (table .entry))) ⌝ }
+    ensures { λ _. ⌜ now (numbers .exit) ≡ set (now (numbers .entry)) i (rowOr (rowsOf rows (now (table .entry))) next counts) ⌝ }
 {
     let r = find_row(table, rows, counts, index, key);
     if r < rows {
@@ -67,8 +69,11 @@ fn number_row(
 
 // Notes the rows of the word's prefixes. Returns how many rows there are with them.
 fn number_rows(table: &[u16], rows: usize, word: &[u8], index: &[u16], numbers: &mut [u16]) -> usize
-    requires { ⌜ (rows ≤ MAX-ROWS) × (ROW * rows ≤ length (now table)) × (length (now word) ≤ MAX-LOG-EVENTS) × EventsBelow COUNTS (now word) × Index rows (now table) (now index) × (length (now word) < length (now numbers)) ⌝ }
-    ensures { λ r. ⌜ (r ≡ rows + newRows (rowsOf rows (now (table .entry))) none (now (word .entry))) × (take (length (now (word .entry)) + 1) (now (numbers .exit)) ≡ numbered (rowsOf rows (now (table .entry))) rows none (now (word .entry))) ⌝ }
+    requires { ⌜ Takable rows (now table) (now word) ⌝ }
+    requires { ⌜ Index rows (now table) (now index) ⌝ }
+    requires { ⌜ length (now word) < length (now numbers) ⌝ }
+    ensures { λ r. ⌜ r ≡ rows + newRows (rowsOf rows (now (table .entry))) none (now (word .entry)) ⌝ }
+    ensures { λ _. ⌜ take (length (now (word .entry)) + 1) (now (numbers .exit)) ≡ numbered (rowsOf rows (now (table .entry))) rows none (now (word .entry)) ⌝ }
 {
     let mut counts = [0u16; 12];
     let mut key = 0;
@@ -84,20 +89,22 @@ fn number_rows(table: &[u16], rows: usize, word: &[u8], index: &[u16], numbers: 
     number_row(table, rows, counts, index, key, numbers, i, next)
 }
 
-// A prefix with these counts, whose row is r, is followed by event e: bit e is set in its row. Returns how many rows there are.
+// Visits a prefix with these counts, whose row is r, and sets the bit of event e, which follows it. Returns how many rows there are.
 fn step(table: &mut [u16], rows: usize, counts: [u16; 12], r: usize, e: usize) -> usize
-    requires { ⌜ (r ≡ findRow counts (rowsOf rows (now table))) × (e < COUNTS) × (ROW * rows ≤ length (now table)) × (ROW * length (present counts (rowsOf rows (now table))) ≤ length (now table)) ⌝ }
-    ensures { λ k. ⌜ Holds k (updateAt (findRow counts (rowsOf rows (now (table .entry)))) (marked e) (present counts (rowsOf rows (now (table .entry))))) (now (table .entry)) (now (table .exit)) ⌝ }
+    requires { ⌜ (r ≡ findRow counts (rowsOf rows (now table))) × (e < MAX-EVENTS) ⌝ }
+    requires { ⌜ (ROW * rows ≤ length (now table)) × (ROW * length (visit counts (rowsOf rows (now table))) ≤ length (now table)) ⌝ }
+    ensures { λ k. ⌜ Holds k (follow counts e (visit counts (rowsOf rows (now (table .entry))))) (now (table .entry)) (now (table .exit)) ⌝ }
 {
-    let k = use_row(table, rows, counts, r);
+    let k = visit_row(table, rows, counts, r);
     mark_row(table, r, e);
     k
 }
 
 // Takes a word whose rows there is room for, and are noted. Returns how many rows there are.
 fn write_word(table: &mut [u16], rows: usize, word: &[u8], numbers: &[u16]) -> usize
-    requires { ⌜ (length (now word) ≤ MAX-LOG-EVENTS) × EventsBelow COUNTS (now word) × (ROW * rows ≤ length (now table)) × (ROW * length (takeWord (rowsOf rows (now table)) none (now word)) ≤ length (now table))
-        × (length (now word) < length (now numbers)) × (take (length (now word) + 1) (now numbers) ≡ used (rowsOf rows (now table)) none (now word)) ⌝ }
+    requires { ⌜ Takable rows (now table) (now word) ⌝ }
+    requires { ⌜ ROW * length (takeWord (rowsOf rows (now table)) none (now word)) ≤ length (now table) ⌝ }
+    requires { ⌜ (length (now word) < length (now numbers)) × (take (length (now word) + 1) (now numbers) ≡ used (rowsOf rows (now table)) none (now word)) ⌝ }
     ensures { λ k. ⌜ Holds k (takeWord (rowsOf rows (now (table .entry))) none (now (word .entry))) (now (table .entry)) (now (table .exit)) ⌝ }
 {
     let mut counts = [0u16; 12];
@@ -109,7 +116,7 @@ fn write_word(table: &mut [u16], rows: usize, word: &[u8], numbers: &[u16]) -> u
         counts[e] = counts[e] + 1;
         i += 1;
     }
-    use_row(table, k, counts, numbers[i] as usize)
+    visit_row(table, k, counts, numbers[i] as usize)
 }
 
 // Takes a word if there is room for its rows. Returns how many rows there are with them; if they are too many, the table is as it was. `numbers`
@@ -121,7 +128,9 @@ pub fn add_word(
     index: &[u16],
     numbers: &mut [u16],
 ) -> usize
-    requires { ⌜ (rows ≤ MAX-ROWS) × (TABLE ≤ length (now table)) × (length (now word) ≤ MAX-LOG-EVENTS) × EventsBelow COUNTS (now word) × Index rows (now table) (now index) × (length (now word) < length (now numbers)) ⌝ }
+    requires { ⌜ Takable rows (now table) (now word) ⌝ }
+    requires { ⌜ Index rows (now table) (now index) ⌝ }
+    requires { ⌜ length (now word) < length (now numbers) ⌝ }
     ensures { λ r. ⌜ Added MAX-ROWS rows (now (word .entry)) (now (table .entry)) (now (table .exit)) r ⌝ }
 {
     let more = number_rows(table, rows, word, index, numbers);
@@ -135,7 +144,7 @@ pub fn add_word(
 const SHORT: usize = 16;
 
 fn add_short_word(table: &mut [u16], rows: usize, word: &[u8]) -> usize
-    requires { ⌜ (rows ≤ MAX-ROWS) × (TABLE ≤ length (now table)) × (length (now word) < 16) × EventsBelow COUNTS (now word) ⌝ }
+    requires { ⌜ Takable rows (now table) (now word) × (length (now word) < 16) ⌝ }
     ensures { λ r. ⌜ Added MAX-ROWS rows (now (word .entry)) (now (table .entry)) (now (table .exit)) r ⌝ }
 {
     let index = [0u16; 1];
@@ -144,7 +153,7 @@ fn add_short_word(table: &mut [u16], rows: usize, word: &[u8]) -> usize
 }
 
 fn add_long_word(table: &mut [u16], rows: usize, word: &[u8]) -> usize
-    requires { ⌜ (rows ≤ MAX-ROWS) × (TABLE ≤ length (now table)) × (length (now word) ≤ MAX-LOG-EVENTS) × EventsBelow COUNTS (now word) ⌝ }
+    requires { ⌜ Takable rows (now table) (now word) ⌝ }
     ensures { λ r. ⌜ Added MAX-ROWS rows (now (word .entry)) (now (table .entry)) (now (table .exit)) r ⌝ }
 {
     let mut index = [0u16; INDEX];
@@ -155,7 +164,7 @@ fn add_long_word(table: &mut [u16], rows: usize, word: &[u8]) -> usize
 
 // Takes a word if there is room for its rows, as `add_word`. (Inner function.)
 pub fn add_alone(table: &mut [u16], rows: usize, word: &[u8]) -> usize
-    requires { ⌜ (rows ≤ MAX-ROWS) × (TABLE ≤ length (now table)) × (length (now word) ≤ MAX-LOG-EVENTS) × EventsBelow COUNTS (now word) ⌝ }
+    requires { ⌜ Takable rows (now table) (now word) ⌝ }
     ensures { λ r. ⌜ Added MAX-ROWS rows (now (word .entry)) (now (table .entry)) (now (table .exit)) r ⌝ }
 {
     if word.len() < SHORT {

@@ -9,26 +9,26 @@ use lib.Dec.{T, leb→le, T-not}
 use lib.ListN.{length}
 use lib.Ieee.Fits.{and-l, and-r}
 use Rattle.laws.specs.Lists.{all, all-member, all-intro, keep, tabulate, tabulate-member}
-use Rattle.nets.specs.Nets.{Log, Net, Place, Step, Term, Certificate, byPlace, byWeights, weighed, placePermits, netPermits, allowed, refusedBy, weighsBefore, weighsAfter, weightsHold, solves, solvesAll, isByPlace}
+use Rattle.nets.specs.Nets.{Log, Net, Place, Step, Term, Weights, Certificate, byPlace, byWeights, weighed, placePermits, netPermits, allowed, refusedBy, weighsBefore, weighsAfter, weightsHold, solves, solvesAll, isByPlace}
 use Rattle.nets.specs.Fits.{Fits}
 use Rattle.nets.specs.Weights.{Weighs, weighed-permits}
 
-module _ (n : ℕ) (log : Log) (s : Step) (k : ℕ) (ts : List Term) (h : T (weightsHold n log s k ts)) where
-  terms-allowed : (t : Term) → List·Memᴰ t ts → T (allowed n log (t .step))
+module _ (n : ℕ) (log : Log) (s : Step) (w : Weights) (h : T (weightsHold n log s w)) where
+  terms-allowed : (t : Term) → List·Memᴰ t (w .terms) → T (allowed n log (t .step))
   unfolding weightsHold
-  terms-allowed t m = all-member (λ t. allowed n log (t .step)) ts (search (and-l, and-r)) m
+  terms-allowed t m = all-member (λ t. allowed n log (t .step)) (w .terms) (search (and-l, and-r)) m
 
-  weighs : Weighs n s k ts
+  weighs : Weighs n s (w .k) (w .terms)
   unfolding weightsHold weighsBefore weighsAfter
   weighs = record {
-    positive = leb→le 1 k (search (and-l, and-r));
-    total = leb→le (weighed (λ t. 1) ts) k (search (and-l, and-r));
-    before = λ i b. leb→le _ _ (all-member (weighsBefore n s k ts) (tabulate n (λ j. j)) (search (and-l, and-r)) (tabulate-member n (λ j. j) i b));
-    after = λ i b. leb→le _ _ (all-member (weighsAfter n s k ts) (tabulate n (λ j. j)) (search (and-l, and-r)) (tabulate-member n (λ j. j) i b));
+    positive = leb→le 1 (w .k) (search (and-l, and-r));
+    total = leb→le (weighed (λ t. 1) (w .terms)) (w .k) (search (and-l, and-r));
+    before = λ i b. leb→le _ _ (all-member (weighsBefore n s w) (tabulate n (λ j. j)) (search (and-l, and-r)) (tabulate-member n (λ j. j) i b));
+    after = λ i b. leb→le _ _ (all-member (weighsAfter n s w) (tabulate n (λ j. j)) (search (and-l, and-r)) (tabulate-member n (λ j. j) i b));
   }
 
   pub weights-permit : s .event < n → (p : Place) → Fits n log p → T (placePermits n p s)
-  weights-permit b p fits = weighed-permits n p ts weighs b (λ t m. fits (t .step) (terms-allowed t m))
+  weights-permit b p fits = weighed-permits n p (w .terms) weighs b (λ t m. fits (t .step) (terms-allowed t m))
 
 pub refused→ : (n : ℕ) (net : Net) (j : ℕ) (s : Step) → T (refusedBy n net j s) → T (netPermits n net s) → ⊥
 unfolding refusedBy netPermits all
@@ -49,7 +49,7 @@ module _ (n : ℕ) (log : Log) (net : Net) (fits : (p : Place) → List·Memᴰ 
       go : (x : Bool) → (T x → ⊥) → true ≡ not x
       go true f = absurd (f tt)
       go false f = refl
-  kind-of s b (byWeights k ts) t = go (netPermits n net s) (all-permit s (λ p m. weights-permit n log s k ts t b p (fits p m)))
+  kind-of s b (byWeights w) t = go (netPermits n net s) (all-permit s (λ p m. weights-permit n log s w t b p (fits p m)))
     where
       go : (x : Bool) → T x → false ≡ not x
       go true u = refl

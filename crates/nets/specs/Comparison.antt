@@ -7,11 +7,11 @@ use Prim.Native.Nat.{ℕ, _<_}
 use lib.Dec.{T, T-not, not-T}
 use lib.ListN.{length}
 use lib.Ieee.Fits.{and-i, and-l, and-r}
-use Rattle.laws.specs.Lists.{all-member, all-intro, keep, keep-in}
+use Rattle.laws.specs.Lists.{all-intro, keep, keep-in}
 use Rattle.laws.specs.Booleans.{decide, same-test}
 use Rattle.laws.specs.Distinct.{distinct-same-length, distinct-keep}
 use Rattle.nets.specs.Nets.{Word, Log, Net, Step, Counts, Certificate, byPlace, byWeights, Bundle, stepAfter, placePermits, netPermits, permits, permitted, stopped, firstRefusing, screen, rows, allowed, continuations, allowedSteps, wrongContinuations, solves, solvesAll, accepted, isByPlace, tally}
-use Rattle.nets.specs.Words.{PermitsLog, Prefix, word-prefix, permits-snoc, permits-prefix, permits-allowed, allowed-more}
+use Rattle.nets.specs.Words.{PermitsLog, →permitsLog, Prefix, word-prefix, permits-snoc, permits-prefix, permits-allowed, allowed-more}
 use Rattle.nets.specs.Rows.{row→, →row, rows-distinct, continuation→, →continuation, allowedStep→, →allowedStep, allowedSteps-distinct, wrong→, →wrong, wrong-distinct}
 use Rattle.nets.specs.Screening.{screen-snoc}
 use Rattle.nets.specs.Fits.{net-fits}
@@ -42,7 +42,7 @@ module _ (n : ℕ) (a : Judged n) where
     where
       go : (c : Certificate) → T (solves n (a .log) (a .net) s c) → T (netPermits n net s)
       go (byPlace j) r = absurd (refused→ n (a .net) j s r t)
-      go (byWeights k ts) r = all-intro (λ p. placePermits n p s) net (λ p q. weights-permit n (a .log) s k ts r (wrong-below s m) p (net-fits n net (a .log) h p q))
+      go (byWeights w) r = all-intro (λ p. placePermits n p s) net (λ p q. weights-permit n (a .log) s w r (wrong-below s m) p (net-fits n net (a .log) h p q))
 
   module _ (w : Word) (pre : Prefix (a .log) w) (e : ℕ) (below : e < n) where
     step-permitted : T (netPermits n (a .net) (stepAfter n w e)) → (net : Net) → PermitsLog n net (a .log) → T (netPermits n net (stepAfter n w e))
@@ -78,7 +78,7 @@ module _ (n : ℕ) (log₁ log₂ : Log) (to : PrefixesIn log₁ log₂) where
 module _ (n : ℕ) (a b : Judged n) (to : PrefixesIn (a .log) (b .log)) where
   -- the second net permits the first log
   permits-first : PermitsLog n (b .net) (a .log)
-  permits-first w m = permits-prefix n (b .net) (b .log) (b .permitted) w (to w (word-prefix (a .log) w m))
+  permits-first = →permitsLog n (b .net) (a .log) (λ w m. permits-prefix n (b .net) (b .log) (b .permitted) w (to w (word-prefix (a .log) w m)))
 
   permits-more : (w : Word) → Prefix (a .log) w → (e : ℕ) → e < n → T (permits n (a .net) (w ++ e ∷ [])) → T (permits n (b .net) (w ++ e ∷ []))
   permits-more w pre e below t = word-permitted n a w pre e below t (b .net) permits-first
@@ -140,7 +140,7 @@ judged b n q t = record {
   log = b .log;
   net = b .net;
   certificates = b .certificates;
-  permitted = λ w m. all-member (permits n (b .net)) (b .log) (rw q (search and-l)) m;
+  permitted = rw q (search and-l);
   solved = rw q (search and-r);
 }
 

@@ -9,6 +9,7 @@ use lib.ListN.{length, getD}
 use lib.Signed.{nonNeg}
 use Rattle.laws.specs.Lists.{all, any, keep, tabulate, equal, member}
 use Rattle.laws.specs.Differences.{sumℤ}
+use Rattle.laws.specs.Scans.{firstFailing}
 
 -- ---- What there is
 
@@ -45,12 +46,17 @@ pub record Term : Type 0 where
   pub step : Step
   pub weight : ℕ
 
+-- k and weighted steps (Farkas weights)
+pub record Weights : Type 0 where
+  pub k : ℕ
+  pub terms : List Term
+
 -- the certificate of a wrong continuation (the answer to a separation problem)
 pub data Certificate : Type 0 where
   -- kind 0: the place of this number refuses the step
   byPlace : ℕ → Certificate
-  -- kind 1: k and weighted steps (Farkas weights) that show that no place which fits can refuse it
-  byWeights : ℕ → List Term → Certificate
+  -- kind 1: weights that show that no place which fits can refuse it
+  byWeights : Weights → Certificate
 
 -- what a bundle holds
 pub record Bundle : Type 0 where
@@ -167,6 +173,10 @@ module _ (n : ℕ) where
   unfoldable pub permits : Net → Word → Bool
   permits net w = permitsAfter net [] w
 
+  -- a net permits the log: every word of it
+  unfoldable pub permitsLog : Net → Log → Bool
+  permitsLog net log = all (permits net) log
+
   -- a place fits (is a region of the log) when it permits every allowed step
   unfoldable pub fits : Log → Place → Bool
   fits log p = all (placePermits p) (allowedSteps log)
@@ -180,26 +190,26 @@ module _ (n : ℕ) where
   refusedBy (p ∷ net) (suc j) s = refusedBy net j s
 
   -- the second inequality at event i: the sum of g × u(i) is at most k × v(i)
-  unfoldable pub weighsBefore : Step → ℕ → List Term → ℕ → Bool
-  weighsBefore s k ts i = leb (weighed (λ t. at (t .row) i) ts) (k * at (s .row) i)
+  unfoldable pub weighsBefore : Step → Weights → ℕ → Bool
+  weighsBefore s w i = leb (weighed (λ t. at (t .row) i) (w .terms)) (w .k * at (s .row) i)
 
   -- the third: the sum of g × (u(i) + [f = i]) is at least k × (v(i) + [e = i])
-  unfoldable pub weighsAfter : Step → ℕ → List Term → ℕ → Bool
-  weighsAfter s k ts i = leb (k * (at (s .row) i + same (s .event) i)) (weighed (λ t. at (t .row) i + same (t .event) i) ts)
+  unfoldable pub weighsAfter : Step → Weights → ℕ → Bool
+  weighsAfter s w i = leb (w .k * (at (s .row) i + same (s .event) i)) (weighed (λ t. at (t .row) i + same (t .event) i) (w .terms))
 
   -- a kind 1 certificate holds: k is at least 1, the terms' steps are allowed, the sum of g is at most k, and the other two at each event
-  unfoldable pub weightsHold : Log → Step → ℕ → List Term → Bool
-  weightsHold log s k ts =
-      leb 1 k
-      && all (λ t. allowed log (t .step)) ts
-      && leb (weighed (λ t. 1) ts) k
-      && all (weighsBefore s k ts) (tabulate n (λ i. i))
-      && all (weighsAfter s k ts) (tabulate n (λ i. i))
+  unfoldable pub weightsHold : Log → Step → Weights → Bool
+  weightsHold log s w =
+      leb 1 (w .k)
+      && all (λ t. allowed log (t .step)) (w .terms)
+      && leb (weighed (λ t. 1) (w .terms)) (w .k)
+      && all (weighsBefore s w) (tabulate n (λ i. i))
+      && all (weighsAfter s w) (tabulate n (λ i. i))
 
   -- a certificate solves the separation problem of a step: it holds for it
   unfoldable pub solves : Log → Net → Step → Certificate → Bool
   solves log net s (byPlace j) = refusedBy net j s
-  solves log net s (byWeights k ts) = weightsHold log s k ts
+  solves log net s (byWeights w) = weightsHold log s w
 
   -- one certificate for each step, in order
   unfoldable pub solvesAll : Log → Net → List Step → List Certificate → Bool
@@ -212,8 +222,7 @@ module _ (n : ℕ) where
 
   -- the lowest place that refuses the step, or the number of places where none does
   unfoldable pub firstRefusing : Net → Step → ℕ
-  firstRefusing [] s = 0
-  firstRefusing (p ∷ net) s = cond (placePermits p s) (suc (firstRefusing net s)) 0
+  firstRefusing net s = firstFailing (λ p. placePermits p s) net
 
   -- the first refused step of w, whose steps follow those of u
   unfoldable pub screenAfter : Net → Word → Word → Screened
@@ -227,16 +236,16 @@ module _ (n : ℕ) where
 
 -- ---- Acceptance
 
--- the net permits every log word, and each wrong continuation has its certificate
+-- the net permits the log, and each wrong continuation has its certificate
 unfoldable pub accepted : Bundle → Bool
 accepted b =
-    all (permits (b .events) (b .net)) (b .log)
+    permitsLog (b .events) (b .net) (b .log)
     && solvesAll (b .events) (b .log) (b .net) (wrongContinuations (b .events) (b .log)) (b .certificates)
 
 -- whether a certificate is of kind 0
 unfoldable pub isByPlace : Certificate → Bool
 isByPlace (byPlace j) = true
-isByPlace (byWeights k ts) = false
+isByPlace (byWeights w) = false
 
 -- the four counts of a verdict: rows, allowed steps, kind 0 and kind 1 certificates
 pub record Tally : Type 0 where

@@ -11,7 +11,8 @@ use lib.Ieee.Fits.{and-i, and-l, and-r}
 use lib.ListN.{length, getD, take, drop, length-append}
 use lib.Seq.{append-snoc, take-at, getD-at, split-at, length-take-le}
 use Rattle.laws.specs.Lists.{all}
-use Rattle.laws.specs.Booleans.{yes-true, no-false, lt-or-le}
+use Rattle.laws.specs.Booleans.{impossible, yes-true, no-false, lt-or-le}
+use Rattle.laws.specs.Scans.{firstFailing}
 use Rattle.nets.specs.Nets.{Word, Net, Step, placePermits, refusedBy, permitted, stopped, stepAfter, netPermits, permitsAfter, permits, firstRefusing, screenAfter, screen}
 use Rattle.nets.specs.Words.{permits-snoc}
 use Rattle.nets.specs.Certificates.{refused→}
@@ -24,7 +25,7 @@ module _ (n : ℕ) (net : Net) where
     where
       go : (b : Bool) → cond b (screenAfter n net (u ++ e ∷ []) w) (stopped (length u) (firstRefusing n net (stepAfter n u e))) ≡ permitted → (screenAfter n net (u ++ e ∷ []) w ≡ permitted → T (permitsAfter n net (u ++ e ∷ []) w)) → T (b && permitsAfter n net (u ++ e ∷ []) w)
       go true r below = below r
-      go false r below = let z : _≡_ {A = ℕ} 0 1 = cc in omega arith
+      go false r below = impossible cc
 
   -- a beginning that is permitted is passed over
   pub screenAfter-append : (w u x : Word) → T (permitsAfter n net u w) → screenAfter n net u (w ++ x) ≡ screenAfter n net (u ++ w) x
@@ -60,7 +61,7 @@ module _ (n : ℕ) (net : Net) where
 -- the place that screening names refuses the step, and no lower one does
 module _ (n : ℕ) (s : Step) where
   pub first-refuses : (net : Net) → T (not (netPermits n net s)) → T (refusedBy n net (firstRefusing n net s) s)
-  unfolding netPermits all firstRefusing refusedBy
+  unfolding netPermits all firstRefusing firstFailing refusedBy
   first-refuses [] t = absurd t
   first-refuses (p ∷ net) t = go (placePermits n p s) refl (first-refuses net) t
     where
@@ -69,7 +70,7 @@ module _ (n : ℕ) (s : Step) where
       go false q below k = rw q tt
 
   pub first-lowest : (net : Net) (j : ℕ) → j < firstRefusing n net s → T (not (refusedBy n net j s))
-  unfolding firstRefusing refusedBy
+  unfolding firstRefusing firstFailing refusedBy
   first-lowest [] j h = tt
   first-lowest (p ∷ net) j h = go (placePermits n p s) refl j h (first-lowest net)
     where
@@ -102,7 +103,7 @@ module _ (n : ℕ) (net : Net) where
 
   stop→ : (w u : Word) (i j : ℕ) → screenAfter n net u w ≡ stopped i j → Stop u w i j
   unfolding screenAfter permitsAfter
-  stop→ [] u i j e = let z : _≡_ {A = ℕ} 0 1 = cc in absurd (omega arith)
+  stop→ [] u i j e = impossible cc
   stop→ (a ∷ w) u i j e = go (netPermits n net (stepAfter n u a)) refl e (stop→ w (u ++ a ∷ []) i j)
     where
       go : (t : Bool) → netPermits n net (stepAfter n u a) ≡ t → cond t (screenAfter n net (u ++ a ∷ []) w) (stopped (length u) (firstRefusing n net (stepAfter n u a))) ≡ stopped i j

@@ -1,10 +1,11 @@
 -- The surplus in natural numbers: a place permits a step exactly when the tokens that the step needs are at most those that were put there.
 use mathlib.Core.Path.{_≡_, sym, ap, ap₂, _∙_, subst}
-use Prim.Native.Nat.{ℕ, _+_, _*_, _≤_, _<_}
+use Prim.Native.Nat.{ℕ, zero, suc, _+_, _*_, _≤_, _<_}
 use native.Mathlib.Nat.{add-zero, add-assoc, zero-mul}
 use native.Mathlib.Numerals.{add-one}
+use native.Mathlib.Omega.{arith}
 use lib.Dec.{T}
-use lib.IntN.{ℤ, pos, subℕ, _+ℤ_, _-ℤ_, _*ℤ_, +ℤ-assoc}
+use lib.IntN.{ℤ, pos, subℕ, _+ℤ_, _-ℤ_, _*ℤ_, +ℤ-assoc, zero-*ℤ}
 use lib.Signed.{nonNeg}
 use Rattle.laws.specs.Sums.{sum, sum-wide}
 use Rattle.laws.specs.Differences.{sumℤ, sumℤ-same, difference-sum, nonNeg-difference, pos-difference, difference-minus}
@@ -42,6 +43,15 @@ tokens-first p v = ap pos (add-zero (p .initial))
 pub tokens-next : (n : ℕ) (p : Place) (v : Counts) → tokens n p v +ℤ pos (at v n) *ℤ (pos (p .produced n) -ℤ pos (p .consumed n)) ≡ tokens (n + 1) p v
 unfolding tokens sumℤ
 tokens-next n p v = rw add-one (+ℤ-assoc (pos (p .initial)) (sumℤ n (λ i. pos (at v i) *ℤ (pos (p .produced i) -ℤ pos (p .consumed i)))) _)
+
+-- of counts that are zero
+pub tokens-zeros : (n : ℕ) (p : Place) (v : Counts) → ((i : ℕ) → i < n → at v i ≡ 0) → tokens n p v ≡ pos (p .initial)
+tokens-zeros zero p v h = tokens-first p v
+tokens-zeros (suc n) p v h =
+    ap (λ (k : ℕ). tokens k p v) (sym (add-one n))
+    ∙ sym (tokens-next n p v)
+    ∙ ap₂ _+ℤ_ (tokens-zeros n p v (λ i b. h i (omega arith))) (ap (λ (k : ℕ). pos k *ℤ (pos (p .produced n) -ℤ pos (p .consumed n))) (h n (omega arith)) ∙ zero-*ℤ (pos (p .produced n) -ℤ pos (p .consumed n)))
+    ∙ ap pos (add-zero (p .initial))
 
 module _ (n : ℕ) (p : Place) (s : Step) where
   pub surplus-is : surplus n p s ≡ subℕ (given n p (s .row)) (taken n p (s .row) + p .consumed (s .event))

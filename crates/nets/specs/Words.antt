@@ -7,8 +7,8 @@ use Prim.Native.Nat.{ℕ}
 use lib.Dec.{T}
 use lib.Seq.{append-snoc}
 use lib.Ieee.Fits.{and-i, and-l, and-r}
-use Rattle.laws.specs.Lists.{any-witness, any-intro, equal, equal→eq, eq→equal, member, member→, →member, flatMap-member, flatMap-intro}
-use Rattle.nets.specs.Nets.{Word, Log, Net, Step, counts, stepAfter, netPermits, permitsAfter, permits, beginnings, prefixes, allowed}
+use Rattle.laws.specs.Lists.{all-member, all-intro, any-witness, any-intro, equal, equal→eq, eq→equal, member, member→, →member, flatMap-member, flatMap-intro}
+use Rattle.nets.specs.Nets.{Word, Log, Net, Step, counts, stepAfter, netPermits, permitsAfter, permits, permitsLog, beginnings, prefixes, allowed}
 
 -- ---- prefixes
 
@@ -65,9 +65,18 @@ prefix-shorter log u s m = ⊎-elim (nil u) longer (prefix→ log (u ++ s) m)
 
 -- ---- permitted words
 
--- a net permits all words of a log
+-- a net permits a log, which is what 'every net that permits all words of the log' means
 abbrev pub PermitsLog : ℕ → Net → Log → Type 0
-PermitsLog n net log = (w : Word) → List·Memᴰ w log → T (permits n net w)
+PermitsLog n net log = T (permitsLog n net log)
+
+module _ (n : ℕ) (net : Net) (log : Log) where
+  pub permits-word : PermitsLog n net log → (w : Word) → List·Memᴰ w log → T (permits n net w)
+  unfolding permitsLog
+  permits-word h w m = all-member (permits n net) log h m
+
+  pub →permitsLog : ((w : Word) → List·Memᴰ w log → T (permits n net w)) → PermitsLog n net log
+  unfolding permitsLog
+  →permitsLog f = all-intro (permits n net) log f
 
 module _ (n : ℕ) (net : Net) where
   pub permits-empty : T (permits n net [])
@@ -102,7 +111,7 @@ module _ (n : ℕ) (net : Net) where
       empty e = subst (λ (x : Word). T (permits n net x)) (sym e) permits-empty
 
       long : (w : Word) × List·Memᴰ w log × Begins u w → T (permits n net u)
-      long r = permits-shorter u (r .2 .0) (subst (λ (x : Word). T (permits n net x)) (sym (r .2 .1)) (h (r .0) (r .1)))
+      long r = permits-shorter u (r .2 .0) (subst (λ (x : Word). T (permits n net x)) (sym (r .2 .1)) (permits-word n net log h (r .0) (r .1)))
 
 -- ---- allowed steps
 
@@ -152,4 +161,4 @@ module _ (n : ℕ) (net : Net) (log : Log) (h : (s : Step) → T (allowed n log 
 
   pub steps-permit : PermitsLog n net log
   unfolding permits
-  steps-permit w m = allowed-permits w [] (word-prefix log w m)
+  steps-permit = →permitsLog n net log (λ w m. allowed-permits w [] (word-prefix log w m))

@@ -1,17 +1,16 @@
 // Places of a net: what a place permits after given counts of events. The events of a word, and the masks of a log table.
 // The definitions are in specs/Nets.antt, over numbers of any size.
+use limits::MAX_EVENTS;
 ghost use mathlib.Core.Path.{_≡_};
 ghost use Prim.Native.Nat.{_≤_, _<_};
 ghost use lib.IntN.{pos, _-ℤ_, _*ℤ_};
 ghost use lib.ListN.{length};
 ghost use lib.Signed.{nonNeg};
 ghost use Rattle.laws.specs.Bits.{bit, withBit};
+ghost use Rattle.limits.specs.Limits.{MAX-EVENTS};
 ghost use Rattle.nets.specs.Nets.{tokens as tokensAfter};
 ghost use Rattle.nets.specs.Events.{firstBad};
-ghost use Rattle.nets.specs.Machine.{COUNTS, placeOf, Held};
-
-// The counts of a row: as many as a bundle may have events.
-pub const COUNTS: usize = 12;
+ghost use Rattle.nets.specs.Machine.{placeOf, Held};
 
 // A place: its initial tokens m, and for each event the tokens in(i) that it puts there and out(i) that it takes.
 pub struct Place {
@@ -29,13 +28,13 @@ pub fn gain(count: u16, produced: u16, consumed: u16) -> i64
 
 // The tokens in a place after the events of `counts`: negative where it could not permit them all. (Inner function.)
 pub fn tokens(place: Place, counts: &[u16]) -> i64
-    requires { ⌜ COUNTS ≤ length (now counts) ⌝ }
-    ensures { λ r. ⌜ r ≡ tokensAfter COUNTS (placeOf place) (now (counts .entry)) ⌝ }
+    requires { ⌜ MAX-EVENTS ≤ length (now counts) ⌝ }
+    ensures { λ r. ⌜ r ≡ tokensAfter MAX-EVENTS (placeOf place) (now (counts .entry)) ⌝ }
     ensures { λ r. ⌜ Held r ⌝ }
 {
     let mut total = place.initial as i64;
     let mut i = 0;
-    while i < COUNTS {
+    while i < MAX_EVENTS {
         total += gain(counts[i], place.produced[i], place.consumed[i]);
         i += 1;
     }

@@ -1,11 +1,11 @@
 -- What a call that writes bytes answers, and what its output holds afterwards.
 use mathlib.Core.List.{List}
-use mathlib.Core.Bool.{Bool, cond}
 use Prim.Native.Nat.{ℕ}
 use lib.ListN.{length}
 use lib.Dec.{leb}
 use Rattle.laws.specs.Parts.{front}
 use Rattle.refusals.specs.Table.{OUTPUT-SHORT}
+use Rattle.refusals.specs.Results.{Result, value, refused, _>>=_, _>>_, require}
 use Rattle.refusals.specs.declared.Refusal.{Refusal}
 use Rattle.refusals.specs.declared.Written.{Written}
 use Rattle.refusals.specs.declared.Written.the-variants.{Length, Refused}
@@ -13,24 +13,28 @@ use Rattle.refusals.specs.declared.Written.the-variants.{Length, Refused
 abbrev pub refusal : ℕ → ℕ → Refusal
 refusal n at = record { number = n; spot = at }
 
--- an answer where a test passes, else a refusal
-unfoldable pub provided : {A : Type 0} → (Refusal → A) → Bool → ℕ → ℕ → A → A
-provided refuse passed number spot a = cond passed a (refuse (refusal number spot))
+-- the bytes that a call owes, where an output of `room` bytes takes them; else OUTPUT-SHORT with the length needed
+unfoldable pub fitted : Result (List ℕ) → ℕ → Result (List ℕ)
+fitted result room = do
+  new ← result
+  require (leb (length new) room) OUTPUT-SHORT (length new)
+  value new
 
--- what a call owes, before its output is looked at: bytes, or a refusal
-pub data Result : Type 0 where
-  bytes : List ℕ → Result
-  refused : Refusal → Result
+-- the answer: the length written, or the refusal
+unfoldable pub answerOf : Result (List ℕ) → Written
+answerOf (value new) = Length (length new)
+answerOf (refused number spot) = Refused (refusal number spot)
 
--- the answer, for an output of `room` bytes: the length written, or the refusal; OUTPUT-SHORT with the length needed where the room is too small
-unfoldable pub answer : Result → ℕ → Written
-answer (bytes new) room = cond (leb (length new) room) (Length (length new)) (Refused (refusal OUTPUT-SHORT (length new)))
-answer (refused r) room = Refused r
+unfoldable pub answer : Result (List ℕ) → ℕ → Written
+answer result room = answerOf (fitted result room)
 
 -- the output afterwards: the result in front and the rest untouched; a refusal writes nothing
-unfoldable pub written : Result → List ℕ → List ℕ
-written (bytes new) output = cond (leb (length new) (length output)) (front new output) output
-written (refused r) output = output
+unfoldable pub outputOf : Result (List ℕ) → List ℕ → List ℕ
+outputOf (value new) output = front new output
+outputOf (refused number spot) output = output
+
+unfoldable pub written : Result (List ℕ) → List ℕ → List ℕ
+written result output = outputOf (fitted result (length output)) output
 
 -- an answer as numbers: 0 for a result, else the refusal's number; and the length, or the refusal's spot
 unfoldable pub numberOf : Written → ℕ

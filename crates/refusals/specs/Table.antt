@@ -1,7 +1,5 @@
--- The numbers of the refusal table, by the names that the code has for them, and the rule that three calls share.
-use mathlib.Core.Bool.{Bool, _&&_}
+-- The numbers of the refusal table, by the names that the code has for them.
 use Prim.Native.Nat.{ℕ}
-use lib.Dec.{leb}
 
 abbrev pub FILE-LENGTH : ℕ
 FILE-LENGTH = 1
@@ -50,7 +48,3 @@ WORD-EVENT = 15
 
 abbrev pub SUMMARY : ℕ
 SUMMARY = 16
-
--- a bundle has 1 to 64,512 bytes, or refusal 4 meets the call
-unfoldable pub rightSize : ℕ → Bool
-rightSize n = leb 1 n && leb n 64512

@@ -1,13 +1,14 @@
 -- Screening by positions: the answer is the lowest position that some place refuses, then the lowest place that refuses it.
 -- It may be found place by place, each one followed only up to the best position so far.
 use mathlib.Core.Path.{_≡_, refl, sym, ap, ap₂, _∙_}
-use mathlib.Core.Bool.{Bool, true, false, cond, _&&_, and-true, and-assoc}
+use mathlib.Core.Bool.{Bool, true, false, _&&_, and-true, and-assoc}
 use mathlib.Core.List.{[], _∷_, _++_, append-nil, append-assoc}
 use Prim.Native.Nat.{ℕ, zero, suc, _+_, _≤_, _<_}
 use native.Mathlib.Nat.{not-suc-le-zero, le-of-suc-le-suc}
 use native.Mathlib.Omega.{arith}
 use lib.ListN.{length, take, getD, length-append}
 use Rattle.laws.specs.Lists.{all}
+use Rattle.laws.specs.Scans.{failing-append, failing-found, all-failing, some-failing}
 use Rattle.nets.specs.Nets.{Word, Net, Place, Step, permitted, stopped, stepAfter, placePermits, netPermits, firstRefusing, screenAfter, screen}
 
 module _ (n : ℕ) where
@@ -66,23 +67,13 @@ module _ (n : ℕ) where
 
     -- a place that is refused already stays the lowest
     lowest-stays : (net : Net) → netPermits n net s ≡ false → firstRefusing n (net ++ p ∷ []) s ≡ firstRefusing n net s
-    unfolding netPermits all firstRefusing
-    lowest-stays [] e = absurd (let z : _≡_ {A = ℕ} 0 1 = cc in omega arith)
-    lowest-stays (q ∷ net) e = go (placePermits n q s) e (lowest-stays net)
-      where
-        go : (t : Bool) → (t && netPermits n net s) ≡ false → (netPermits n net s ≡ false → firstRefusing n (net ++ p ∷ []) s ≡ firstRefusing n net s) → cond t (suc (firstRefusing n (net ++ p ∷ []) s)) 0 ≡ cond t (suc (firstRefusing n net s)) 0
-        go true r below = ap suc (below r)
-        go false r below = refl
+    unfolding netPermits firstRefusing
+    lowest-stays net e = failing-found (λ q. placePermits n q s) net (p ∷ []) (some-failing (λ q. placePermits n q s) net e)
 
     -- the new one is the lowest where no other refuses
     lowest-new : (net : Net) → netPermits n net s ≡ true → placePermits n p s ≡ false → firstRefusing n (net ++ p ∷ []) s ≡ length net
-    unfolding netPermits all firstRefusing
-    lowest-new [] e r = rw r
-    lowest-new (q ∷ net) e r = go (placePermits n q s) e (λ t. lowest-new net t r)
-      where
-        go : (t : Bool) → (t && netPermits n net s) ≡ true → (netPermits n net s ≡ true → firstRefusing n (net ++ p ∷ []) s ≡ length net) → cond t (suc (firstRefusing n (net ++ p ∷ []) s)) 0 ≡ suc (length net)
-        go true k below = ap suc (below k)
-        go false k below = absurd (let z : _≡_ {A = ℕ} 0 1 = cc in omega arith)
+    unfolding netPermits firstRefusing
+    lowest-new net e r = failing-append (λ q. placePermits n q s) net p [] r ∙ all-failing (λ q. placePermits n q s) net e
 
   -- ---- the best position so far
 

@@ -13,18 +13,22 @@ use lib.IntN.{pos}
 use lib.ListN.{length, take, length-map, length-take, length-append}
 use lib.Seq.{take-take, getD-take}
 use Rattle.laws.specs.Booleans.{lt-or-le}
+use Rattle.limits.specs.Limits.{MAX-WORD-EVENTS}
 use Rattle.nets.specs.Nets.{Word, Net, Place, stepAfter, placePermits}
 use Rattle.nets.specs.Events.{EventsBelow}
 use Rattle.nets.specs.Machine as machine
 use Rattle.nets.specs.Markings.{tokens-none}
 use Rattle.nets.specs.declared.Place as declared
-use Rattle.bundles.specs.Layout.{toPlace}
+use Rattle.bundles.specs.Layout.{toPlace, toNet}
+use Rattle.bundles.specs.Readers.{eventsIn, netIn}
+use Rattle.bundles.specs.HeadSteps.{HeadAt}
 use Rattle.bundles.specs.NumberSteps.{itemsAt, items-length, items-snoc}
 use Rattle.bundles.specs.PlaceSteps.{placeSize, fieldsAt, placeOn, machinePlace, place-means}
-use Rattle.bundles.specs.declared.Places as declared-places
+use Rattle.bundles.specs.declared.Places.{Places}
+use Rattle.bundles.specs.declared.Head.{Head}
 use Rattle.screening.specs.Positions.{stepAt, Best, best-stays, best-earlier}
 use Rattle.screening.specs.Replay.{First, reach, replay, replay-first, replay-take}
-use Rattle.screening.specs.declared.Stop.{Stop}
+use Rattle.screening.specs.declared.Found.{Found}
 
 -- up to k of a word that goes on
 pub reach-take : (p : Place) (w : Word) (k best : ℕ) → k ≤ best → reach p (take k w) ≡ min k (reach p (take best w))
@@ -32,11 +36,11 @@ unfolding reach
 reach-take p w k best h = ap (replay p (pos (p .initial))) (sym (take-take k best w h)) ∙ replay-take p (take best w) k (pos (p .initial))
 
 -- the first stop of two, and which of them it is: 0 for the first one, also where both stop there
-abbrev pub firstOf : ℕ → ℕ → Stop
+abbrev pub firstOf : ℕ → ℕ → Found
 firstOf a b = record { position = min a b; place = cond (leb a b) 0 1 }
 
-pub stop-place : (s : Stop) (a b : ℕ) → s ≡ firstOf a b → s .place ≤ 1
-stop-place s a b e = subst (λ (x : Stop). x .place ≤ 1) (sym e) (go (leb a b))
+pub found-place : (s : Found) (a b : ℕ) → s ≡ firstOf a b → s .place ≤ 1
+found-place s a b e = subst (λ (x : Found). x .place ≤ 1) (sym e) (go (leb a b))
   where
     go : (t : Bool) → cond t 0 1 ≤ 1
     go true = omega arith
@@ -67,12 +71,26 @@ net-start n b first net = append-nil net
 net-length : (n : ℕ) (b : List ℕ) (first j : ℕ) → length (netAt n b first j) ≡ j
 net-length n b first j = length-map (itemsAt (placeSize n) (fieldsAt n) j b first) toPlace ∙ items-length (placeSize n) (fieldsAt n) j b first
 
--- a word over n events, and places that are there: what the search asks
-pub record Searchable (n : ℕ) (b : List ℕ) (places : declared-places.Places) (w : Word) : Type 0 where
-  pub limit : n ≤ 12
-  pub inside : places .first + 2 * (places .count * placeSize n) ≤ length b
-  pub size : length w ≤ 65535
+-- the net of a bundle whose head was read
+pub net-is : {b : List ℕ} {n : ℕ} {ps : Places} → HeadAt b n ps → netIn b ≡ netAt n b (ps .first) (ps .count)
+unfolding toNet
+net-is found = ap (map toPlace) (found .places)
+
+-- what a search says of the places of a bundle is said of its net
+pub over-head : {b : List ℕ} {n : ℕ} {ps : Places} → HeadAt b n ps → {before best lowest best′ lowest′ : ℕ} {w : Word}
+    → ((net : Net) → length net ≡ before → Best n net w best lowest → Best n (net ++ netAt n b (ps .first) (ps .count)) w best′ lowest′)
+    → (net : Net) → length net ≡ before → Best (eventsIn b) net w best lowest → Best (eventsIn b) (net ++ netIn b) w best′ lowest′
+over-head found search net size best = rw (net-is found, found .events) (search net size (rw (found .events) at best))
+
+-- a word over n events that may be screened
+pub record WordOver (n : ℕ) (w : Word) : Type 0 where
+  pub size : length w ≤ MAX-WORD-EVENTS
   pub events : EventsBelow n w
+
+-- a head that was read, and a word over its events: what the search asks
+pub record Searchable (b : List ℕ) (head : Head) (w : Word) : Type 0 where
+  pub found : HeadAt b (head .n) (head .places)
+  pub word : WordOver (head .n) w
 
 -- ---- one place more
 

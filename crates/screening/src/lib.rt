@@ -1,12 +1,10 @@
 // Screening a word: the first step that a bundle's net refuses. The contracts cite specs/Screening.antt.
 use bundles::Head;
 use bundles::HeadRead;
-use bundles::Places;
-use bundles::size_fits;
+use limits::MAX_WORD_EVENTS;
 use nets::Place;
 use nets::covers;
 use nets::first_bad;
-use refusals::BUNDLE_LENGTH;
 use refusals::Refusal;
 use refusals::WORD_EVENT;
 use refusals::WORD_LENGTH;
@@ -15,25 +13,30 @@ ghost use mathlib.Core.List.{_++_};
 ghost use Prim.Native.Nat.{_+_, _*_, _/_, _≤_};
 ghost use lib.IntN.{pos, _+ℤ_, _-ℤ_};
 ghost use lib.ListN.{length, take};
+ghost use Rattle.limits.specs.Limits.{MAX-EVENTS, MAX-PLACES, MAX-WORD-EVENTS};
 ghost use Rattle.refusals.specs.Answers.{refusal};
 ghost use Rattle.nets.specs.Nets.{Net, screen as screenWord};
-ghost use Rattle.nets.specs.Events.{EventsBelow};
-ghost use Rattle.nets.specs.Machine.{COUNTS, placeOf, Held};
-ghost use Rattle.bundles.specs.Readers.{anyRows, head};
+ghost use Rattle.nets.specs.Machine.{placeOf, Held};
+ghost use Rattle.bundles.specs.Readers.{bundleHead, eventsIn, netIn};
 ghost use Rattle.bundles.specs.HeadSteps.{headRead};
 ghost use Rattle.bundles.specs.PlaceSteps.{placeSize, placeOn};
-ghost use Rattle.screening.specs.Screening.{MAX-WORD, replayed, screenedOn, screened};
+ghost use Rattle.screening.specs.Screening.{replayed, screened};
 ghost use Rattle.screening.specs.Positions.{Best};
 ghost use Rattle.screening.specs.Replay.{reach};
-ghost use Rattle.screening.specs.Searching.{Searchable, netAt, firstOf};
-
-// The most events that a screened word may have.
-pub const MAX_WORD: usize = 65535;
+ghost use Rattle.screening.specs.Searching.{WordOver, Searchable, netAt, firstOf};
+ghost use Rattle.screening.specs.Steps.{answerOn};
 
 // The position of the first refused step, and the lowest place that refuses it.
 pub struct Stop {
     pub position: usize,
     pub place: usize,
+}
+
+// What the search carries from place to place: the first position that one of the places so far refuses, and the lowest place that does. A word
+// that none of them refuses has its length for a position.
+struct Found {
+    position: usize,
+    place: usize,
 }
 
 // The answer of screening.
@@ -59,7 +62,7 @@ fn tokens_behind(tokens: i64, produced: u16, consumed: u16) -> i64
 
 // How many steps of a word a place permits, one after another.
 fn steps_permitted(place: Place, word: &[u8]) -> usize
-    requires { ⌜ (length (now word) ≤ MAX-WORD) × EventsBelow COUNTS (now word) ⌝ }
+    requires { ⌜ WordOver MAX-EVENTS (now word) ⌝ }
     ensures { λ r. ⌜ r ≡ reach (placeOf place) (now (word .entry)) ⌝ }
 {
     let mut tokens = place.initial as i64;
@@ -77,9 +80,9 @@ fn steps_permitted(place: Place, word: &[u8]) -> usize
 }
 
 // The first step that one of two places refuses, and which of them: 0 for the first one, which goes first. Two at once, since each step of one
-// place waits for the step before. A word that is not refused has its length for a position.
-fn pair_permitted(one: Place, two: Place, word: &[u8]) -> Stop
-    requires { ⌜ (length (now word) ≤ MAX-WORD) × EventsBelow COUNTS (now word) ⌝ }
+// place waits for the step before.
+fn pair_permitted(one: Place, two: Place, word: &[u8]) -> Found
+    requires { ⌜ WordOver MAX-EVENTS (now word) ⌝ }
     ensures { λ r. ⌜ r ≡ firstOf (reach (placeOf one) (now (word .entry))) (reach (placeOf two) (now (word .entry))) ⌝ }
 {
     let mut first = one.initial as i64;
@@ -89,14 +92,14 @@ fn pair_permitted(one: Place, two: Place, word: &[u8]) -> Stop
         let event = word[i] as usize;
         let consumed = one.consumed[event];
         if !covers(first, consumed) {
-            return Stop {
+            return Found {
                 position: i,
                 place: 0,
             };
         }
         let taken = two.consumed[event];
         if !covers(second, taken) {
-            return Stop {
+            return Found {
                 position: i,
                 place: 1,
             };
@@ -105,7 +108,7 @@ fn pair_permitted(one: Place, two: Place, word: &[u8]) -> Stop
         second = tokens_behind(second, two.produced[event], taken);
         i += 1;
     }
-    Stop {
+    Found {
         position: i,
         place: 0,
     }
@@ -113,7 +116,8 @@ fn pair_permitted(one: Place, two: Place, word: &[u8]) -> Stop
 
 // How many of the word's first `end` steps the place at an offset permits.
 fn reach_of(bundle: &[u8], at: usize, n: usize, word: &[u8], end: usize) -> usize
-    requires { ⌜ (n ≤ 12) × (at + 2 * placeSize n ≤ length (now bundle)) × (end ≤ length (now word)) × (length (now word) ≤ MAX-WORD) × EventsBelow n (now word) ⌝ }
+    requires { ⌜ (n ≤ MAX-EVENTS) × WordOver n (now word) ⌝ }
+    requires { ⌜ (at + 2 * placeSize n ≤ length (now bundle)) × (end ≤ length (now word)) ⌝ }
     ensures { λ r. ⌜ r ≡ reach (placeOn n (now (bundle .entry)) at) (take end (now (word .entry))) ⌝ }
 {
     let place = bundles::net::place_at(bundle, at, n);
@@ -121,8 +125,9 @@ fn reach_of(bundle: &[u8], at: usize, n: usize, word: &[u8], end: usize) -> usiz
 }
 
 // The first of the word's first `end` steps that one of the two places at an offset refuses, and which of them.
-fn pair_at(bundle: &[u8], at: usize, n: usize, word: &[u8], end: usize) -> Stop
-    requires { ⌜ (n ≤ 12) × (at + 2 * (2 * placeSize n) ≤ length (now bundle)) × (end ≤ length (now word)) × (length (now word) ≤ MAX-WORD) × EventsBelow n (now word) ⌝ }
+fn pair_at(bundle: &[u8], at: usize, n: usize, word: &[u8], end: usize) -> Found
+    requires { ⌜ (n ≤ MAX-EVENTS) × WordOver n (now word) ⌝ }
+    requires { ⌜ (at + 2 * (2 * placeSize n) ≤ length (now bundle)) × (end ≤ length (now word)) ⌝ }
     ensures { λ r. ⌜ r ≡ firstOf (reach (placeOn n (now (bundle .entry)) at) (take end (now (word .entry)))) (reach (placeOn n (now (bundle .entry)) (at + 2 * placeSize n)) (take end (now (word .entry)))) ⌝ }
 {
     let one = bundles::net::place_at(bundle, at, n);
@@ -132,22 +137,17 @@ fn pair_at(bundle: &[u8], at: usize, n: usize, word: &[u8], end: usize) -> Stop
 
 // The first refused step of a word with the places of a bundle but for an odd last one. They follow `before` places whose first refused step
 // is `from`. Each place is read once, and followed up to the best position so far.
-fn search_pairs(
-    bundle: &[u8],
-    n: usize,
-    places: Places,
-    word: &[u8],
-    before: usize,
-    from: Stop,
-) -> Stop
-    requires { ⌜ Searchable n (now bundle) places (now word) × (before ≤ 64) × (from .position ≤ length (now word)) ⌝ }
+fn search_pairs(bundle: &[u8], head: Head, word: &[u8], before: usize, from: Found) -> Found
+    requires { ⌜ Searchable (now bundle) head (now word) ⌝ }
+    requires { ⌜ (before ≤ MAX-PLACES) × (from .position ≤ length (now word)) ⌝ }
     ensures { λ r. ⌜ r .position ≤ length (now (word .entry)) ⌝ }
-    ensures { λ r. ⌜ ((net : Net) → length net ≡ before → Best n net (now (word .entry)) (from .position) (from .place)
-        → Best n (net ++ netAt n (now (bundle .entry)) (places .first) (2 * (places .count / 2))) (now (word .entry)) (r .position) (r .place)) ⌝ }
+    ensures { λ r. ⌜ ((net : Net) → length net ≡ before → Best (head .n) net (now (word .entry)) (from .position) (from .place)
+        → Best (head .n) (net ++ netAt (head .n) (now (bundle .entry)) (head .places .first) (2 * (head .places .count / 2))) (now (word .entry)) (r .position) (r .place)) ⌝ }
 {
+    let n = head.n;
     let size = 4 * (1 + 2 * n);
-    let pairs = places.count / 2;
-    let mut at = places.first;
+    let pairs = head.places.count / 2;
+    let mut at = head.places.first;
     let mut best = from.position;
     let mut lowest = from.place;
     let mut k = 0;
@@ -160,69 +160,64 @@ fn search_pairs(
         at += size;
         k += 1;
     }
-    Stop {
+    Found {
         position: best,
         place: lowest,
     }
 }
 
 // The first refused step of a word with the places of a bundle, which follow `before` places whose first refused step is `from`.
-fn search_places(
-    bundle: &[u8],
-    n: usize,
-    places: Places,
-    word: &[u8],
-    before: usize,
-    from: Stop,
-) -> Stop
-    requires { ⌜ Searchable n (now bundle) places (now word) × (before ≤ 64) × (from .position ≤ length (now word)) ⌝ }
-    ensures { λ r. ⌜ ((net : Net) → length net ≡ before → Best n net (now (word .entry)) (from .position) (from .place)
-        → Best n (net ++ netAt n (now (bundle .entry)) (places .first) (places .count)) (now (word .entry)) (r .position) (r .place)) ⌝ }
+fn search_places(bundle: &[u8], head: Head, word: &[u8], before: usize, from: Found) -> Found
+    requires { ⌜ Searchable (now bundle) head (now word) ⌝ }
+    requires { ⌜ (before ≤ MAX-PLACES) × (from .position ≤ length (now word)) ⌝ }
+    ensures { λ r. ⌜ ((net : Net) → length net ≡ before → Best (eventsIn (now (bundle .entry))) net (now (word .entry)) (from .position) (from .place)
+        → Best (eventsIn (now (bundle .entry))) (net ++ netIn (now (bundle .entry))) (now (word .entry)) (r .position) (r .place)) ⌝ }
 {
-    let found = search_pairs(bundle, n, places, word, before, from);
-    let paired = 2 * (places.count / 2);
-    if places.count <= paired {
+    let found = search_pairs(bundle, head, word, before, from);
+    let paired = 2 * (head.places.count / 2);
+    if head.places.count <= paired {
         return found;
     }
-    let at = places.first + 2 * (paired * (1 + 2 * n));
-    let position = reach_of(bundle, at, n, word, found.position);
+    let at = head.places.first + 2 * (paired * (1 + 2 * head.n));
+    let position = reach_of(bundle, at, head.n, word, found.position);
     if found.position <= position {
         return found;
     }
-    Stop {
+    Found {
         position,
         place: before + paired,
     }
 }
 
 // The replay of a word on the places of a bundle.
-fn screen_places(bundle: &[u8], n: usize, places: Places, word: &[u8]) -> Screened
-    requires { ⌜ Searchable n (now bundle) places (now word) ⌝ }
-    ensures { λ r. ⌜ r ≡ replayed (screenWord n (netAt n (now (bundle .entry)) (places .first) (places .count)) (now (word .entry))) ⌝ }
+fn screen_places(bundle: &[u8], head: Head, word: &[u8]) -> Screened
+    requires { ⌜ Searchable (now bundle) head (now word) ⌝ }
+    ensures { λ r. ⌜ r ≡ replayed (screenWord (eventsIn (now (bundle .entry))) (netIn (now (bundle .entry))) (now (word .entry))) ⌝ }
 {
-    let start = Stop {
+    let start = Found {
         position: word.len(),
         place: 0,
     };
-    let stop = search_places(bundle, n, places, word, 0, start);
-    if stop.position < word.len() {
-        return Screened::Stopped(stop);
+    let found = search_places(bundle, head, word, 0, start);
+    if found.position < word.len() {
+        return Screened::Stopped(Stop {
+            position: found.position,
+            place: found.place,
+        });
     }
     Screened::Permitted
 }
 
 // A word with a head that was read: 15 over the whole word, then the replay.
-fn screen_word(bundle: &[u8], read: Head, word: &[u8]) -> Screened
-    requires { ⌜ (headRead (head anyRows (now bundle) 0) ≡ HeadRead.Read read) × (length (now word) ≤ MAX-WORD) ⌝ }
-    ensures { λ r. ⌜ r ≡ screenedOn (now (word .entry)) (head anyRows (now (bundle .entry)) 0) ⌝ }
+fn screen_word(bundle: &[u8], head: Head, word: &[u8]) -> Screened
+    requires { ⌜ (headRead (bundleHead (now bundle) 0) ≡ HeadRead.Read head) × (length (now word) ≤ MAX-WORD-EVENTS) ⌝ }
+    ensures { λ r. ⌜ r ≡ answerOn (now (word .entry)) (now (bundle .entry)) (bundleHead (now (bundle .entry)) 0) ⌝ }
 {
-    let n = read.n;
-    let bad = first_bad(word, n);
+    let bad = first_bad(word, head.n);
     if bad < word.len() {
         return refused(WORD_EVENT, bad);
     }
-    let places = read.places;
-    screen_places(bundle, n, places, word)
+    screen_places(bundle, head, word)
 }
 
 // Screens a word with a bundle, which is read up to its last place and need not be accepted.
@@ -230,11 +225,8 @@ fn screen_word(bundle: &[u8], read: Head, word: &[u8]) -> Screened
 pub fn screen(bundle: &[u8], word: &[u8]) -> Screened
     ensures { λ r. ⌜ r ≡ screened (now (bundle .entry)) (now (word .entry)) ⌝ }
 {
-    if MAX_WORD < word.len() {
-        return refused(WORD_LENGTH, MAX_WORD);
-    }
-    if !size_fits(bundle) {
-        return refused(BUNDLE_LENGTH, 0);
+    if MAX_WORD_EVENTS < word.len() {
+        return refused(WORD_LENGTH, MAX_WORD_EVENTS);
     }
     match bundles::read_head(bundle) {
         HeadRead::Refused(refusal) => Screened::Refused(refusal),

@@ -1,51 +1,49 @@
 -- Judging on bytes: which verdict a bundle gets, with the refusals' numbers and spots, and what it leaves in the table.
-use mathlib.Core.Bool.{Bool, cond, _&&_}
+use mathlib.Core.Bool.{cond, _&&_}
 use mathlib.Core.List.{List, []}
 use Prim.Native.Nat.{ℕ}
 use lib.Dec.{leb}
 use lib.ListN.{length}
 use Rattle.laws.specs.Lists.{all}
 use Rattle.laws.specs.Scans.{firstFailing}
-use Rattle.refusals.specs.Table.{BUNDLE-LENGTH, TABLE-SHORT, PLACE-FIT, PLACE-PERMITS, WEIGHTS, BYTES-FOLLOW}
-use Rattle.refusals.specs.Answers.{refusal, provided}
-use Rattle.nets.specs.Nets.{Log, Step, Tally, rows, fits, wrongContinuations, solves, tally}
+use Rattle.limits.specs.Limits.{rightSize}
+use Rattle.refusals.specs.Table.{TABLE-SHORT, PLACE-FIT, PLACE-PERMITS, WEIGHTS, BYTES-FOLLOW}
+use Rattle.refusals.specs.Answers.{refusal}
+use Rattle.nets.specs.Nets.{Step, Tally, tally}
 use Rattle.logs.specs.Rows.{withRows, cleared}
-use Rattle.logs.specs.Answers.{TABLE, MAX-ROWS}
+use Rattle.logs.specs.Answers.{TABLE}
 use Rattle.logs.specs.Log.{logRows}
-use Rattle.bundles.specs.Reading.{Read, got, failed, Reader, _>>=_, _>>_, give, require, each}
-use Rattle.bundles.specs.Layout.{CertificateFields, kind0, kind1, Head, Contents, toNet, toCertificate, toBundle, sizeFits}
-use Rattle.bundles.specs.Readers.{head, certificate}
+use Rattle.bundles.specs.Reading.{Read, item, Reader, _>>=_, _>>_, give, require, each}
+use Rattle.refusals.specs.Results.{value, refused}
+use Rattle.bundles.specs.Layout.{CertificateFields, kind0, kind1, Head, Contents, wrongIn, fitsIn, solvesIn, toNet, toBundle}
+use Rattle.bundles.specs.Readers.{head, certificate, rowsInLimit, bundleSize}
 use Rattle.verdicts.specs.declared.Counts.{Counts}
 use Rattle.verdicts.specs.declared.Verdict.{Verdict}
 use Rattle.verdicts.specs.declared.Verdict.the-variants.{Accepted, Refused}
 
 -- ---- Reading a bundle to its end
 
--- the rows do not pass 256
-abbrev pub rowsInLimit : ℕ → Log → Bool
-rowsInLimit n log = leb (length (rows n log)) MAX-ROWS
-
 -- the refusal of a certificate that does not solve its step
 unfoldable pub unsolved : CertificateFields → ℕ
 unsolved (kind0 j) = PLACE-PERMITS
-unsolved (kind1 k ts) = WEIGHTS
+unsolved (kind1 w) = WEIGHTS
 
 -- the certificate of a wrong continuation s, behind those of `before`: read whole, then 11 or 12 with its number
 unfoldable pub solved : Head → Step → List CertificateFields → Reader CertificateFields
 solved h s before = do
   c ← certificate h
-  require (solves (h .events) (h .log) (toNet h) s (toCertificate h c)) (unsolved c) (length before)
+  require (solvesIn h s c) (unsolved c) (length before)
   give c
 
--- nothing follows
+-- nothing follows, or 13
 unfoldable pub atEnd : Reader (Unit {0})
-atEnd b at = cond (leb (length b) at) (got tt at) (failed BYTES-FOLLOW at)
+atEnd b at = require (leb (length b) at) BYTES-FOLLOW at b at
 
 -- behind the last place: 10 with the lowest place that does not fit, then one certificate for each wrong continuation
 unfoldable pub afterHead : Head → Reader Contents
 afterHead h = do
-  require (all (fits (h .events) (h .log)) (toNet h)) PLACE-FIT (firstFailing (fits (h .events) (h .log)) (toNet h))
-  cs ← each (solved h) (wrongContinuations (h .events) (h .log)) []
+  require (all (fitsIn h) (toNet h)) PLACE-FIT (firstFailing (fitsIn h) (toNet h))
+  cs ← each (solved h) (wrongIn h) []
   give (record { head = h; certificates = cs })
 
 -- a bundle's fields
@@ -61,21 +59,25 @@ judging = do
 
 -- ---- The verdict
 
+-- with a table of so many numbers: 4, 5, then bundle order
+unfoldable pub judged : ℕ → Reader Contents
+judged tableSize = do
+  bundleSize
+  require (leb TABLE tableSize) TABLE-SHORT TABLE
+  judging
+
 -- the definitions' counts, as a verdict has them
 abbrev pub countsOf : Tally → Counts
 countsOf t = record { rows = t .rowCount; allowed = t .allowedCount; «by_place» = t .byPlaceCount; «by_weights» = t .byWeightsCount }
 
 -- the verdict on what was read
 unfoldable pub verdictOn : Read Contents → Verdict
-verdictOn (got c next) = Accepted (countsOf (tally (toBundle c)))
-verdictOn (failed number spot) = Refused (refusal number spot)
+verdictOn (value (item c next)) = Accepted (countsOf (tally (toBundle c)))
+verdictOn (refused number spot) = Refused (refusal number spot)
 
--- the verdict on a bundle, with a table of so many numbers: 4, 5, then bundle order
+-- the verdict on a bundle
 unfoldable pub verdict : ℕ → List ℕ → Verdict
-verdict tableSize b =
-    provided Refused (sizeFits b) BUNDLE-LENGTH 0
-    (provided Refused (leb TABLE tableSize) TABLE-SHORT TABLE
-    (verdictOn (judging b 0)))
+verdict tableSize b = verdictOn (judged tableSize b 0)
 
 -- 0, or the refusal's number
 unfoldable pub verdictNumber : Verdict → ℕ
@@ -86,9 +88,9 @@ verdictNumber (Refused r) = r .number
 
 -- after acceptance the log's rows and zeros, after a refusal zeros; from number 3,328 on as it was
 unfoldable pub tableOn : Read Contents → List ℕ → List ℕ
-tableOn (got c next) t = withRows (logRows (c .head .log)) (cleared TABLE t)
-tableOn (failed number spot) t = cleared TABLE t
+tableOn (value (item c next)) t = withRows (logRows (c .head .log)) (cleared TABLE t)
+tableOn (refused number spot) t = cleared TABLE t
 
 -- after 4 and 5 as it was
 unfoldable pub tableAfter : List ℕ → List ℕ → List ℕ
-tableAfter b t = cond (sizeFits b && leb TABLE (length t)) (tableOn (judging b 0) t) t
+tableAfter b t = cond (rightSize (length b) && leb TABLE (length t)) (tableOn (judging b 0) t) t

@@ -6,18 +6,20 @@ use mathlib.Core.List.{List, [], _∷_}
 use Prim.Native.Nat.{ℕ}
 use lib.Dec.{T, leb}
 use lib.ListN.{length}
-use native.Mathlib.Omega.{arith}
-use Rattle.laws.specs.Booleans.{yes-true}
+use Rattle.laws.specs.Booleans.{impossible, yes-true}
 use Rattle.laws.specs.Lists.{all, any, among, among-all}
+use Rattle.limits.specs.Limits.{rightSize}
 use Rattle.refusals.specs.Table.{BUNDLE-LENGTH, TABLE-SHORT, BUNDLE-END, VALUE, EVENTS, ROWS, PLACE-FIT, PLACE-PERMITS, WEIGHTS, BYTES-FOLLOW}
-use Rattle.refusals.specs.Answers.{refusal, provided}
+use Rattle.refusals.specs.Results.{value, refused, bind, numberIn, Refuses, refuses-wider, numbers-listed}
+use Rattle.refusals.specs.Answers.{refusal}
 use Rattle.refusals.specs.declared.Refusal.{Refusal}
-use Rattle.bundles.specs.Reading.{Read, got, failed}
-use Rattle.bundles.specs.Layout.{CertificateFields, kind0, kind1, Contents, sizeFits}
-use Rattle.bundles.specs.Refusing.{Refuses, Among, refuses-give, refuses-require, refuses-then, refuses-each, refuses-head, refuses-certificate}
+use Rattle.bundles.specs.Reading.{Read, got, item, andThen, _>>_, require, onward}
+use Rattle.bundles.specs.Readers.{rowsInLimit, bundleSize}
+use Rattle.bundles.specs.Layout.{CertificateFields, kind0, kind1, Contents}
+use Rattle.bundles.specs.Refusing.{ReaderRefuses, Among, reader-give, reader-require, reader-then, reader-each, reader-head, reader-certificate}
 use Rattle.logs.specs.Rows.{cleared}
 use Rattle.logs.specs.Answers.{TABLE}
-use Rattle.verdicts.specs.Judging.{rowsInLimit, unsolved, solved, atEnd, afterHead, contents, judging, verdictOn, verdict, verdictNumber, tableOn, tableAfter}
+use Rattle.verdicts.specs.Judging.{unsolved, solved, atEnd, afterHead, contents, judging, judged, verdictOn, verdict, verdictNumber, tableOn, tableAfter}
 use Rattle.verdicts.specs.declared.Verdict.the-variants.{Refused}
 
 -- in bundle order
@@ -25,50 +27,48 @@ abbrev fieldNumbers : List ℕ
 fieldNumbers = BUNDLE-END ∷ VALUE ∷ EVENTS ∷ ROWS ∷ PLACE-FIT ∷ PLACE-PERMITS ∷ WEIGHTS ∷ BYTES-FOLLOW ∷ []
 
 abbrev pub judgeNumbers : List ℕ
-judgeNumbers = 0 ∷ BUNDLE-LENGTH ∷ TABLE-SHORT ∷ fieldNumbers
+judgeNumbers = BUNDLE-LENGTH ∷ TABLE-SHORT ∷ fieldNumbers
 
-unsolved-listed : (c : CertificateFields) → Among fieldNumbers (unsolved c)
-unfolding unsolved any
-unsolved-listed (kind0 j) = refl
-unsolved-listed (kind1 k ts) = refl
+unsolved-listed : (numbers : List ℕ) → Among numbers PLACE-PERMITS → Among numbers WEIGHTS → (c : CertificateFields) → Among numbers (unsolved c)
+unfolding unsolved
+unsolved-listed numbers place weights (kind0 j) = place
+unsolved-listed numbers place weights (kind1 w) = weights
 
-at-end-refuses : Refuses fieldNumbers atEnd
-unfolding atEnd any
-at-end-refuses = record { only = λ b at n s e. go (leb (length b) at) at n s e }
-  where
-    go : (t : Bool) (at n s : ℕ) → cond t (got (tt {0}) at) (failed BYTES-FOLLOW at) ≡ failed n s → Among fieldNumbers n
-    go true at n s e = absurd (let z : _≡_ {A = ℕ} 0 1 = cc in omega arith)
-    go false at n s e = let same : BYTES-FOLLOW ≡ n = cc in rw (← same)
-
-judging-refuses : Refuses fieldNumbers judging
-unfolding judging contents afterHead solved any
+judging-refuses : ReaderRefuses fieldNumbers judging
+unfolding judging contents afterHead solved atEnd any
 judging-refuses =
-    refuses-then
-    (refuses-then (refuses-head refl refl refl rowsInLimit (λ n log. inr refl)) (λ h.
-    refuses-then (refuses-require _ PLACE-FIT _ (inr refl)) (λ u.
-    refuses-then (refuses-each (λ s before. refuses-then (refuses-certificate refl refl h) (λ c. refuses-then (refuses-require _ _ _ (inr (unsolved-listed c))) (λ u. refuses-give c))) _ []) (λ cs.
-    refuses-give _))))
-    (λ c. refuses-then at-end-refuses (λ u. refuses-give c))
+    reader-then
+    (reader-then (reader-head refl refl refl rowsInLimit (λ n log. inr refl)) (λ h.
+    reader-then (reader-require _ PLACE-FIT _ (inr refl)) (λ u.
+    reader-then (reader-each (λ s before. reader-then (reader-certificate refl refl h) (λ c. reader-then (reader-require _ _ _ (inr (unsolved-listed fieldNumbers refl refl c))) (λ u. reader-give c))) _ []) (λ cs.
+    reader-give _))))
+    (λ c. reader-then (record { only = λ b at. reader-require _ BYTES-FOLLOW at (inr refl) .only b at }) (λ u. reader-give c))
 
 -- a refusal in bundle order has one of these numbers, and so none of the others
-module _ (b : List ℕ) (number spot : ℕ) (e : judging b 0 ≡ failed number spot) where
+module _ (b : List ℕ) (number spot : ℕ) (e : judging b 0 ≡ refused number spot) where
   field-number : (f : ℕ → Bool) → T (all f fieldNumbers) → f number ≡ true
-  field-number f t = yes-true (f number) (among-all f fieldNumbers t number (rw (judging-refuses .only b 0 number spot e) tt))
+  field-number f t = yes-true (f number) (among-all f fieldNumbers t number (rw (judging-refuses .only b 0 .only number spot e) tt))
 
-read-numbers : (b : List ℕ) (m : Read Contents) → judging b 0 ≡ m → among (verdictNumber (verdictOn m)) judgeNumbers ≡ true
-unfolding verdictOn verdictNumber any all
-read-numbers b (got c next) is = refl
-read-numbers b (failed number spot) is = field-number b number spot is (λ n. among n judgeNumbers) tt
+pub judged-refuses : (tableSize : ℕ) → ReaderRefuses judgeNumbers (judged tableSize)
+unfolding judged bundleSize any all
+judged-refuses tableSize =
+    reader-then (record { only = λ b at. reader-require _ BUNDLE-LENGTH 0 (inr refl) .only b at }) (λ u.
+    reader-then (reader-require _ TABLE-SHORT _ (inr refl)) (λ u.
+    record { only = λ b at. refuses-wider tt (judging-refuses .only b at) }))
+
+-- the number of a verdict is that of the chain
+pub verdict-numbers : {numbers : List ℕ} {m : Read Contents} → Refuses numbers m → among (verdictNumber (verdictOn m)) (0 ∷ numbers) ≡ true
+unfolding verdictOn verdictNumber numberIn
+verdict-numbers {numbers} {m} only = same m ∙ numbers-listed only
+  where
+    same : (k : Read Contents) → among (verdictNumber (verdictOn k)) (0 ∷ numbers) ≡ among (numberIn k) (0 ∷ numbers)
+    same (value (item c next)) = refl
+    same (refused number spot) = refl
 
 -- judge: a verdict of acceptance, or 4, 5, .., 13
-pub judge-numbers : (tableSize : ℕ) (b : List ℕ) → among (verdictNumber (verdict tableSize b)) judgeNumbers ≡ true
-unfolding verdict provided verdictNumber any
-judge-numbers tableSize b = go (sizeFits b) (leb TABLE tableSize)
-  where
-    go : (p q : Bool) → among (verdictNumber (cond p (cond q (verdictOn (judging b 0)) (Refused (refusal TABLE-SHORT TABLE))) (Refused (refusal BUNDLE-LENGTH 0)))) judgeNumbers ≡ true
-    go true true = read-numbers b (judging b 0) refl
-    go true false = refl
-    go false q = refl
+pub judge-numbers : (tableSize : ℕ) (b : List ℕ) → among (verdictNumber (verdict tableSize b)) (0 ∷ judgeNumbers) ≡ true
+unfolding verdict
+judge-numbers tableSize b = verdict-numbers (judged-refuses tableSize .only b 0)
 
 -- ---- what a refusal leaves in the table
 
@@ -82,8 +82,8 @@ Left before after number = (early number ≡ true → after ≡ before) × (earl
 
 read-left : (b t : List ℕ) (r : Refusal) (m : Read Contents) → judging b 0 ≡ m → verdictOn m ≡ Refused r → Left t (tableOn m t) (r .number)
 unfolding verdictOn tableOn any all
-read-left b t r (got c next) is e = absurd (let z : _≡_ {A = ℕ} 0 1 = cc in omega arith)
-read-left b t r (failed number spot) is e =
+read-left b t r (value (item c next)) is e = impossible cc
+read-left b t r (refused number spot) is e =
     let same : refusal number spot ≡ r = cc in
     let late : not (early number) ≡ true = field-number b number spot is (λ n. not (early n)) tt in
     subst (λ (x : Refusal). Left t (cleared TABLE t) (x .number)) same ((λ h. absurd (clash (early number) late h)), (λ h. refl))
@@ -93,15 +93,15 @@ read-left b t r (failed number spot) is e =
     clash false n h = false≢true h
 
 pub refused-judge : (table b : List ℕ) (r : Refusal) → verdict (length table) b ≡ Refused r → Left table (tableAfter b table) (r .number)
-unfolding verdict provided tableAfter any
-refused-judge table b r e = go (sizeFits b) (leb TABLE (length table)) e
+unfolding verdict verdictOn judged bundleSize require bind onward tableAfter any
+refused-judge table b r e = go (rightSize (length b)) (leb TABLE (length table)) e
   where
     first : (number spot : ℕ) → early number ≡ true → Refused (refusal number spot) ≡ Refused r → Left table table (r .number)
     first number spot listed e =
         let same : refusal number spot ≡ r = cc in
         subst (λ (x : Refusal). Left table table (x .number)) same ((λ h. refl), (λ h. absurd (false≢true (sym h ∙ listed))))
 
-    go : (p q : Bool) → cond p (cond q (verdictOn (judging b 0)) (Refused (refusal TABLE-SHORT TABLE))) (Refused (refusal BUNDLE-LENGTH 0)) ≡ Refused r
+    go : (p q : Bool) → verdictOn (andThen (cond p (got (tt {0}) 0) (refused BUNDLE-LENGTH 0)) (λ u. require q TABLE-SHORT TABLE >> judging) b) ≡ Refused r
         → Left table (cond (p && q) (tableOn (judging b 0) table) table) (r .number)
     go true true e = read-left b table r (judging b 0) refl e
     go true false e = first TABLE-SHORT TABLE refl e

@@ -5,7 +5,7 @@ use mathlib.Core.Bool.{true}
 use native.Mathlib.Omega.{arith}
 use borrow.Author.Tests.{not-true, not-false}
 use lib.ListN.{length}
-use Rattle.refusals.specs.Answers.Result.{refused}
+use Rattle.refusals.specs.Results.{refused}
 use Rattle.refusals.specs.Laws.{ends-refused, ends-short, ends-written}
 use Rattle.refusals.specs.declared.Refusal.{Refusal}
 use Rattle.block.specs.File.{blockCount, firstFault, Sound, rightLength}
@@ -27,7 +27,7 @@ sound c = opened-sound _ (fits (c .before .before .before)) (none c)
 returns : tie.Need-returns
 returns c =
     let t = c .before in
-    rw (c .refused .ensures) (ends-refused _ _ _ (opened-length _ (sym (t .before .length-fits .ensures) ∙ not-true _ (t .if1 .taken))))
+    rw (c .refused .ensures) (ends-refused _ _ _ _ (opened-length _ (sym (t .before .length-fits .ensures) ∙ not-true _ (t .if1 .taken))))
 
 first-fault-requires : tie.Need-first-fault-requires
 unfolding blockCount
@@ -37,7 +37,7 @@ returns-2 : tie.Need-returns-2
 returns-2 c =
     let call = c .before .before in
     let e = call .first-fault .ensures in
-    ends-refused _ _ _ (opened-fault _ (fits (call .before)) (λ z. c .if2 .taken (ap (λ (r : Refusal). r .number) e ∙ z)) ∙ ap refused (sym e))
+    ends-refused _ _ _ _ (opened-fault _ (fits (call .before)) (λ z. c .if2 .taken (ap (λ (r : Refusal). r .number) e ∙ z)) ∙ ap (λ (r : Refusal). refused (r .number) (r .spot)) (sym e))
 
 returns-3 : tie.Need-returns-3
 returns-3 c =

@@ -6,10 +6,10 @@ use Prim.Native.Nat.{_≤_}
 use native.Mathlib.Omega.{arith}
 use borrow.Author.Tests.{not-true, not-false}
 use lib.ListN.{length}
+use Rattle.limits.specs.Limits.{MAX-BUNDLE-SIZE, rightSize, rightSize-bounds}
 use Rattle.refusals.specs.Laws.{ends-refused, ends-short, ends-written}
-use Rattle.refusals.specs.Table.{rightSize}
 use Rattle.block.specs.File.{blocksFor, sealedFile}
-use Rattle.block.specs.SealLaws.{rightSize-bounds, sealed-length, sealed-file, length-sealedFile}
+use Rattle.block.specs.SealLaws.{sealed-length, sealed-file, length-sealedFile}
 use Rattle.block.proofs.seal.Statement.{statement}
 use Rattle.block.proofs.seal.Tie as tie
 
@@ -17,13 +17,13 @@ use Rattle.block.proofs.seal.Tie as tie
 fits : (c : tie.Else1) → rightSize (length (c .before .before .before .before .args .bundle .now)) ≡ true
 fits c = sym (c .before .size-fits .ensures) ∙ not-false _ (c .if1 .left)
 
-bounds : (c : tie.Else1) → let size = length (c .before .before .before .before .args .bundle .now) in (1 ≤ size) × (size ≤ 64512)
+bounds : (c : tie.Else1) → let size = length (c .before .before .before .before .args .bundle .now) in (1 ≤ size) × (size ≤ MAX-BUNDLE-SIZE)
 bounds c = rightSize-bounds _ (fits c)
 
 returns : tie.Need-returns
 returns c =
     let t = c .before in
-    rw (c .refused .ensures) (ends-refused _ _ _ (sealed-length _ (sym (t .before .size-fits .ensures) ∙ not-true _ (t .if1 .taken))))
+    rw (c .refused .ensures) (ends-refused _ _ _ _ (sealed-length _ (sym (t .before .size-fits .ensures) ∙ not-true _ (t .if1 .taken))))
 
 returns-2 : tie.Need-returns-2
 unfolding blocksFor

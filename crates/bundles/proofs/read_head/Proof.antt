@@ -1,36 +1,17 @@
 -- `bundles::read_head` meets its contract.
-use mathlib.Core.Path.{_≡_, sym, ap, _∙_}
-use native.Mathlib.Omega.{arith}
+use mathlib.Core.Path.{sym, ap, _∙_}
 use borrow.Author.Needs.{needs}
-use denote.Ref.{now}
-use Rattle.bundles.specs.Reading.{got, byte}
-use Rattle.bundles.specs.FieldSteps.{readOf, between, between-true, byte-got}
-use Rattle.bundles.specs.HeadSteps.{headRead, head-failed, head-got}
+use borrow.Author.Tests.{not-true, not-false}
+use Rattle.bundles.specs.HeadSteps.{headRead, size-wrong, size-right}
 use Rattle.bundles.proofs.read_head.Statement.{statement}
 use Rattle.bundles.proofs.read_head.Tie as tie
 
--- the event count
-counted : (c : tie.After-n) → byte (between 1 12) (now (c .before .before .before .before .args .bundle)) 0 ≡ got (c .n .given .0 .0) (c .n .given .0 .1 .0)
-unfolding readOf
-counted c = sym (c .before .before .byte-between .ensures) ∙ ap readOf (c .n .given .1)
-
-read-head-after-requires : tie.Need-read-head-after-requires
-read-head-after-requires c κs = omega (arith, between-true 1 12 (c .before .n .given .0 .0) (byte-got (between 1 12) _ _ _ _ (counted (c .before)) .0))
-
 returns : tie.Need-returns
-unfolding headRead readOf
-returns c = sym (ap headRead (head-failed _ _ (sym (c .before .before .before .byte-between .ensures) ∙ ap readOf (c .before .refusal .given .1))))
+unfolding headRead
+returns c = sym (ap headRead (size-wrong _ (sym (c .before .size-fits .ensures) ∙ not-true _ (c .if1 .taken))))
 
 returns-2 : tie.Need-returns-2
-returns-2 c = c .read-head-after .ensures ∙ sym (ap headRead (head-got _ _ (counted (c .before .before))))
+returns-2 c = c .read-fields .ensures ∙ sym (ap headRead (size-right _ (sym (c .before .before .size-fits .ensures) ∙ not-false _ (c .before .if1 .left))))
 
 pub read-head-spec : {M : Type 1} → statement M
-read-head-spec =
-    tie.close
-    (tie.spec
-    (λ c κs. search needs)
-    (λ c. search needs)
-    (λ c. search needs)
-    read-head-after-requires
-    returns
-    returns-2)
+read-head-spec = tie.close (tie.spec (λ c κs. search needs) returns (λ c κs. search needs) returns-2)

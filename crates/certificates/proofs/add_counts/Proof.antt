@@ -4,17 +4,17 @@ use Prim.Native.Nat.{_+_, _-_, _*_, _≤_}
 use native.Mathlib.Omega.{arith}
 use borrow.Author.Needs.{needs}
 use lib.ListN.{length}
+use Rattle.limits.specs.Limits.{MAX-EVENTS}
 use Rattle.nets.specs.Nets.{at}
-use Rattle.nets.specs.Machine.{COUNTS}
 use Rattle.certificates.specs.Totals.{NUMBER, addedTo, added-start, added-here, added-next, added-done}
 use Rattle.certificates.proofs.add_counts.Statement.{statement}
 use Rattle.certificates.proofs.add_counts.Tie as tie
 
 abbrev Inv-loop : tie.InvT-loop
-Inv-loop sums₀ counts weight i₀ sums i = (i ≤ COUNTS) × (length sums ≡ COUNTS) × (sums ≡ addedTo weight (at counts) sums₀ i)
+Inv-loop sums₀ counts weight i₀ sums i = (i ≤ MAX-EVENTS) × (length sums ≡ MAX-EVENTS) × (sums ≡ addedTo weight (at counts) sums₀ i)
 
 abbrev μ-loop : tie.MeasureT-loop
-μ-loop sums₀ counts weight i₀ sums i = COUNTS - i
+μ-loop sums₀ counts weight i₀ sums i = MAX-EVENTS - i
 
 loop-holds : tie.Need-loop-holds Inv-loop μ-loop
 loop-holds c =
@@ -49,7 +49,7 @@ returns c =
     let l = c .before .loop in
     let start = c .before .before .before .before in
     let a = start .args in
-    let all : l .i ≡ COUNTS = omega arith in
+    let all : l .i ≡ MAX-EVENTS = omega arith in
     l .inv .2 ∙ rw all (added-done (a .weight) (at (a .counts .now)) (a .sums .now) (start .pre .0))
 
 pub add-counts-spec : {M : Type 1} → statement M

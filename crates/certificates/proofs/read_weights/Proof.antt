@@ -6,6 +6,7 @@ use borrow.Author.Tests.{leb-true}
 use borrow.Author.Needs.{needs}
 use lib.Dec.{leb}
 use Rattle.laws.specs.Numbers.{Bytes}
+use Rattle.limits.specs.Limits.{MAX-TERMS}
 use Rattle.bundles.specs.Reading.{got, byte, number}
 use Rattle.bundles.specs.ReadingLaws.{law-number}
 use Rattle.bundles.specs.FieldSteps.{readOf, upTo, byte-got}
@@ -21,7 +22,7 @@ unfolding readOf
 factor c = sym (c .before .before .number-from .ensures) ∙ ap readOf (c .k .given .1)
 
 size : (c : tie.After-count) → let k = c .before .before .before .before in let a = k .before .before .before .before .before .args in
-    byte (upTo 64) (a .bundle .now) (k .k .given .0 .1 .0) ≡ got (c .count .given .0 .0) (c .count .given .0 .1 .0)
+    byte (upTo MAX-TERMS) (a .bundle .now) (k .k .given .0 .1 .0) ≡ got (c .count .given .0 .0) (c .count .given .0 .1 .0)
 unfolding readOf
 size c = sym (c .before .before .byte-up-to .ensures) ∙ ap readOf (c .count .given .1)
 
@@ -37,7 +38,7 @@ weigh-terms-requires c κs =
     let count = c .before in
     let k = count .before .before .before .before in
     let pre = k .before .before .before .before .before .pre in
-    (leb-true _ _ (byte-got _ _ _ _ _ (size count) .0), pre .0, pre .1, pre .2, pre .3, two-bytes k)
+    (pre .0, (leb-true _ _ (byte-got _ _ _ _ _ (size count) .0), pre .1 .0, two-bytes k))
 
 returns : tie.Need-returns
 unfolding readOf

@@ -7,18 +7,18 @@ use native.Mathlib.Omega.{arith}
 use borrow.Author.Needs.{needs}
 use lib.Dec.{leb}
 use Rattle.laws.specs.Lists.{allBelow, allBelow-none, allBelow-next}
+use Rattle.limits.specs.Limits.{MAX-EVENTS}
 use Rattle.nets.specs.Nets.{at, same}
-use Rattle.nets.specs.Machine.{COUNTS}
 use Rattle.certificates.specs.Totals.{NUMBER, sumsHold}
 use Rattle.certificates.proofs.sums_hold.Statement.{statement}
 use Rattle.certificates.proofs.sums_hold.Tie as tie
 
 abbrev Inv-loop : tie.InvT-loop
 Inv-loop before of-event k counts event hold₀ i₀ hold i =
-    (i ≤ COUNTS) × (hold ≡ allBelow i (λ j. leb (at before j) (k * at counts j) && leb (k * (at counts j + same event j)) (at before j + at of-event j)))
+    (i ≤ MAX-EVENTS) × (hold ≡ allBelow i (λ j. leb (at before j) (k * at counts j) && leb (k * (at counts j + same event j)) (at before j + at of-event j)))
 
 abbrev μ-loop : tie.MeasureT-loop
-μ-loop before of-event k counts event hold₀ i₀ hold i = COUNTS - i
+μ-loop before of-event k counts event hold₀ i₀ hold i = MAX-EVENTS - i
 
 loop-holds : tie.Need-loop-holds Inv-loop μ-loop
 loop-holds c = (search needs, sym (allBelow-none _))
@@ -48,7 +48,7 @@ returns : tie.Need-returns Inv-loop μ-loop
 unfolding sumsHold
 returns c =
     let l = c .before .loop in
-    let all : l .i ≡ COUNTS = omega arith in
+    let all : l .i ≡ MAX-EVENTS = omega arith in
     rw (l .inv .1, all)
 
 pub sums-hold-spec : {M : Type 1} → statement M

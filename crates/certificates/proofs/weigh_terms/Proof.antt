@@ -4,8 +4,8 @@ use Prim.Native.Nat.{_+_, _*_, _≤_, _<_}
 use native.Mathlib.Omega.{arith}
 use borrow.Author.Needs.{needs}
 use lib.ListN.{length}
+use Rattle.limits.specs.Limits.{MAX-EVENTS}
 use Rattle.bundles.specs.TermSteps.{termReadOf}
-use Rattle.nets.specs.Machine.{COUNTS}
 use Rattle.logs.specs.Rows.{ROW, newRow, none}
 use Rattle.logs.specs.Flat.{rows-at}
 use Rattle.certificates.specs.TermSums.{TermsLeft, NextTerm, terms-start, terms-next, terms-failed, terms-done}
@@ -13,15 +13,15 @@ use Rattle.certificates.proofs.weigh_terms.Statement.{statement}
 use Rattle.certificates.proofs.weigh_terms.Tie as tie
 
 abbrev Inv-loop : tie.InvT-loop
-Inv-loop bundle at count n table rows row event k before₀ of-event₀ total₀ allowed₀ next₀ left₀ before of-event total allowed next left =
+Inv-loop bundle at count table row event k n rows before₀ of-event₀ total₀ allowed₀ next₀ left₀ before of-event total allowed next left =
     TermsLeft n rows table bundle at count next left total before of-event allowed
 
 abbrev μ-loop : tie.MeasureT-loop
-μ-loop bundle at count n table rows row event k before₀ of-event₀ total₀ allowed₀ next₀ left₀ before of-event total allowed next left = left
+μ-loop bundle at count table row event k n rows before₀ of-event₀ total₀ allowed₀ next₀ left₀ before of-event total allowed next left = left
 
 -- the term that was read
 next-term : (c : tie.After-term Inv-loop μ-loop) → let loop = c .before .before .before .before in let l = loop .loop in let a = loop .before .before .before .args in let t = c .term .given .0 .0 in
-    NextTerm (a .n) (a .rows) (a .table .now) (a .bundle .now) (a .at) (a .count) (l .left) (l .total) (l .before) (l .of-event) (l .allowed) (record { row = t .row; event = t .event; weight = t .weight }) (c .term .given .0 .1 .0)
+    NextTerm (a .head .n) (a .head .rows) (a .table .now) (a .bundle .now) (a .at) (a .count) (l .left) (l .total) (l .before) (l .of-event) (l .allowed) (record { row = t .row; event = t .event; weight = t .weight }) (c .term .given .0 .1 .0)
 unfolding termReadOf
 next-term c =
     let call = c .before .before in
@@ -30,12 +30,12 @@ next-term c =
     terms-next _ _ _ _ _ _ (loop .loop .inv) (call .before .loop-test .taken)
     (λ i. omega (arith, loop .before .before .shared-slice-known .given i))
     (λ i. omega (arith, loop .before .shared-slice-known2 .given i))
-    (start .pre .0) (start .pre .1) (sym (call .next-term .ensures) ∙ ap termReadOf (c .term .given .1))
+    (start .pre .1 .0) (start .pre .0 .found .limits .1) (sym (call .next-term .ensures) ∙ ap termReadOf (c .term .given .1))
 
 loop-holds : tie.Need-loop-holds Inv-loop μ-loop
 loop-holds c =
     let a = c .before .before .args in
-    terms-start (a .n) (a .rows) (a .table .now) (a .bundle .now) (a .at) (a .count)
+    terms-start (a .head .n) (a .head .rows) (a .table .now) (a .bundle .now) (a .at) (a .count)
 
 returns : tie.Need-returns Inv-loop μ-loop
 unfolding termReadOf
@@ -45,10 +45,10 @@ returns c =
 
 -- its event is below 12, and its row lies in the table
 inside : (c : tie.After-term Inv-loop μ-loop) → let t = c .term .given .0 .0 in
-    (t .event < COUNTS) × (ROW * t .row + ROW ≤ length (c .before .before .before .before .before .before .before .args .table .now))
+    (t .event < MAX-EVENTS) × (ROW * t .row + ROW ≤ length (c .before .before .before .before .before .before .before .args .table .now))
 inside c =
     let pre = c .before .before .before .before .before .before .before .pre in
-    (omega (arith, next-term c .bounds .event, pre .1), omega (arith, next-term c .bounds .row, pre .3))
+    (omega (arith, next-term c .bounds .event, pre .0 .found .limits .1), omega (arith, next-term c .bounds .row, pre .0 .room))
 
 cast-total : tie.Need-cast-total Inv-loop μ-loop
 cast-total c = omega (arith, next-term (c .before .before) .bounds .weight)
@@ -81,12 +81,12 @@ loop-again c =
 counts-of-requires-2 : tie.Need-counts-of-requires-2 Inv-loop μ-loop
 counts-of-requires-2 c κs =
     let start = c .before .before .before .before .before .before in
-    omega (arith, start .pre .3, start .pre .4)
+    omega (arith, start .pre .0 .room, start .pre .1 .1)
 
 sums-hold-requires : tie.Need-sums-hold-requires Inv-loop μ-loop
 sums-hold-requires c κs =
     let summed = c .before .before .before .before .loop .inv .summed in
-    (omega (arith, c .counts-of2 .ensures .1), c .before .before .before .before .before .before .before .pre .5, summed .beforeSmall, summed .eventSmall)
+    (omega (arith, c .counts-of2 .ensures .1), c .before .before .before .before .before .before .before .pre .1 .2, summed .beforeSmall, summed .eventSmall)
 
 returns-2 : tie.Need-returns-2 Inv-loop μ-loop
 returns-2 c =
@@ -96,8 +96,8 @@ returns-2 c =
     let start = loop .before .before .before in
     let a = start .args in
     c .judged .ensures
-    ∙ rw (hold .sums-hold .ensures, counts .counts-of2 .ensures .0, ← rows-at (a .rows) (a .table .now) (a .row) (newRow none) (start .pre .4))
-    (terms-done _ _ _ _ _ _ (loop .loop .inv) (counts .before .before .before .loop-test .left) _ _ _ (start .pre .5))
+    ∙ rw (hold .sums-hold .ensures, counts .counts-of2 .ensures .0, ← rows-at (a .head .rows) (a .table .now) (a .row) (newRow none) (start .pre .1 .1))
+    (terms-done _ _ _ _ _ _ (loop .loop .inv) (counts .before .before .before .loop-test .left) _ _ _ (start .pre .1 .2))
 
 pub weigh-terms-spec : {M : Type 1} → statement M
 weigh-terms-spec =

@@ -9,11 +9,10 @@ use Rattle.certifying.proofs.certify.Statement.{statement}
 use Rattle.certifying.proofs.certify.Tie as tie
 
 abbrev Inv-loop : tie.InvT-loop
-Inv-loop bundle at n places table rows state₀ row₀ state row =
-    (row ≤ rows) × Outcome bundle table n places rows 0 0 row 0 (record { allowed = 0; «by_place» = 0; «by_weights» = 0; next = at }) (advanced.To state)
+Inv-loop bundle head table rows state₀ row₀ state row = (row ≤ rows) × Outcome bundle 0 0 row 0 state₀ (advanced.To state)
 
 abbrev μ-loop : tie.MeasureT-loop
-μ-loop bundle at n places table rows state₀ row₀ state row = rows - row
+μ-loop bundle head table rows state₀ row₀ state row = rows - row
 
 loop-holds : tie.Need-loop-holds Inv-loop μ-loop
 loop-holds c = (search needs, outcome-start (omega arith))
@@ -23,20 +22,20 @@ unfolding Passes
 certify-row-requires c κs =
     let loop = c .before in
     let start = loop .before .before .before in
-    (start .pre .0, start .pre .1, start .pre .2, start .pre .3, start .pre .4, c .loop-test .taken, omega (arith, loop .loop .inv .1 .told .0))
+    (start .pre, (c .loop-test .taken, omega (arith, loop .loop .inv .1 .told .0)))
 
 returns : tie.Need-returns Inv-loop μ-loop
 returns c =
     let call = c .before .before .before in
-    outcome-refused _ (subst (Outcome _ _ _ _ _ _ _ _ _ _) (c .before .refusal .given .1) (outcome-then _ (call .before .before .loop .inv .1) (call .certify-row .ensures)))
+    outcome-refused _ (subst (Outcome _ _ _ _ _ _) (c .before .refusal .given .1) (outcome-then _ (call .before .before .loop .inv .1) (call .certify-row .ensures)))
 
 loop-again : tie.Need-loop-again Inv-loop μ-loop
 loop-again c =
     let call = c .before .before .before in
-    (omega arith, subst (Outcome _ _ _ _ _ _ _ _ _ _) (c .before .more .given .1) (outcome-then _ (call .before .before .loop .inv .1) (call .certify-row .ensures)))
+    (omega arith, subst (Outcome _ _ _ _ _ _) (c .before .more .given .1) (outcome-then _ (call .before .before .loop .inv .1) (call .certify-row .ensures)))
 
 returns-2 : tie.Need-returns-2 Inv-loop μ-loop
-returns-2 c = outcome-done _ (c .before .loop .inv .1) (c .loop-test .left)
+returns-2 c = outcome-done _ (c .before .loop .inv .1) _ (c .before .before .before .before .pre .size) (c .loop-test .left)
 
 pub certify-spec : {M : Type 1} → statement M
 certify-spec =

@@ -2,30 +2,30 @@
 use mathlib.Core.Path.{_≡_, sym, _∙_}
 use native.Mathlib.Omega.{arith}
 use borrow.Author.Needs.{needs}
-use Rattle.nets.specs.Nets.{allowed}
-use Rattle.bundles.specs.Layout.{Head}
-use Rattle.certifying.specs.Certifying.{HeadHeld, stepOf}
-use Rattle.certifying.specs.CheckLaws.{mask-held, row-count}
+use Rattle.bundles.specs.Layout.{allowedIn}
+use Rattle.bundles.specs.Readers.{headOf}
+use Rattle.certifying.specs.Certifying.{stepOf}
+use Rattle.certifying.specs.CheckLaws.{mask-held}
 use Rattle.certifying.specs.CertificateSteps.{Passes, passed-allowed, outcome-certificate}
 use Rattle.certifying.proofs.certify_step.Statement.{statement}
 use Rattle.certifying.proofs.certify_step.Tie as tie
 
 -- the test of the bit
-tested : (c : tie.After-has-bit) → let start = c .before .before .before .before in let a = start .args in
-    (h : Head) → HeadHeld (a .bundle .now) (a .table .now) (a .n) (a .places) (a .rows) h → allowed (h .events) (h .log) (stepOf h (a .row) (a .event)) ≡ c .has-bit .result
-tested c h held =
+tested : (c : tie.After-has-bit) → let a = c .before .before .before .before .args in
+    allowedIn (headOf (a .bundle .now)) (stepOf (headOf (a .bundle .now)) (a .row) (a .event)) ≡ c .has-bit .result
+tested c =
     let start = c .before .before .before .before in
-    sym (c .has-bit .ensures ∙ mask-held held (start .pre .0) (start .args .row) (start .pre .6) (start .args .event) (start .pre .1))
+    sym (c .has-bit .ensures ∙ mask-held (start .pre .0) (start .args .row) (start .pre .1 .0) (start .args .event) (start .pre .1 .1))
 
 returns : tie.Need-returns
 unfolding Passes
 returns c =
     let start = c .before .before .before .before .before .before in
+    let held = start .pre .0 in
     record {
       told = (
-        omega (arith, start .pre .7),
-        λ h held at l.
-            passed-allowed l (omega (arith, start .pre .6, row-count held (start .pre .0))) (omega (arith, start .pre .1, held .events)) (tested (c .before .before) h held ∙ c .before .if1 .taken),
+        omega (arith, start .pre .1 .2),
+        λ at l. passed-allowed l (omega (arith, start .pre .1 .0, held .size)) (omega (arith, start .pre .1 .1, held .found .events)) (tested (c .before .before) ∙ c .before .if1 .taken),
       );
     }
 
@@ -33,14 +33,10 @@ returns-2 : tie.Need-returns-2
 returns-2 c =
     let call = c .before in
     let wrong = call .before .before in
-    let bit = wrong .before in
-    let start = bit .before .before .before .before in
-    rw (c .with-certificate .ensures) (outcome-certificate (start .pre .7) _ (λ h held. (
-      omega (arith, start .pre .6, row-count held (start .pre .0)),
-      omega (arith, start .pre .1, held .events),
-      tested bit h held ∙ wrong .if1 .left,
-      call .check-certificate .ensures h held,
-    )))
+    let start = wrong .before .before .before .before .before in
+    let held = start .pre .0 in
+    rw (c .with-certificate .ensures)
+    (outcome-certificate (start .pre .1 .2) (omega (arith, start .pre .1 .0, held .size)) (omega (arith, start .pre .1 .1, held .found .events)) (tested (wrong .before) ∙ wrong .if1 .left) _ (call .check-certificate .ensures))
 
 pub certify-step-spec : {M : Type 1} → statement M
 certify-step-spec =

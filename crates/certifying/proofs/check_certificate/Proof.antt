@@ -25,8 +25,8 @@ returns c =
     let kind = c .before .before .before in
     let start = kind .before .before .before .before .before in
     let first : kind .kind .given .0 .0 ≡ 0 = omega (arith, c .before .if1 .taken) in
-    λ h held before size.
-    place-checked held (start .pre .0) (start .args .row) (start .pre .6) (start .args .event) (start .pre .1) before _ size _
+    λ before size.
+    place-checked (start .pre .0) (start .args .row) (start .pre .1 .0) (start .args .event) (start .pre .1 .1) before _ size _
     (known kind ∙ ap (λ (k : ℕ). got k (kind .kind .given .0 .1 .0)) first) (c .check-place .ensures)
 
 returns-2 : tie.Need-returns-2
@@ -34,8 +34,8 @@ unfolding readOf
 returns-2 c =
     let call = c .before .before .before in
     let start = call .before .before .before in
-    λ h held before size.
-    kind-failed held (start .pre .0) (start .args .row) (start .pre .6) (start .args .event) (start .pre .1) before _ size _ (sym (call .byte-up-to .ensures) ∙ ap readOf (c .before .refusal .given .1))
+    λ before size.
+    kind-failed (start .pre .0) (start .args .row) (start .pre .1 .0) (start .args .event) (start .pre .1 .1) before _ size _ (sym (call .byte-up-to .ensures) ∙ ap readOf (c .before .refusal .given .1))
 
 returns-3 : tie.Need-returns-3
 returns-3 c =
@@ -43,9 +43,9 @@ returns-3 c =
     let start = kind .before .before .before .before .before in
     let most : kind .kind .given .0 .0 ≤ 1 = leb-true _ _ (byte-got _ _ _ _ _ (known kind) .0) in
     let second : kind .kind .given .0 .0 ≡ 1 = omega (arith, c .before .before .if1 .left) in
-    λ h held before size.
-    weights-checked held (start .pre .0) (start .args .row) (start .pre .6) (start .args .event) (start .pre .1) before _ size _
-    (bytes (kind .before .before .before .before)) (start .pre .4) (start .pre .2)
+    λ before size.
+    weights-checked (start .pre .0) (start .args .row) (start .pre .1 .0) (start .args .event) (start .pre .1 .1) before _ size _
+    (bytes (kind .before .before .before .before))
     (known kind ∙ ap (λ (k : ℕ). got k (kind .kind .given .0 .1 .0)) second) (c .check-weights .ensures) (c .before .read-weights .ensures)
 
 pub check-certificate-spec : {M : Type 1} → statement M

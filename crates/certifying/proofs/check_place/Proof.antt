@@ -16,15 +16,15 @@ use Rattle.certifying.proofs.check_place.Statement.{statement}
 use Rattle.certifying.proofs.check_place.Tie as tie
 
 -- the place's number
-number : (c : tie.After-j) → let a = c .before .before .before .before .before .args in byte (below (a .places .count)) (a .bundle .now) (a .at) ≡ got (c .j .given .0 .0) (c .j .given .0 .1 .0)
+number : (c : tie.After-j) → let a = c .before .before .before .before .before .before .args in byte (below (a .head .places .count)) (a .bundle .now) (a .at) ≡ got (c .j .given .0 .0) (c .j .given .0 .1 .0)
 unfolding readOf
 number c = sym (c .before .before .byte-below .ensures) ∙ ap readOf (c .j .given .1)
 
 -- the place lies in the bundle
-inside : (c : tie.After-j) → let a = c .before .before .before .before .before .args in a .places .first + 2 * (c .j .given .0 .0 * placeSize (a .n)) + 2 * placeSize (a .n) ≤ length (a .bundle .now)
+inside : (c : tie.After-j) → let a = c .before .before .before .before .before .before .args in a .head .places .first + 2 * (c .j .given .0 .0 * placeSize (a .head .n)) + 2 * placeSize (a .head .n) ≤ length (a .bundle .now)
 inside c =
-    let start = c .before .before .before .before .before in
-    place-inside (start .args .n) (start .args .places .first) (start .args .places .count) (c .j .given .0 .0) (length (start .args .bundle .now)) (ltb-true _ _ (byte-got _ _ _ _ _ (number c) .0)) (start .pre .2)
+    let start = c .before .before .before .before .before .before in
+    place-inside (start .args .head .n) (start .args .head .places .first) (start .args .head .places .count) (c .j .given .0 .0) (length (start .args .bundle .now)) (ltb-true _ _ (byte-got _ _ _ _ _ (number c) .0)) (start .pre .0 .found .inside)
 
 mul-place-2 : tie.Need-mul-place-2
 mul-place-2 c = omega (arith, inside (c .before))
@@ -38,12 +38,12 @@ add-place-2 c = omega (arith, inside (c .before .before))
 place-permits-requires : tie.Need-place-permits-requires
 place-permits-requires c κs =
     let known = c .before .before .before in
-    let start = known .before .before .before .before .before in
-    (start .pre .0, start .pre .1, inside known, omega (arith, c .counts-of .ensures .1, start .pre .0))
+    let start = known .before .before .before .before .before .before in
+    (start .pre .0 .found .limits .1, start .pre .1 .1, inside known, omega (arith, c .counts-of .ensures .1, start .pre .0 .found .limits))
 
 -- the place is tested with the counts of the row
-tested : (c : tie.After-place-permits) → let known = c .before .before .before .before in let a = known .before .before .before .before .before .args in
-    permitsAt (a .n) (a .bundle .now) (a .places .first) (rowAt (drop (ROW * a .row) (a .table .now)) .counts) (a .event) (known .j .given .0 .0) ≡ c .place-permits .result
+tested : (c : tie.After-place-permits) → let known = c .before .before .before .before in let a = known .before .before .before .before .before .before .args in
+    permitsAt (a .head .n) (a .bundle .now) (a .head .places .first) (rowAt (drop (ROW * a .row) (a .table .now)) .counts) (a .event) (known .j .given .0 .0) ≡ c .place-permits .result
 tested c = sym (c .place-permits .ensures ∙ rw (c .before .counts-of .ensures .0))
 
 returns : tie.Need-returns

@@ -6,6 +6,7 @@ use borrow.Author.Needs.{needs}
 use denote.Ref.{now}
 use lib.ListN.{length, take}
 use Rattle.laws.specs.Numbers.{Bytes}
+use Rattle.refusals.specs.Answers.{fitted}
 use Rattle.block.specs.File.{opened}
 use Rattle.demands.specs.Files.{ran, tableRan, both-compared}
 use Rattle.demands.proofs.run_both.Statement.{statement}
@@ -22,8 +23,8 @@ returns c =
     let args = start .args in
     let first = one .run .ensures in
     let second = c .before .before .before .before .run2 .ensures in
-    let answered : c .before .before .before .before .run2 .result ≡ ran (opened (now (args .file2))) (length (now (args .output2))) (length (now (args .table))) (now (args .word)) =
-    second .0 ∙ ap (λ (k : ℕ). ran (opened (now (args .file2))) (length (now (args .output2))) k (now (args .word))) (same-size one) in
+    let answered : c .before .before .before .before .run2 .result ≡ ran (fitted (opened (now (args .file2))) (length (now (args .output2)))) (length (now (args .table))) (now (args .word)) =
+    second .0 ∙ ap (λ (k : ℕ). ran (fitted (opened (now (args .file2))) (length (now (args .output2)))) k (now (args .word))) (same-size one) in
     let small₁ : Bytes (now (args .file1)) = λ i. omega (arith, c .before .before .before .before .before .before .before .before .before .before .before .before .before .before .before .before .before .before .before .shared-slice-known .given i) in
     let small₂ : Bytes (now (args .file2)) = λ i. omega (arith, c .before .before .before .before .before .before .before .before .before .before .before .before .before .before .before .before .before .before .shared-slice-known2 .given i) in
     let compared = both-compared (now (args .file1)) (now (args .file2)) (now (args .output1)) (now (args .output2)) (now (args .table)) (now (args .word)) (record { first = one .run .result; second = c .before .before .before .before .run2 .result }) small₁ small₂ (first .0) answered in (
@@ -35,7 +36,7 @@ returns c =
           (
             second .1 .0,
             (
-              second .1 .1 ∙ ap (tableRan (opened (now (args .file2))) (length (now (args .output2)))) (first .1 .1),
+              second .1 .1 ∙ ap (tableRan (fitted (opened (now (args .file2))) (length (now (args .output2))))) (first .1 .1),
               λ a₁ a₂ c₁ c₂ o₁ o₂ v₁ v₂ b₁ b₂ f₁ f₂. compared a₁ a₂ c₁ c₂ o₁ o₂ v₁ v₂ b₁ b₂ (f₁ ∙ ap (take (a₁ .size)) (first .1 .0)) (f₂ ∙ ap (take (a₂ .size)) (second .1 .0)),
             ),
           ),

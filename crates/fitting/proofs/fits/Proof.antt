@@ -5,12 +5,11 @@ use Prim.Native.Nat.{ℕ, _*_, _-_, _≤_}
 use native.Mathlib.Omega.{arith}
 use borrow.Author.Needs.{needs}
 use borrow.Author.Tests.{not-true, not-false}
-use lib.ListN.{length, drop, length-drop}
-use lib.Seq.{take-all}
+use lib.ListN.{drop}
 use Rattle.nets.specs.Machine.{placeOf}
 use Rattle.logs.specs.Rows.{ROW, rowAt}
 use Rattle.fitting.specs.Fitting.{rowFits}
-use Rattle.fitting.specs.FittingLaws.{RowsBelow, rows-start, rows-stop, rows-next, rows-end}
+use Rattle.fitting.specs.FittingLaws.{part-is, RowsBelow, rows-start, rows-stop, rows-next, rows-end}
 use Rattle.fitting.proofs.fits.Statement.{statement}
 use Rattle.fitting.proofs.fits.Tie as tie
 
@@ -31,9 +30,7 @@ tested : (c : tie.After-row-fits Inv-loop μ-loop)
 tested c =
     let at = c .before .before .before in
     let args = at .before .before .args in
-    let rest : List ℕ = drop (ROW * at .loop .r) (args .table .now) in
-    c .row-fits .ensures
-    ∙ ap (λ (l : List ℕ). rowFits (placeOf (args .place)) (rowAt l)) (take-all (length (args .table .now) - ROW * at .loop .r) rest (omega (arith, length-drop (ROW * at .loop .r) (args .table .now))))
+    c .row-fits .ensures ∙ ap (λ (l : List ℕ). rowFits (placeOf (args .place)) (rowAt l)) (part-is (args .table .now) (ROW * at .loop .r))
 
 returns : tie.Need-returns Inv-loop μ-loop
 returns c =

@@ -6,7 +6,8 @@ use lib.ListN.{getD}
 use mir.Syntax.{w64}
 use mir.Val.{toZ, ofZ}
 use mir.Facts.{toZ-ofZ}
-use Rattle.nets.specs.Machine.{COUNTS, placeOf, Held}
+use Rattle.limits.specs.Limits.{MAX-EVENTS}
+use Rattle.nets.specs.Machine.{placeOf, Held}
 use Rattle.fitting.specs.Fitting.{eventsFit}
 use Rattle.fitting.specs.FittingLaws.{row-empty, row-fits}
 use Rattle.fitting.proofs.row_fits.Statement.{statement}
@@ -29,7 +30,7 @@ returns-2 c =
     let known = c .before .before in
     let args = known .before .before .before .before .args in
     c .events-fit .ensures
-    ∙ ap (λ (t : ℤ). eventsFit t (args .place .consumed) (getD (args .row .now) COUNTS 0)) (back known ∙ known .tokens .ensures .0)
+    ∙ ap (λ (t : ℤ). eventsFit t (args .place .consumed) (getD (args .row .now) MAX-EVENTS 0)) (back known ∙ known .tokens .ensures .0)
     ∙ row-fits (args .place) (args .row .now)
 
 pub row-fits-spec : {M : Type 1} → statement M

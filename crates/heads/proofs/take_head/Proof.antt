@@ -1,13 +1,11 @@
 -- `heads::take_head` meets its contract.
 use mathlib.Core.Path.{_≡_, refl, sym, ap, _∙_}
-use native.Mathlib.Omega.{arith}
 use borrow.Author.Needs.{needs}
 use denote.Ref.{now}
+use Rattle.bundles.specs.Readers.{rowsInLimit}
 use Rattle.bundles.specs.Reading.{got, byte}
-use Rattle.bundles.specs.FieldSteps.{readOf, between, between-true, byte-got}
+use Rattle.bundles.specs.FieldSteps.{readOf, between}
 use Rattle.bundles.specs.HeadSteps.{head-failed}
-use Rattle.verdicts.specs.Judging.{rowsInLimit}
-use Rattle.heads.specs.Heads.{head-whole}
 use Rattle.heads.proofs.take_head.Statement.{statement}
 use Rattle.heads.proofs.take_head.Tie as tie
 
@@ -20,16 +18,14 @@ take-after-requires : tie.Need-take-after-requires
 take-after-requires c κs =
     let n = c .before .before in
     let start = n .before .before .before .before .before in
-    (omega (arith, between-true 1 12 (n .n .given .0 .0) (byte-got (between 1 12) _ _ _ _ (counted n) .0)), start .pre .0, start .pre .1)
+    (counted n, start .pre)
 
 returns : tie.Need-returns
 unfolding readOf
 returns c = (head-failed rowsInLimit _ (sym (c .before .before .before .byte-between .ensures) ∙ ap readOf (c .before .refusal .given .1)), refl)
 
 returns-2 : tie.Need-returns-2
-returns-2 c =
-    let call = c .before .before in
-    head-whole _ (counted (call .before .before .before)) (now (c .before .before .before .before .before .before .before .before .before .before .args .table)) (call .take-after .last .1 .1 .1 .0) (call .take-after .result) (call .take-after .ensures)
+returns-2 c = c .before .before .take-after .ensures
 
 pub take-head-spec : {M : Type 1} → statement M
 take-head-spec =

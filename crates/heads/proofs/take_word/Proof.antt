@@ -5,9 +5,8 @@ use native.Mathlib.Omega.{arith}
 use borrow.Author.Needs.{needs}
 use denote.Ref.{now}
 use lib.ListN.{length, length-take}
+use Rattle.limits.specs.Limits.{MAX-EVENTS, MAX-LOG-EVENTS}
 use Rattle.nets.specs.Events.{EventsBelow}
-use Rattle.nets.specs.Machine.{COUNTS}
-use Rattle.logs.specs.Answers.{MAX-LOG-EVENTS}
 use Rattle.logs.specs.IndexLaws.{index-taken}
 use Rattle.bundles.specs.FieldSteps.{readOf}
 use Rattle.bundles.specs.WordSteps.{eventsAt}
@@ -18,7 +17,7 @@ use Rattle.heads.proofs.take_word.Tie as tie
 -- the word that was read
 read : (c : tie.After-size) → let a = c .before .before .before .before .before .before .before .args in WordRead (a .n) (a .events) (now (a .bundle)) (a .at) (c .size .given .0 .0) (c .size .given .0 .1 .0)
 unfolding readOf
-read c = word-read _ _ _ _ _ _ (c .before .before .before .before .before .before .before .pre .0) (sym (c .before .before .read-word .ensures) ∙ ap readOf (c .size .given .1))
+read c = word-read _ _ _ _ _ _ (c .before .before .before .before .before .before .before .pre .0 .0) (sym (c .before .before .read-word .ensures) ∙ ap readOf (c .size .given .1))
 
 -- it is the part of the bundle that was taken out
 word : (c : tie.After-word-at) → now (c .word-at .result) ≡ read (c .before .before) .w
@@ -38,20 +37,20 @@ byte c =
     let start = first .before in
     rw (c .word-at .ensures, length-take) (omega (arith, first .shared-slice-known .given (start .args .at)))
 
-below : (c : tie.After-word-at) → EventsBelow COUNTS (now (c .word-at .result))
+below : (c : tie.After-word-at) → EventsBelow MAX-EVENTS (now (c .word-at .result))
 below c = rw (word c) (read (c .before .before) .below)
 
 add-word-requires : tie.Need-add-word-requires
 add-word-requires c κs =
     let d = c .before .before .before in
     let p = d .before .before .before .before .before .before .before .before .before .pre in
-    (p .1, p .3, short d, below d, p .6, omega (arith, p .5, byte d))
+    (record { rows = p .0 .1; table = p .0 .3; short = short d; below = below d }, (p .1 .0, omega (arith, p .1 .2, byte d)))
 
 returns : tie.Need-returns
 returns c =
     let call = c .before .before .before .before .before in
     let d = call .before .before .before .before in
-    (λ log t₀ h. no-room h (d .before .before .before .before .before .before .before .before .before .pre .0) _ _ (read (d .before .before)) _ _ (rw (word d) at (call .add-word .ensures)) (c .if1 .taken), tt)
+    (λ log t₀ h. no-room h (d .before .before .before .before .before .before .before .before .before .pre .0 .0) _ _ (read (d .before .before)) _ _ (rw (word d) at (call .add-word .ensures)) (c .if1 .taken), tt)
 
 index-rows-requires : tie.Need-index-rows-requires
 index-rows-requires c κs =
@@ -59,7 +58,7 @@ index-rows-requires c κs =
     let call = e .before .before .before .before .before in
     let p = call .before .before .before .before .before .before .before .before .before .before .before .before .before .pre in
     let a = call .add-word .ensures in
-    (omega (arith, a .size), e .if1 .left, p .4, omega (arith, e .if1 .left, call .add-word .kept .0, p .3), index-taken _ _ _ _ _ _ (a .fits (e .if1 .left)) (p .6))
+    (omega (arith, a .size), e .if1 .left, p .1 .1, omega (arith, e .if1 .left, call .add-word .kept .0, p .0 .3), index-taken _ _ _ _ _ _ (a .fits (e .if1 .left)) (p .1 .0))
 
 add-t29 : tie.Need-add-t29
 add-t29 c = let r = read (c .before .before .before .before .before .before .before .before .before .before .before .before .before .before .before .before) in omega (arith, r .limit, r .size)
@@ -68,14 +67,14 @@ returns-2 : tie.Need-returns-2
 unfolding readOf
 returns-2 c =
     let call = c .before .before .before in
-    (λ log t₀ h. (word-refused h (call .before .before .before .before .before .pre .0) _ _ (sym (call .read-word .ensures) ∙ ap readOf (c .before .refusal .given .1)), h), tt)
+    (λ log t₀ h. (word-refused h (call .before .before .before .before .before .pre .0 .0) _ _ (sym (call .read-word .ensures) ∙ ap readOf (c .before .refusal .given .1)), h), tt)
 
 returns-3 : tie.Need-returns-3
 returns-3 c =
     let e = c .before .before .before .before .before in
     let call = e .before .before .before .before .before in
     let d = call .before .before .before .before in
-    (λ log t₀ h. word-taken h (d .before .before .before .before .before .before .before .before .before .pre .0) _ _ (read (d .before .before)) _ _ (rw (word d) at (call .add-word .ensures)) (e .if1 .left) (call .add-word .kept .0), c .before .before .index-rows .ensures)
+    (λ log t₀ h. word-taken h (d .before .before .before .before .before .before .before .before .before .pre .0 .0) _ _ (read (d .before .before)) _ _ (rw (word d) at (call .add-word .ensures)) (e .if1 .left) (call .add-word .kept .0), c .before .before .index-rows .ensures)
 
 pub take-word-spec : {M : Type 1} → statement M
 take-word-spec =

@@ -17,14 +17,14 @@ abbrev μ-loop : tie.MeasureT-loop
 μ-loop bundle at n count table₀ index₀ numbers₀ rows₀ events₀ next₀ left₀ table index numbers rows events next left = left
 
 index-rows-requires : tie.Need-index-rows-requires Inv-loop μ-loop
-index-rows-requires c κs = (omega arith, omega arith, omega arith, omega (arith, c .before .before .before .before .pre .1), index-none _)
+index-rows-requires c κs = (omega arith, omega arith, omega arith, omega (arith, c .before .before .before .before .pre .1 .long), index-none _)
 
 loop-holds : tie.Need-loop-holds Inv-loop μ-loop
 loop-holds c =
     let call = c .before in
     let start = call .before .before .before .before .before in
     let a = start .args in
-    (taken-start (a .n) (a .bundle .now) (a .at) (a .count) (a .table .now) (start .pre .0) (start .pre .2), search needs, search needs, call .index-rows .ensures)
+    (taken-start (a .n) (a .bundle .now) (a .at) (a .count) (a .table .now) (start .pre .0) (start .pre .1 .first), search needs, search needs, call .index-rows .ensures)
 
 take-word-requires : tie.Need-take-word-requires Inv-loop μ-loop
 take-word-requires c κs =
@@ -32,7 +32,7 @@ take-word-requires c κs =
     let p = l .before .before .before .before .before .before .before .pre in
     let i = l .loop .inv in
     let s = i .0 .held in
-    (p .0, s .few, s .limit, omega (arith, p .1, s .same), omega (arith, i .1), omega (arith, i .2), i .3)
+    ((p .0, s .few, s .limit, omega (arith, p .1 .long, s .same)), (i .3, omega (arith, i .1), omega (arith, i .2)))
 
 same-length : tie.Need-same-length Inv-loop μ-loop
 same-length c =

@@ -1,70 +1,29 @@
--- `judge::judge_file` meets its contract: the bundle that opening gave lies in the output, which is long enough for every bundle, and the input's
--- buffer is longer than every file.
-use mathlib.Core.Path.{_≡_, sym, ap, _∙_}
-use Prim.Native.Nat.{_≤_}
-use native.Mathlib.Omega.{arith}
+-- `judge::judge_file` meets its contract: the output is long enough for every bundle, and the buffer longer than every file.
+use mathlib.Core.Path.{sym, ap, _∙_}
+use mathlib.Core.List.{List}
+use Prim.Native.Nat.{ℕ}
 use borrow.Author.Needs.{needs}
 use denote.Ref.{now}
-use lib.ListN.{length, take}
 use lib.Seq.{length-take-le}
-use Rattle.refusals.specs.Laws.{answer-within}
-use Rattle.block.specs.Whole.{whole-refused, whole-opened}
+use Rattle.refusals.specs.Results.{Result, bind}
+use Rattle.block.specs.Rooms.{open-fitted}
+use Rattle.block.specs.Whole.{open-whole}
 use Rattle.logs.specs.Answers.{TABLE}
-use Rattle.verdicts.specs.Judging.{verdict}
-use Rattle.judge.specs.Files.{fileVerdict}
+use Rattle.verdicts.specs.Judging.{judged, verdictOn}
+use Rattle.judging.specs.Files.{fileJudged, fileVerdict}
+use Rattle.judge.specs.Files.{inputVerdict}
 use Rattle.judge.proofs.judge_file.Statement.{statement}
 use Rattle.judge.proofs.judge_file.Tie as tie
 
-slice-aggregate-open : tie.Need-slice-aggregate-open
-slice-aggregate-open c = sym (length-take-le _ _ (c .before .before .before .pre .0))
-
--- the length that opening gave
-within : (c : tie.After-size) → c .size .given .0 .0 ≤ length (c .before .before .before .«open» .last .1 .0)
-within c =
-    let call = c .before .before .before .«open» in
-    omega (arith, answer-within _ _ (c .size .given .0 .0) (sym (call .ensures .0) ∙ c .size .given .1), call .kept .1 .0)
-
-array-share-prefix-bundle : tie.Need-array-share-prefix-bundle
-array-share-prefix-bundle c = within (c .before)
-
-slice-aggregate-judge : tie.Need-slice-aggregate-judge
-slice-aggregate-judge c = sym (length-take-le _ _ (within (c .before .before)))
-
--- the output is long enough for every bundle
-room : (c : tie.After-open) → 64512 ≤ length (c .before .before .before .large-buffer .result)
-room c = let size : length (c .before .before .before .large-buffer .result) ≡ 65536 = search needs in omega arith
+slice-aggregate-judge-file : tie.Need-slice-aggregate-judge-file
+slice-aggregate-judge-file c = sym (length-take-le _ _ (c .before .before .pre .0))
 
 returns : tie.Need-returns
-unfolding fileVerdict
+unfolding fileVerdict fileJudged inputVerdict
 returns c input came =
-    let told = c .before in
-    let call = told .before .before .before in
-    let start = call .before .before .before .before .before in
-    sym (ap fileVerdict (whole-refused input (now (start .args .buffer)) (start .args .n) came (start .pre .1) _ (room call) (told .refusal .given .0 .0) (sym (call .«open» .ensures .0) ∙ told .refusal .given .1)))
-
-returns-2 : tie.Need-returns-2
-unfolding fileVerdict
-returns-2 c input came =
-    let told = c .before .before .before .before .before in
-    let call = told .before .before .before in
-    let start = call .before .before .before .before .before in
-    let size = told .size .given .0 .0 in
-    let got = whole-opened input (now (start .args .buffer)) (start .args .n) came (start .pre .1) (call .before .before .before .large-buffer .result) size (sym (call .«open» .ensures .0) ∙ told .size .given .1) in
-    c .before .judge .ensures .0 ∙ ap (verdict TABLE) (ap (take size) (call .«open» .ensures .1)) ∙ sym (ap fileVerdict got)
+    let start = c .before .before .before .before .before .before .before in
+    let same = open-fitted _ 64512 (search needs) ∙ open-whole input (now (start .args .buffer)) (start .args .n) came (start .pre .1) in
+    c .before .before .judge-file .ensures .0 ∙ ap (λ (m : Result (List ℕ)). verdictOn (bind m (λ b. judged TABLE b 0))) same
 
 pub judge-file-spec : {M : Type 1} → statement M
-judge-file-spec =
-    tie.close
-    (tie.spec
-    (λ c κs. search needs)
-    slice-aggregate-open
-    (λ c. search needs)
-    (λ c κs. search needs)
-    (λ c. search needs)
-    (λ c. search needs)
-    array-share-prefix-bundle
-    slice-aggregate-judge
-    (λ c. search needs)
-    (λ c κs. search needs)
-    returns
-    returns-2)
+judge-file-spec = tie.close (tie.spec slice-aggregate-judge-file (λ c. search needs) (λ c. search needs) (λ c κs. search needs) returns)

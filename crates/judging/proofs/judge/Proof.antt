@@ -8,10 +8,10 @@ use borrow.Author.Needs.{needs}
 use borrow.Author.Tests.{not-true, not-false}
 use denote.Ref.{now}
 use lib.ListN.{length}
+use Rattle.limits.specs.Limits.{rightSize}
 use Rattle.logs.specs.Rows.{rowsOf, cleared}
 use Rattle.logs.specs.Answers.{TABLE}
-use Rattle.logs.specs.LogTable.{cleared-first, cleared-length}
-use Rattle.bundles.specs.Layout.{sizeFits}
+use Rattle.logs.specs.LogTable.{cleared-table, cleared-length}
 use Rattle.verdicts.specs.Judging.{judging, verdictOn, verdict, tableOn, tableAfter}
 use Rattle.judging.specs.Steps.{TableLeft, isRefused, table-kept, table-cleared, answer-4, answer-5, answer-rest}
 use Rattle.judging.proofs.judge.Statement.{statement}
@@ -24,7 +24,7 @@ returns c =
     (c .refused .ensures ∙ sym (a .0), sym (a .1))
 
 -- the bundle's length is right past that test
-fits : (c : tie.Else1) → sizeFits (now (c .before .before .before .before .args .bundle)) ≡ true
+fits : (c : tie.Else1) → rightSize (length (now (c .before .before .before .before .args .bundle))) ≡ true
 fits c = sym (c .before .size-fits .ensures) ∙ not-false _ (c .if1 .left)
 
 returns-2 : tie.Need-returns-2
@@ -37,7 +37,7 @@ judge-fields-requires : tie.Need-judge-fields-requires
 judge-fields-requires c κs =
     let clear = c .before .before .before .clear in
     let t = now (c .before .before .before .before .before .before .before .before .before .before .args .table) in
-    (omega (arith, ap length (clear .ensures), cleared-length TABLE t), ap (rowsOf 1) (clear .ensures) ∙ cleared-first 3315 t)
+    record { long = omega (arith, ap length (clear .ensures), cleared-length TABLE t); first = ap (rowsOf 1) (clear .ensures) ∙ cleared-table t }
 
 -- past both tests the verdict is that on the fields
 judged : (c : tie.After-is-refused) → let call = c .before .before .before in let start = call .before .before .before .before .before .before .before .before .before .before .before in

@@ -6,14 +6,14 @@ use Rattle.judging.proofs.judge_net.Statement.{statement}
 use Rattle.judging.proofs.judge_net.Tie as tie
 
 returns : tie.Need-returns
-returns c h held =
+returns c =
     let call = c .before .before .before in
-    c .refused .ensures ∙ sym (net-unfit held (c .before .before .before .before .before .before .pre .0) _ (call .first-misfit .ensures) (c .before .if1 .taken))
+    c .refused .ensures ∙ sym (net-unfit (call .before .before .before .pre) (call .first-misfit .ensures) _ (c .before .if1 .taken))
 
 returns-2 : tie.Need-returns-2
-returns-2 c h held =
+returns-2 c =
     let call = c .before .before .before .before in
-    c .ended .ensures ∙ sym (net-fits held (c .before .before .before .before .before .before .before .pre .0) _ (call .first-misfit .ensures) (c .before .before .if1 .left) _ (c .before .certify .ensures h held))
+    c .ended .ensures ∙ sym (net-fits (call .before .before .before .pre) (call .first-misfit .ensures) _ (c .before .before .if1 .left) _ (c .before .certify .ensures))
 
 pub judge-net-spec : {M : Type 1} → statement M
 judge-net-spec =

@@ -8,10 +8,10 @@ use borrow.Author.Needs.{needs}
 use denote.Ref.{now}
 use lib.ListN.{length, take}
 use lib.Seq.{length-take-le}
-use Rattle.refusals.specs.Answers.{Result}
+use Rattle.refusals.specs.Results.{Result, bind}
 use Rattle.refusals.specs.Laws.{answer-within}
 use Rattle.block.specs.Whole.{whole-refused, whole-opened}
-use Rattle.screening.specs.Screening.{screened}
+use Rattle.screening.specs.Screening.{screenedOf, screened}
 use Rattle.screen.specs.Files.{fileScreened}
 use Rattle.screen.proofs.screen_file.Statement.{statement}
 use Rattle.screen.proofs.screen_file.Tie as tie
@@ -36,23 +36,23 @@ room : (c : tie.After-open) → 64512 ≤ length (c .before .before .before .lar
 room c = let size : length (c .before .before .before .large-buffer .result) ≡ 65536 = search needs in omega arith
 
 returns : tie.Need-returns
-unfolding fileScreened
+unfolding fileScreened bind screenedOf
 returns c input came =
     let told = c .before in
     let call = told .before .before .before in
     let start = call .before .before .before .before .before .before in
     let got = whole-refused input (now (start .args .buffer)) (start .args .n) came (start .pre .1) _ (room call) (told .refusal .given .0 .0) (sym (call .«open» .ensures .0) ∙ told .refusal .given .1) in
-    sym (ap (λ (r : Result). fileScreened r (now (start .args .word))) got)
+    sym (ap (λ (r : Result (List ℕ)). fileScreened r (now (start .args .word))) got)
 
 returns-2 : tie.Need-returns-2
-unfolding fileScreened
+unfolding fileScreened bind screened
 returns-2 c input came =
     let told = c .before .before .before in
     let call = told .before .before .before in
     let start = call .before .before .before .before .before .before in
     let size = told .size .given .0 .0 in
     let got = whole-opened input (now (start .args .buffer)) (start .args .n) came (start .pre .1) (call .before .before .before .large-buffer .result) size (sym (call .«open» .ensures .0) ∙ told .size .given .1) in
-    c .screen .ensures ∙ ap (λ (b : List ℕ). screened (take size b) (now (start .args .word))) (call .«open» .ensures .1) ∙ sym (ap (λ (r : Result). fileScreened r (now (start .args .word))) got)
+    c .screen .ensures ∙ ap (λ (b : List ℕ). screened (take size b) (now (start .args .word))) (call .«open» .ensures .1) ∙ sym (ap (λ (r : Result (List ℕ)). fileScreened r (now (start .args .word))) got)
 
 pub screen-file-spec : {M : Type 1} → statement M
 screen-file-spec =

@@ -7,7 +7,8 @@ use borrow.Author.Tests.{not-true, not-false}
 use lib.ListN.{length, getD}
 use mir.Syntax.{w16, w64}
 use mir.Val.{Fits, toZ}
-use Rattle.nets.specs.Machine.{COUNTS, placeOf}
+use Rattle.limits.specs.Limits.{MAX-EVENTS}
+use Rattle.nets.specs.Machine.{placeOf}
 use Rattle.screening.specs.Replay.{Going, going-start, going-least, going-held, going-stop, going-past, going-next, going-end}
 use Rattle.screening.specs.Searching.{first-stops, second-stops}
 use Rattle.screening.proofs.pair_permitted.Statement.{statement}
@@ -23,8 +24,8 @@ loop-holds : tie.Need-loop-holds Inv-loop μ-loop
 loop-holds c = (omega arith, going-start _ _ (omega arith), going-start _ _ (omega arith))
 
 -- the event of a turn is below 12
-event : (c : tie.In-loop Inv-loop μ-loop) → getD (c .before .before .before .args .word .now) (c .before .loop .i) 0 < COUNTS
-event c = c .before .before .before .pre .1 (c .before .loop .i) (c .loop-test .taken)
+event : (c : tie.In-loop Inv-loop μ-loop) → getD (c .before .before .before .args .word .now) (c .before .loop .i) 0 < MAX-EVENTS
+event c = c .before .before .before .pre .events (c .before .loop .i) (c .loop-test .taken)
 
 -- what it puts into each place is a u16
 few : (c : tie.In-loop Inv-loop μ-loop)

@@ -15,10 +15,11 @@ slice-aggregate-steps-permitted c =
 steps-permitted-requires : tie.Need-steps-permitted-requires
 steps-permitted-requires c κs =
     let start = c .before .before .before .before in
-    let args = start .args in (
-      omega (arith, length-take (args .end) (args .word .now)),
-      λ i h. omega (arith, part-below (args .n) (args .word .now) (start .pre .4) (args .end) i h),
-    )
+    let args = start .args in
+    record {
+      size = omega (arith, length-take (args .end) (args .word .now), start .pre .0 .1 .size);
+      events = λ i h. omega (arith, part-below (args .n) (args .word .now) (start .pre .0 .1 .events) (args .end) i h);
+    }
 
 returns : tie.Need-returns
 returns c = c .steps-permitted .ensures ∙ reach-means _ _ _ _ _ (c .before .before .place-at .ensures)

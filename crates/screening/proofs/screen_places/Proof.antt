@@ -3,15 +3,15 @@ use mathlib.Core.Path.{refl}
 use mathlib.Core.List.{[]}
 use borrow.Author.Needs.{needs}
 use denote.Ref.{now}
+use Rattle.bundles.specs.Readers.{eventsIn, netIn}
 use Rattle.screening.specs.Positions.{Best, best-start}
-use Rattle.screening.specs.Searching.{netAt}
 use Rattle.screening.specs.Steps.{search-stopped, search-permitted}
 use Rattle.screening.proofs.screen_places.Statement.{statement}
 use Rattle.screening.proofs.screen_places.Tie as tie
 
 -- the best stop of all places
 found : (c : tie.After-search-places) → let args = c .before .before .before .args in
-    Best (args .n) (netAt (args .n) (now (args .bundle)) (args .places .first) (args .places .count)) (now (args .word)) (c .search-places .result .position) (c .search-places .result .place)
+    Best (eventsIn (now (args .bundle))) (netIn (now (args .bundle))) (now (args .word)) (c .search-places .result .position) (c .search-places .result .place)
 found c = c .search-places .ensures [] refl (best-start _ _ 0)
 
 returns : tie.Need-returns

@@ -3,65 +3,61 @@ use mathlib.Core.Path.{_≡_, refl, ap, ap₂, _∙_}
 use mathlib.Core.Logic.{⊎-elim}
 use mathlib.Core.List.{_++_}
 use Prim.Native.Nat.{ℕ, _+_, _*_, _/_, _-_, _≤_}
-use native.Mathlib.Nat.{zero-mul, mul-one, mul-le-mul-left}
+use native.Mathlib.Nat.{zero-mul}
 use native.Mathlib.Omega.{arith}
 use borrow.Author.Needs.{needs}
 use lib.ListN.{length, take}
+use Rattle.limits.specs.Limits.{MAX-PLACES}
 use Rattle.nets.specs.Nets.{Net}
 use Rattle.bundles.specs.PlaceSteps.{placeSize, placeOn}
 use Rattle.screening.specs.Positions.{Best}
 use Rattle.screening.specs.Replay.{reach}
-use Rattle.screening.specs.Searching.{netAt, net-start, firstOf, stop-place, pair-second-at, pair-next-at, pair-inside, pair-stays, pair-earlier}
-use Rattle.screening.specs.declared.Stop.{Stop}
+use Rattle.screening.specs.Searching.{netAt, net-start, firstOf, found-place, pair-second-at, pair-next-at, pair-inside, pair-stays, pair-earlier}
+use Rattle.screening.specs.declared.Found.{Found}
 use Rattle.screening.proofs.search_pairs.Statement.{statement}
 use Rattle.screening.proofs.search_pairs.Tie as tie
 
 abbrev Inv-loop : tie.InvT-loop
-Inv-loop bundle n word before size pairs at₀ best₀ lowest₀ k₀ at best lowest k =
+Inv-loop bundle word before n size pairs at₀ best₀ lowest₀ k₀ at best lowest k =
     (k ≤ pairs)
     × (at ≡ at₀ + 2 * (2 * k * placeSize n))
     × (best ≤ length word)
     × ((net : Net) → length net ≡ before → Best n net word best₀ lowest₀ → Best n (net ++ netAt n bundle at₀ (2 * k)) word best lowest)
 
 abbrev μ-loop : tie.MeasureT-loop
-μ-loop bundle n word before size pairs at₀ best₀ lowest₀ k₀ at best lowest k = pairs - k
+μ-loop bundle word before n size pairs at₀ best₀ lowest₀ k₀ at best lowest k = pairs - k
 
 loop-holds : tie.Need-loop-holds Inv-loop μ-loop
 loop-holds c =
     let start = c .before .before .before in
-    (omega arith, omega (arith, zero-mul (placeSize (start .args .n))), omega (arith, start .pre .2), λ net size best. rw (net-start (start .args .n) (start .args .bundle .now) (start .args .places .first) net) best)
+    (omega arith, omega (arith, zero-mul (placeSize (start .args .head .n))), omega (arith, start .pre .1 .1), λ net size best. rw (net-start (start .args .head .n) (start .args .bundle .now) (start .args .head .places .first) net) best)
 
 -- the pair of a turn is there
-inside : (c : tie.In-loop Inv-loop μ-loop) → let args = c .before .before .before .before .before .args in c .before .loop .at + 2 * (2 * placeSize (args .n)) ≤ length (args .bundle .now)
+inside : (c : tie.In-loop Inv-loop μ-loop) → let args = c .before .before .before .before .before .args in c .before .loop .at + 2 * (2 * placeSize (args .head .n)) ≤ length (args .bundle .now)
 inside c =
     let start = c .before .before .before .before .before in
     let loop = c .before .loop in
-    omega (arith, pair-inside (start .args .n) (start .args .places .first) (loop .k) (start .args .places .count) (length (start .args .bundle .now)) (c .loop-test .taken) (start .pre .0 .inside), loop .inv .1)
+    omega (arith, pair-inside (start .args .head .n) (start .args .head .places .first) (loop .k) (start .args .head .places .count) (length (start .args .bundle .now)) (c .loop-test .taken) (start .pre .0 .found .inside), loop .inv .1)
 
 pair-at-requires : tie.Need-pair-at-requires Inv-loop μ-loop
 pair-at-requires c κs =
     let start = c .before .before .before .before .before in
-    (start .pre .0 .limit, inside c, c .before .loop .inv .2, start .pre .0 .size, start .pre .0 .events)
+    ((start .pre .0 .found .limits .1, start .pre .0 .word), (inside c, c .before .loop .inv .2))
 
--- there are not so many places that counting them could overflow
-few : (c : tie.In-loop Inv-loop μ-loop) → c .before .before .before .before .before .args .places .count ≤ length (c .before .before .before .before .before .args .bundle .now)
-few c =
-    let start = c .before .before .before .before .before in
-    let count = start .args .places .count in
-    let one : 1 ≤ placeSize (start .args .n) = omega arith in
-    omega (arith, mul-le-mul-left count one, mul-one count, start .pre .0 .inside)
+few : (c : tie.In-loop Inv-loop μ-loop) → c .before .before .before .before .before .args .head .places .count ≤ MAX-PLACES
+few c = c .before .before .before .before .before .pre .0 .found .few
 
 mul-lowest : tie.Need-mul-lowest Inv-loop μ-loop
 mul-lowest c = let turn = c .before .before .before in omega (arith, few turn)
 
 add-lowest : tie.Need-add-lowest Inv-loop μ-loop
-add-lowest c = let turn = c .before .before .before in omega (arith, few turn, turn .before .before .before .before .before .pre .1)
+add-lowest c = let turn = c .before .before .before in omega (arith, few turn, turn .before .before .before .before .before .pre .1 .0)
 
 add-lowest-2 : tie.Need-add-lowest-2 Inv-loop μ-loop
 add-lowest-2 c =
     let turn = c .before .before .before .before in
-    let which : c .before .before .before .pair-at .result .place ≤ 1 = stop-place _ _ _ (c .before .before .before .pair-at .ensures) in
-    omega (arith, few turn, turn .before .before .before .before .before .pre .1)
+    let which : c .before .before .before .pair-at .result .place ≤ 1 = found-place _ _ _ (c .before .before .before .pair-at .ensures) in
+    omega (arith, few turn, turn .before .before .before .before .before .pre .1 .0)
 
 add-at : tie.Need-add-at Inv-loop μ-loop
 add-at c = omega (arith, inside (c .before .before .before))
@@ -72,19 +68,19 @@ loop-again c =
     let start = turn .before .before .before .before .before in
     let loop = turn .before .loop in
     let found = c .before .before .pair-at in
-    let n = start .args .n in
+    let n = start .args .head .n in
     let b = start .args .bundle .now in
     let w = start .args .word .now in
-    let first = start .args .places .first in
+    let first = start .args .head .places .first in
     let one = reach (placeOn n b (first + 2 * (2 * loop .k * placeSize n))) (take (loop .best) w) in
     let two = reach (placeOn n b (first + 2 * ((2 * loop .k + 1) * placeSize n))) (take (loop .best) w) in
     let stop : found .result ≡ firstOf one two =
     found .ensures
     ∙ ap₂ (λ (x y : ℕ). firstOf (reach (placeOn n b x) (take (loop .best) w)) (reach (placeOn n b y) (take (loop .best) w))) (loop .inv .1) (ap (λ (x : ℕ). x + 2 * placeSize n) (loop .inv .1) ∙ pair-second-at n first (loop .k)) in
-    let position = ap (λ (s : Stop). s .position) stop in
-    let place = ap (λ (s : Stop). s .place) stop in
+    let position = ap (λ (s : Found). s .position) stop in
+    let place = ap (λ (s : Found). s .place) stop in
     let two-more : 2 * loop .k + 1 + 1 ≡ 2 * (loop .k + 1) = omega arith in
-    let events = start .pre .0 .events in (
+    let events = start .pre .0 .word .events in (
       omega arith,
       ap (λ (x : ℕ). x + 4 * placeSize n) (loop .inv .1) ∙ pair-next-at n first (loop .k),
       ⊎-elim (λ better. omega (arith, better .2, better .0 .taken, loop .inv .2)) (λ other. omega (arith, other .1, loop .inv .2)) (c .if1 .came),
@@ -100,7 +96,7 @@ loop-again c =
 returns : tie.Need-returns Inv-loop μ-loop
 returns c =
     let loop = c .before .loop in
-    let done : loop .k ≡ c .before .before .before .before .before .args .places .count / 2 = omega arith in
+    let done : loop .k ≡ c .before .before .before .before .before .args .head .places .count / 2 = omega arith in
     (loop .inv .2, λ net size best. rw done at (loop .inv .3 net size best))
 
 pub search-pairs-spec : {M : Type 1} → statement M

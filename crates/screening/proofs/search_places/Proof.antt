@@ -5,53 +5,54 @@ use native.Mathlib.Omega.{arith}
 use borrow.Author.Needs.{needs}
 use lib.ListN.{length}
 use Rattle.bundles.specs.PlaceSteps.{placeSize, place-inside}
-use Rattle.screening.specs.Searching.{search-stays, search-earlier}
+use Rattle.screening.specs.Searching.{over-head, search-stays, search-earlier}
 use Rattle.screening.proofs.search_places.Statement.{statement}
 use Rattle.screening.proofs.search_places.Tie as tie
 
 returns : tie.Need-returns
 returns c =
-    let args = c .before .before .before .before .before .before .args in
-    let all : 2 * (args .places .count / 2) ≡ args .places .count = omega arith in
-    λ net size best. rw all at (c .before .before .before .search-pairs .ensures .1 net size best)
+    let start = c .before .before .before .before .before .before in
+    let args = start .args in
+    let all : 2 * (args .head .places .count / 2) ≡ args .head .places .count = omega arith in
+    over-head (start .pre .0 .found) (λ net size best. rw all at (c .before .before .before .search-pairs .ensures .1 net size best))
 
 -- the odd last place is there
-inside : (c : tie.Else1) → let args = c .before .before .before .before .before .before .args in args .places .first + 2 * (2 * (args .places .count / 2) * placeSize (args .n)) + 2 * placeSize (args .n) ≤ length (args .bundle .now)
+inside : (c : tie.Else1) → let args = c .before .before .before .before .before .before .args in args .head .places .first + 2 * (2 * (args .head .places .count / 2) * placeSize (args .head .n)) + 2 * placeSize (args .head .n) ≤ length (args .bundle .now)
 inside c =
     let start = c .before .before .before .before .before .before in
-    place-inside (start .args .n) (start .args .places .first) (start .args .places .count) (2 * (start .args .places .count / 2)) (length (start .args .bundle .now)) (c .if1 .left) (start .pre .0 .inside)
+    place-inside (start .args .head .n) (start .args .head .places .first) (start .args .head .places .count) (2 * (start .args .head .places .count / 2)) (length (start .args .bundle .now)) (c .if1 .left) (start .pre .0 .found .inside)
 
 mul-at-2 : tie.Need-mul-at-2
-mul-at-2 c = omega (arith, inside c)
+mul-at-2 c = omega (arith, inside (c .before))
 
 mul-at-3 : tie.Need-mul-at-3
-mul-at-3 c = omega (arith, inside c)
+mul-at-3 c = omega (arith, inside (c .before))
 
 add-at-2 : tie.Need-add-at-2
-add-at-2 c = omega (arith, inside (c .before))
+add-at-2 c = omega (arith, inside (c .before .before))
 
 reach-of-requires : tie.Need-reach-of-requires
 reach-of-requires c κs =
-    let start = c .before .before .before .before .before .before .before in
-    (start .pre .0 .limit, inside (c .before), c .before .before .before .before .search-pairs .ensures .0, start .pre .0 .size, start .pre .0 .events)
+    let start = c .before .before .before .before .before .before .before .before in
+    ((start .pre .0 .found .limits .1, start .pre .0 .word), (inside (c .before .before), c .before .before .before .before .before .search-pairs .ensures .0))
 
 returns-2 : tie.Need-returns-2
 returns-2 c =
     let last = c .before .before in
-    let start = last .before .before .before .before .before .before .before .before in
-    let found = last .before .before .before .before .before .search-pairs in
+    let start = last .before .before .before .before .before .before .before .before .before in
+    let found = last .before .before .before .before .before .before .search-pairs in
     let args = start .args in
-    let all : 2 * (args .places .count / 2) + 1 ≡ args .places .count = omega arith in
-    λ net size best. rw all at (search-stays (args .n) (args .word .now) (start .pre .0 .events) net (args .bundle .now) (args .places .first) (2 * (args .places .count / 2)) (found .result .position) (found .result .place) (found .ensures .1 net size best) (last .reach-of .result) (last .reach-of .ensures) (c .if2 .taken))
+    let all : 2 * (args .head .places .count / 2) + 1 ≡ args .head .places .count = omega arith in
+    over-head (start .pre .0 .found) (λ net size best. rw all at (search-stays (args .head .n) (args .word .now) (start .pre .0 .word .events) net (args .bundle .now) (args .head .places .first) (2 * (args .head .places .count / 2)) (found .result .position) (found .result .place) (found .ensures .1 net size best) (last .reach-of .result) (last .reach-of .ensures) (c .if2 .taken)))
 
 returns-3 : tie.Need-returns-3
 returns-3 c =
     let last = c .before .before in
-    let start = last .before .before .before .before .before .before .before .before in
-    let found = last .before .before .before .before .before .search-pairs in
+    let start = last .before .before .before .before .before .before .before .before .before in
+    let found = last .before .before .before .before .before .before .search-pairs in
     let args = start .args in
-    let all : 2 * (args .places .count / 2) + 1 ≡ args .places .count = omega arith in
-    λ net size best. rw (← size) (rw all at (search-earlier (args .n) (args .word .now) (start .pre .0 .events) net (args .bundle .now) (args .places .first) (2 * (args .places .count / 2)) (found .result .position) (found .result .place) (found .ensures .1 net size best) (last .reach-of .result) (last .reach-of .ensures) (c .if2 .left)))
+    let all : 2 * (args .head .places .count / 2) + 1 ≡ args .head .places .count = omega arith in
+    over-head (start .pre .0 .found) (λ net size best. rw (← size) (rw all at (search-earlier (args .head .n) (args .word .now) (start .pre .0 .word .events) net (args .bundle .now) (args .head .places .first) (2 * (args .head .places .count / 2)) (found .result .position) (found .result .place) (found .ensures .1 net size best) (last .reach-of .result) (last .reach-of .ensures) (c .if2 .left))))
 
 pub search-places-spec : {M : Type 1} → statement M
 search-places-spec =

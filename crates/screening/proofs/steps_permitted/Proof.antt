@@ -7,7 +7,8 @@ use borrow.Author.Tests.{not-true, not-false}
 use lib.ListN.{length, getD}
 use mir.Syntax.{w16, w64}
 use mir.Val.{Fits, toZ}
-use Rattle.nets.specs.Machine.{COUNTS, placeOf}
+use Rattle.limits.specs.Limits.{MAX-EVENTS}
+use Rattle.nets.specs.Machine.{placeOf}
 use Rattle.screening.specs.Replay.{Going, going-start, going-held, going-stop, going-next, going-end}
 use Rattle.screening.proofs.steps_permitted.Statement.{statement}
 use Rattle.screening.proofs.steps_permitted.Tie as tie
@@ -22,8 +23,8 @@ loop-holds : tie.Need-loop-holds Inv-loop μ-loop
 loop-holds c = (omega arith, going-start _ _ (omega arith))
 
 -- the event of a turn is below 12
-event : (c : tie.In-loop Inv-loop μ-loop) → getD (c .before .before .before .args .word .now) (c .before .loop .i) 0 < COUNTS
-event c = c .before .before .before .pre .1 (c .before .loop .i) (c .loop-test .taken)
+event : (c : tie.In-loop Inv-loop μ-loop) → getD (c .before .before .before .args .word .now) (c .before .loop .i) 0 < MAX-EVENTS
+event c = c .before .before .before .pre .events (c .before .loop .i) (c .loop-test .taken)
 
 covers-requires : tie.Need-covers-requires Inv-loop μ-loop
 covers-requires c κs = going-held (c .before .before .before .loop .inv .1) (omega arith)

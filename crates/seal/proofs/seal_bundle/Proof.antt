@@ -2,8 +2,11 @@
 use mathlib.Core.Path.{sym, ap, _∙_}
 use borrow.Author.Needs.{needs}
 use lib.Seq.{length-take-le}
-use Rattle.refusals.specs.Answers.{Result, written}
-use Rattle.block.specs.Rooms.{fullAnswer, seal-room}
+use mathlib.Core.List.{List}
+use Prim.Native.Nat.{ℕ}
+use Rattle.refusals.specs.Results.{Result}
+use Rattle.refusals.specs.Answers.{answerOf, written}
+use Rattle.block.specs.Rooms.{seal-room}
 use Rattle.block.specs.Whole.{seal-whole}
 use Rattle.seal.proofs.seal_bundle.Statement.{statement}
 use Rattle.seal.proofs.seal_bundle.Tie as tie
@@ -16,8 +19,8 @@ returns c =
     let start = c .before .before .before .before .before .before .before in
     let args = start .args in
     let call = c .before .before .seal in (
-      λ input came. call .ensures .0 ∙ seal-room _ _ (start .pre .2) ∙ ap fullAnswer (seal-whole input (args .buffer .now) (args .n) came (start .pre .1)),
-      λ input came. call .ensures .1 ∙ ap (λ (r : Result). written r (args .output .now)) (seal-whole input (args .buffer .now) (args .n) came (start .pre .1)),
+      λ input came. call .ensures .0 ∙ seal-room _ _ (start .pre .2) ∙ ap answerOf (seal-whole input (args .buffer .now) (args .n) came (start .pre .1)),
+      λ input came. call .ensures .1 ∙ ap (λ (r : Result (List ℕ)). written r (args .output .now)) (seal-whole input (args .buffer .now) (args .n) came (start .pre .1)),
     )
 
 pub seal-bundle-spec : {M : Type 1} → statement M

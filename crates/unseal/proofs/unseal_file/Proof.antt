@@ -2,8 +2,11 @@
 use mathlib.Core.Path.{sym, ap, _∙_}
 use borrow.Author.Needs.{needs}
 use lib.Seq.{length-take-le}
-use Rattle.refusals.specs.Answers.{Result, written}
-use Rattle.block.specs.Rooms.{fullAnswer, open-room}
+use mathlib.Core.List.{List}
+use Prim.Native.Nat.{ℕ}
+use Rattle.refusals.specs.Results.{Result}
+use Rattle.refusals.specs.Answers.{answerOf, written}
+use Rattle.block.specs.Rooms.{open-room}
 use Rattle.block.specs.Whole.{open-whole}
 use Rattle.unseal.proofs.unseal_file.Statement.{statement}
 use Rattle.unseal.proofs.unseal_file.Tie as tie
@@ -16,8 +19,8 @@ returns c =
     let start = c .before .before .before .before .before .before .before in
     let args = start .args in
     let call = c .before .before .«open» in (
-      λ input came. call .ensures .0 ∙ open-room _ _ (start .pre .2) ∙ ap fullAnswer (open-whole input (args .buffer .now) (args .n) came (start .pre .1)),
-      λ input came. call .ensures .1 ∙ ap (λ (r : Result). written r (args .output .now)) (open-whole input (args .buffer .now) (args .n) came (start .pre .1)),
+      λ input came. call .ensures .0 ∙ open-room _ _ (start .pre .2) ∙ ap answerOf (open-whole input (args .buffer .now) (args .n) came (start .pre .1)),
+      λ input came. call .ensures .1 ∙ ap (λ (r : Result (List ℕ)). written r (args .output .now)) (open-whole input (args .buffer .now) (args .n) came (start .pre .1)),
     )
 
 pub unseal-file-spec : {M : Type 1} → statement M

@@ -2,8 +2,9 @@
 use mathlib.Core.Path.{sym}
 use native.Mathlib.Omega.{arith}
 use borrow.Author.Needs.{needs}
+use Rattle.bundles.specs.ReadingLaws.{ranged}
 use Rattle.bundles.specs.Readers.{anything}
-use Rattle.bundles.specs.FieldSteps.{readOf, ranged, byte-missing, byte-there}
+use Rattle.bundles.specs.FieldSteps.{readOf, byte-missing, byte-there}
 use Rattle.bundles.proofs.fields.any_byte.Statement.{statement}
 use Rattle.bundles.proofs.fields.any_byte.Tie as tie
 

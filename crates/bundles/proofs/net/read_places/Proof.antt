@@ -6,6 +6,7 @@ use native.Mathlib.Omega.{arith}
 use borrow.Author.Needs.{needs}
 use borrow.Author.Tests.{leb-true}
 use denote.Ref.{now}
+use Rattle.limits.specs.Limits.{MAX-PLACES}
 use Rattle.bundles.specs.Reading.{got, byte}
 use Rattle.bundles.specs.FieldSteps.{readOf, upTo, byte-got}
 use Rattle.bundles.specs.PlaceSteps.{placeSize, placesRead, places-failed, places-missing, places-kept}
@@ -13,14 +14,14 @@ use Rattle.bundles.proofs.net.read_places.Statement.{statement}
 use Rattle.bundles.proofs.net.read_places.Tie as tie
 
 -- the place count
-counted : (c : tie.After-count) → byte (upTo 64) (now (c .before .before .before .before .args .bundle)) (c .before .before .before .before .args .at) ≡ got (c .count .given .0 .0) (c .count .given .0 .1 .0)
+counted : (c : tie.After-count) → byte (upTo MAX-PLACES) (now (c .before .before .before .before .args .bundle)) (c .before .before .before .before .args .at) ≡ got (c .count .given .0 .0) (c .count .given .0 .1 .0)
 unfolding readOf
 counted c = sym (c .before .before .byte-up-to .ensures) ∙ ap readOf (c .count .given .1)
 
 mul-numbers-2 : tie.Need-mul-numbers-2
 mul-numbers-2 c =
     let known = c .before .before in
-    let count : known .count .given .0 .0 ≤ 64 = omega (arith, leb-true (known .count .given .0 .0) 64 (byte-got (upTo 64) _ _ _ _ (counted known) .0)) in
+    let count : known .count .given .0 .0 ≤ MAX-PLACES = omega (arith, leb-true (known .count .given .0 .0) MAX-PLACES (byte-got (upTo MAX-PLACES) _ _ _ _ (counted known) .0)) in
     let size : placeSize (known .before .before .before .before .args .n) ≤ 25 = omega arith in
     omega (arith, mul-le-mul count size)
 

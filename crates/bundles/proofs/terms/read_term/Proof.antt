@@ -2,7 +2,8 @@
 use mathlib.Core.Path.{_≡_, sym, ap, _∙_}
 use borrow.Author.Needs.{needs}
 use denote.Ref.{now}
-use Rattle.bundles.specs.Reading.{got, andThen, byte, number}
+use Rattle.bundles.specs.Reading.{got, byte, number, onward}
+use Rattle.refusals.specs.Results.{bind}
 use Rattle.bundles.specs.Readers.{term}
 use Rattle.bundles.specs.FieldSteps.{readOf, below}
 use Rattle.bundles.specs.TermSteps.{termReadOf}
@@ -20,24 +21,24 @@ unfolding readOf
 event c = sym (c .before .before .byte-below .ensures) ∙ ap readOf (c .event .given .1)
 
 returns : tie.Need-returns
-unfolding readOf termReadOf term andThen
+unfolding readOf termReadOf term bind onward
 returns c = sym (rw (sym (c .before .before .before .number-below .ensures) ∙ ap readOf (c .before .refusal .given .1)))
 
 returns-2 : tie.Need-returns-2
-unfolding readOf termReadOf term andThen
+unfolding readOf termReadOf term bind onward
 returns-2 c =
     let call = c .before .before .before in
     sym (rw (row (call .before .before), sym (call .byte-below .ensures) ∙ ap readOf (c .before .refusal2 .given .1)))
 
 returns-3 : tie.Need-returns-3
-unfolding readOf termReadOf term andThen
+unfolding readOf termReadOf term bind onward
 returns-3 c =
     let call = c .before .before .before in
     let known = call .before .before in
     sym (rw (row (known .before .before .before .before), event known, sym (call .any-number .ensures) ∙ ap readOf (c .before .refusal3 .given .1)))
 
 returns-4 : tie.Need-returns-4
-unfolding readOf termReadOf term andThen
+unfolding readOf termReadOf term bind onward
 returns-4 c =
     let call = c .before .before .before in
     let known = call .before .before in

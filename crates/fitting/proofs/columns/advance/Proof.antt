@@ -6,7 +6,7 @@ use borrow.Author.Needs.{needs}
 use lib.ListN.{length, getD}
 use mir.Syntax.{w16}
 use mir.Val.{Fits}
-use Rattle.nets.specs.Machine.{COUNTS}
+use Rattle.limits.specs.Limits.{MAX-EVENTS}
 use Rattle.fitting.specs.Columns.{Between}
 use Rattle.fitting.specs.ColumnLaws.{between-start, between-next, between-end}
 use Rattle.fitting.proofs.Moderate.{Short, between-moderate}
@@ -14,15 +14,15 @@ use Rattle.fitting.proofs.columns.advance.Statement.{statement}
 use Rattle.fitting.proofs.columns.advance.Tie as tie
 
 abbrev Inv-loop : tie.InvT-loop
-Inv-loop tokens₀ count matrix row before i₀ tokens i = (i ≤ COUNTS) × (length tokens ≡ length tokens₀) × Between count matrix tokens before row i
+Inv-loop tokens₀ count matrix row before i₀ tokens i = (i ≤ MAX-EVENTS) × (length tokens ≡ length tokens₀) × Between count matrix tokens before row i
 
 abbrev μ-loop : tie.MeasureT-loop
-μ-loop tokens₀ count matrix row before i₀ tokens i = COUNTS - i
+μ-loop tokens₀ count matrix row before i₀ tokens i = MAX-EVENTS - i
 
 loop-holds : tie.Need-loop-holds Inv-loop μ-loop
 loop-holds c =
     let start = c .before .before in
-    (omega arith, refl, between-start (start .pre .4))
+    (omega arith, refl, between-start (start .pre .0 .1))
 
 recount-requires : tie.Need-recount-requires Inv-loop μ-loop
 recount-requires c κs =
@@ -31,18 +31,13 @@ recount-requires c κs =
     let numbers = rows .before in
     let start = numbers .before in
     let few : Short (start .args .t4) = λ k. let f : Fits w16 (getD (start .args .t4) k 0) = search needs in f .fits in
-    (start .pre .0, search needs, start .pre .2, omega arith, between-moderate (λ k. omega (arith, numbers .shared-slice-known .given k)) few (λ k. omega (arith, rows .shared-slice-known2 .given k)) (loop .inv .0) (loop .inv .2))
+    let held = between-moderate (λ k. omega (arith, numbers .shared-slice-known .given k)) few (λ k. omega (arith, rows .shared-slice-known2 .given k)) (loop .inv .0) (loop .inv .2) in
+    (search needs, held, omega arith)
 
 loop-again : tie.Need-loop-again Inv-loop μ-loop
 loop-again c =
     let loop = c .before .before .before .before .before .loop in
     (omega arith, c .before .recount .kept .0 ∙ loop .inv .1, between-next (loop .inv .2) (c .before .recount .ensures))
-
-same-length : tie.Need-same-length Inv-loop μ-loop
-same-length c = c .before .loop .inv .1
-
-returns : tie.Need-returns Inv-loop μ-loop
-returns c = between-end (omega arith) (c .before .loop .inv .2)
 
 pub advance-spec : {M : Type 1} → statement M
 advance-spec =
@@ -59,5 +54,5 @@ advance-spec =
     (λ c. search needs)
     (λ c. search needs)
     loop-again
-    same-length
-    returns)
+    (λ c. c .before .loop .inv .1)
+    (λ c. between-end (omega arith) (c .before .loop .inv .2)))

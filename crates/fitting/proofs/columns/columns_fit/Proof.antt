@@ -6,12 +6,12 @@ use native.Mathlib.Omega.{arith}
 use borrow.Author.Needs.{needs}
 use borrow.Author.Tests.{not-false}
 use lib.Dec.{T}
-use lib.ListN.{length, take, drop, length-drop}
-use lib.Seq.{take-all, getD-drop}
+use lib.ListN.{length, length-drop}
+use lib.Seq.{getD-drop}
 use Rattle.laws.specs.Bits.{bit}
-use Rattle.nets.specs.Machine.{COUNTS}
+use Rattle.limits.specs.Limits.{MAX-EVENTS}
 use Rattle.logs.specs.Rows.{ROW}
-use Rattle.fitting.specs.FittingLaws.{RowsBelow, rows-start, rows-next, rows-end}
+use Rattle.fitting.specs.FittingLaws.{part, part-is, RowsBelow, rows-start, rows-next, rows-end}
 use Rattle.fitting.specs.Columns.{column, Marking}
 use Rattle.fitting.specs.ColumnLaws.{marking-row, row-covered}
 use Rattle.fitting.proofs.Moderate.{Short, marking-moderate}
@@ -28,16 +28,6 @@ Inv-loop tokens₀ count matrix table rows before₀ r₀ tokens before r =
 abbrev μ-loop : tie.MeasureT-loop
 μ-loop tokens₀ count matrix table rows before₀ r₀ tokens before r = rows - r
 
-loop-holds : tie.Need-loop-holds Inv-loop μ-loop
-loop-holds c = (omega arith, refl, c .before .before .pre .4, λ j b. rows-start _ _ _)
-
--- the part of a list from an index on
-abbrev part : List ℕ → ℕ → List ℕ
-part l k = take (length l - k) (drop k l)
-
-part-is : (l : List ℕ) (k : ℕ) → part l k ≡ drop k l
-part-is l k = take-all (length l - k) (drop k l) (omega (arith, length-drop k l))
-
 part-short : (l : List ℕ) → Short l → (k : ℕ) → Short (part l k)
 part-short l short k i = rw (part-is l k) (rw (getD-drop k l i 0) (short (k + i)))
 
@@ -47,7 +37,7 @@ advance-requires c κs =
     let start = c .before .before .before .before .before .before in
     let table = start .args .table .now in
     let whole = ap length (part-is table (ROW * loop .r)) ∙ length-drop (ROW * loop .r) table in
-    (start .pre .0, search needs, start .pre .2, omega (arith, whole, start .pre .3), loop .inv .2)
+    ((search needs, loop .inv .2), omega (arith, whole, start .pre .1))
 
 size : (c : tie.After-advance Inv-loop μ-loop) → length (c .advance .last .0) ≡ length (c .before .before .before .before .before .before .before .args .tokens .now)
 size c = c .advance .kept .0 ∙ c .before .before .before .before .loop .inv .1
@@ -60,13 +50,9 @@ covers-mask-requires c κs =
     let numbers = rows .before in
     let start = numbers .before in
     let short : Short (start .args .table .now) = λ k. omega (arith, rows .shared-slice-known2 .given k) in
-    (start .pre .0, omega (arith, size turn, start .pre .1), start .pre .2, marking-moderate (λ k. omega (arith, numbers .shared-slice-known .given k)) (part-short (start .args .table .now) short (ROW * loop .r)) (turn .advance .ensures))
-
-same-length : tie.Need-same-length Inv-loop μ-loop
-same-length c = size (c .before .before .before .before .before)
-
-returns : tie.Need-returns Inv-loop μ-loop
-returns c = λ yes. absurd (subst T (sym yes) tt)
+    let same = size turn in
+    let held = marking-moderate (λ k. omega (arith, numbers .shared-slice-known .given k)) (part-short (start .args .table .now) short (ROW * loop .r)) (turn .advance .ensures) in
+    (search needs, held)
 
 loop-again : tie.Need-loop-again Inv-loop μ-loop
 loop-again c =
@@ -81,14 +67,8 @@ loop-again c =
       size turn,
       marking-row (λ i b. sym (c .counts-of .ensures i b)) (turn .advance .ensures),
       λ j b. rows-next _ _ _ (loop .r) (omega arith) (loop .inv .3 j b)
-          (row-covered marked (λ e h set. covered e h (subst (λ (x : ℕ). T (bit x e)) (getD-drop at table COUNTS 0) set)) j b),
+          (row-covered marked (λ e h set. covered e h (subst (λ (x : ℕ). T (bit x e)) (getD-drop at table MAX-EVENTS 0) set)) j b),
     )
-
-same-length-2 : tie.Need-same-length-2 Inv-loop μ-loop
-same-length-2 c = c .before .loop .inv .1
-
-returns-2 : tie.Need-returns-2 Inv-loop μ-loop
-returns-2 c = λ yes j b. rows-end _ _ _ (c .before .loop .r) (omega arith) (c .before .loop .inv .3 j b)
 
 pub columns-fit-spec : {M : Type 1} → statement M
 columns-fit-spec =
@@ -96,7 +76,7 @@ columns-fit-spec =
     (tie.spec
     Inv-loop
     μ-loop
-    loop-holds
+    (λ c. (omega arith, refl, c .before .before .pre .0 .1, λ j b. rows-start _ _ _))
     (λ c. search needs)
     (λ c. search needs)
     (λ c. search needs)
@@ -107,8 +87,8 @@ columns-fit-spec =
     (λ c. search needs)
     (λ c. search needs)
     covers-mask-requires
-    same-length
-    returns
+    (λ c. size (c .before .before .before .before .before))
+    (λ c yes. absurd (subst T (sym yes) tt))
     (λ c. search needs)
     (λ c. search needs)
     (λ c. search needs)
@@ -117,5 +97,5 @@ columns-fit-spec =
     (λ c. search needs)
     (λ c. search needs)
     loop-again
-    same-length-2
-    returns-2)
+    (λ c. c .before .loop .inv .1)
+    (λ c yes j b. rows-end _ _ _ (c .before .loop .r) (omega arith) (c .before .loop .inv .3 j b)))

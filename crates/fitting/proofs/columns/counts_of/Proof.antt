@@ -4,16 +4,16 @@ use Prim.Native.Nat.{ℕ, _-_, _≤_, _<_}
 use native.Mathlib.Omega.{arith}
 use borrow.Author.Needs.{needs}
 use lib.ListN.{length, getD, length-set}
-use Rattle.nets.specs.Machine.{COUNTS}
+use Rattle.limits.specs.Limits.{MAX-EVENTS}
 use Rattle.fitting.specs.ColumnLaws.{each-set}
 use Rattle.fitting.proofs.columns.counts_of.Statement.{statement}
 use Rattle.fitting.proofs.columns.counts_of.Tie as tie
 
 abbrev Inv-loop : tie.InvT-loop
-Inv-loop row counts₀ i₀ counts i = (i ≤ COUNTS) × (length counts ≡ COUNTS) × ((k : ℕ) → k < i → getD counts k 0 ≡ getD row k 0)
+Inv-loop row counts₀ i₀ counts i = (i ≤ MAX-EVENTS) × (length counts ≡ MAX-EVENTS) × ((k : ℕ) → k < i → getD counts k 0 ≡ getD row k 0)
 
 abbrev μ-loop : tie.MeasureT-loop
-μ-loop row counts₀ i₀ counts i = COUNTS - i
+μ-loop row counts₀ i₀ counts i = MAX-EVENTS - i
 
 loop-holds : tie.Need-loop-holds Inv-loop μ-loop
 loop-holds c = (omega arith, search needs, λ k b. absurd (omega arith))

@@ -6,17 +6,17 @@ use borrow.Author.Needs.{needs}
 use borrow.Author.Tests.{not-false}
 use lib.Dec.{T}
 use Rattle.laws.specs.Bits.{bit}
-use Rattle.nets.specs.Machine.{COUNTS}
-use Rattle.fitting.specs.Columns.{Covered}
+use Rattle.limits.specs.Limits.{MAX-EVENTS}
+use Rattle.fitting.specs.Columns.{outRow, Covered}
 use Rattle.fitting.specs.ColumnLaws.{each-next}
 use Rattle.fitting.proofs.columns.covers_mask.Statement.{statement}
 use Rattle.fitting.proofs.columns.covers_mask.Tie as tie
 
 abbrev Inv-loop : tie.InvT-loop
-Inv-loop tokens count matrix mask e₀ e = (e ≤ COUNTS) × ((i : ℕ) → i < e → T (bit mask i) → Covered count matrix tokens i)
+Inv-loop tokens count matrix mask e₀ e = (e ≤ MAX-EVENTS) × ((i : ℕ) → i < e → T (bit mask i) → Covered count matrix tokens (outRow i))
 
 abbrev μ-loop : tie.MeasureT-loop
-μ-loop tokens count matrix mask e₀ e = COUNTS - e
+μ-loop tokens count matrix mask e₀ e = MAX-EVENTS - e
 
 loop-holds : tie.Need-loop-holds Inv-loop μ-loop
 loop-holds c = (omega arith, λ i b. absurd (omega arith))

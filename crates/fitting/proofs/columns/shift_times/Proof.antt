@@ -32,9 +32,6 @@ Inv-loop tokens₀ count matrix plus minus times j₀ tokens j =
 abbrev μ-loop : tie.MeasureT-loop
 μ-loop tokens₀ count matrix plus minus times j₀ tokens j = count - j
 
-loop-holds : tie.Need-loop-holds Inv-loop μ-loop
-loop-holds c = (omega arith, refl, λ i b. absurd (omega arith), λ i b. refl)
-
 -- what is shifted stays in the range of an `i64`
 shifted-fits : (t : ℤ) → Held t → (times p q : ℕ) → times < 65536 → p < 65536 → q < 65536 → SFits w64 (t +ℤ pos times *ℤ (pos p -ℤ pos q))
 shifted-fits t held times p q few hp hq =
@@ -65,7 +62,7 @@ add-tokens c =
     let args = known .before .args in
     let j = turn .before .loop .j in
     rw (stepped c)
-    (shifted-fits (getD (args .tokens .now) j (pos 0)) (known .before .pre .3 j (turn .loop-test .taken)) (args .times) (getD (args .matrix .now) (args .plus + j) 0) (getD (args .matrix .now) (args .minus + j) 0)
+    (shifted-fits (getD (args .tokens .now) j (pos 0)) (known .before .pre .held j (turn .loop-test .taken)) (args .times) (getD (args .matrix .now) (args .plus + j) 0) (getD (args .matrix .now) (args .minus + j) 0)
     (omega arith) (omega (arith, known .shared-slice-known .given (args .plus + j))) (omega (arith, known .shared-slice-known .given (args .minus + j))))
 
 loop-again : tie.Need-loop-again Inv-loop μ-loop
@@ -80,16 +77,13 @@ loop-again c =
       λ i b. getD-set-other (loop .tokens) (loop .j) i _ (pos 0) (λ e. omega arith) ∙ loop .inv .3 i (omega arith),
     )
 
-returns : tie.Need-returns Inv-loop μ-loop
-returns c = λ j b. c .before .loop .inv .2 j (omega arith)
-
 pub shift-times-spec : {M : Type 1} → statement M
 shift-times-spec =
     tie.close
     (tie.spec
     Inv-loop
     μ-loop
-    loop-holds
+    (λ c. (omega arith, refl, λ i b. absurd (omega arith), λ i b. refl))
     (λ c. search needs)
     (λ c. search needs)
     (λ c. search needs)
@@ -106,4 +100,4 @@ shift-times-spec =
     (λ c. search needs)
     loop-again
     (λ c. search needs)
-    returns)
+    (λ c j b. c .before .loop .inv .2 j (omega arith)))

@@ -4,16 +4,17 @@ use Prim.Native.Nat.{_-_, _≤_}
 use native.Mathlib.Omega.{arith}
 use borrow.Author.Needs.{needs}
 use lib.ListN.{length-set}
-use Rattle.nets.specs.Machine.{COUNTS, placeOf}
+use Rattle.limits.specs.Limits.{MAX-EVENTS}
+use Rattle.nets.specs.Machine.{placeOf}
 use Rattle.fitting.specs.ColumnLaws.{Storing, storing-start, storing-next, stored}
 use Rattle.fitting.proofs.columns.write_column.Statement.{statement}
 use Rattle.fitting.proofs.columns.write_column.Tie as tie
 
 abbrev Inv-loop : tie.InvT-loop
-Inv-loop matrix₀ j place e₀ matrix e = (e ≤ COUNTS) × Storing matrix₀ matrix j (placeOf place) e
+Inv-loop matrix₀ j place e₀ matrix e = (e ≤ MAX-EVENTS) × Storing matrix₀ matrix j (placeOf place) e
 
 abbrev μ-loop : tie.MeasureT-loop
-μ-loop matrix₀ j place e₀ matrix e = COUNTS - e
+μ-loop matrix₀ j place e₀ matrix e = MAX-EVENTS - e
 
 loop-holds : tie.Need-loop-holds Inv-loop μ-loop
 loop-holds c = (omega arith, storing-start)

@@ -7,16 +7,16 @@ use native.Mathlib.Nat.{mul-le-mul}
 use lib.ListN.{getD, take}
 use lib.Seq.{take-all}
 use Rattle.laws.specs.Sums.{weighted, weighted-next}
-use Rattle.nets.specs.Machine.{COUNTS}
+use Rattle.limits.specs.Limits.{MAX-EVENTS}
 use Rattle.logs.specs.Index.{multiplier, key}
 use Rattle.logs.proofs.index.key_of.Statement.{statement}
 use Rattle.logs.proofs.index.key_of.Tie as tie
 
 abbrev Inv-loop : tie.InvT-loop
-Inv-loop counts sum₀ i₀ sum i = (i ≤ COUNTS) × (sum ≤ i * (255 * 65535)) × (sum ≡ weighted multiplier (take i counts))
+Inv-loop counts sum₀ i₀ sum i = (i ≤ MAX-EVENTS) × (sum ≤ i * (255 * 65535)) × (sum ≡ weighted multiplier (take i counts))
 
 abbrev μ-loop : tie.MeasureT-loop
-μ-loop counts sum₀ i₀ sum i = COUNTS - i
+μ-loop counts sum₀ i₀ sum i = MAX-EVENTS - i
 
 loop-holds : tie.Need-loop-holds Inv-loop μ-loop
 unfolding weighted

@@ -6,17 +6,17 @@ use native.Mathlib.Omega.{arith}
 use native.Mathlib.Numerals.{add-one}
 use lib.ListN.{length, length-set}
 use lib.Seq.{paste, paste-zero, paste-suc}
-use Rattle.nets.specs.Machine.{COUNTS}
+use Rattle.limits.specs.Limits.{MAX-EVENTS}
 use Rattle.logs.specs.Rows.{ROW}
-use Rattle.logs.specs.Flat.{append-holds}
+use Rattle.logs.specs.Storing.{append-holds}
 use Rattle.logs.proofs.rows.append_row.Statement.{statement}
 use Rattle.logs.proofs.rows.append_row.Tie as tie
 
 abbrev Inv-loop : tie.InvT-loop
-Inv-loop table₀ rows counts at k₀ table k = (k ≤ COUNTS) × (at ≡ ROW * rows) × (length table ≡ length table₀) × (table ≡ paste table₀ at counts k)
+Inv-loop table₀ rows counts at k₀ table k = (k ≤ MAX-EVENTS) × (at ≡ ROW * rows) × (length table ≡ length table₀) × (table ≡ paste table₀ at counts k)
 
 abbrev μ-loop : tie.MeasureT-loop
-μ-loop table₀ rows counts at k₀ table k = COUNTS - k
+μ-loop table₀ rows counts at k₀ table k = MAX-EVENTS - k
 
 loop-holds : tie.Need-loop-holds Inv-loop μ-loop
 loop-holds c = (search needs, search needs, search needs, paste-zero (c .args .table .now) (ROW * c .args .rows) (c .args .t3))
@@ -25,7 +25,7 @@ loop-again : tie.Need-loop-again Inv-loop μ-loop
 loop-again c =
     let l = c .before .loop in
     let a = c .before .before .args in
-    let twelve : length (a .t3) ≡ COUNTS = search needs in (
+    let twelve : length (a .t3) ≡ MAX-EVENTS = search needs in (
       omega arith,
       search needs,
       simp length-set (l .inv .2),
@@ -36,8 +36,8 @@ returns : tie.Need-returns Inv-loop μ-loop
 returns c =
     let l = c .before .loop in
     let a = c .before .before .args in
-    let twelve : length (a .t3) ≡ COUNTS = search needs in
-    let end : l .k ≡ COUNTS = omega arith in
+    let twelve : length (a .t3) ≡ MAX-EVENTS = search needs in
+    let end : l .k ≡ MAX-EVENTS = omega arith in
     rw (l .inv .3, end) (append-holds (a .table .now) (a .t3) (a .rows) (c .before .before .pre) twelve)
 
 pub append-row-spec : {M : Type 1} → statement M

@@ -6,7 +6,7 @@ use native.Mathlib.Omega.{arith}
 use borrow.Author.Needs.{needs}
 use lib.ListN.{drop, length-drop}
 use lib.Seq.{length-take-le}
-use Rattle.nets.specs.Machine.{COUNTS}
+use Rattle.limits.specs.Limits.{MAX-EVENTS}
 use Rattle.logs.specs.Rows.{ROW, rowAt}
 use Rattle.logs.proofs.rows.counts_of.Statement.{statement}
 use Rattle.logs.proofs.rows.counts_of.Tie as tie
@@ -15,7 +15,7 @@ returns : tie.Need-returns
 unfolding rowAt
 returns c =
     let a = c .before .args in
-    rw add-sub-cancel-left (refl, length-take-le COUNTS (drop (ROW * a .row) (a .table .now)) (simp length-drop (omega arith)))
+    rw add-sub-cancel-left (refl, length-take-le MAX-EVENTS (drop (ROW * a .row) (a .table .now)) (simp length-drop (omega arith)))
 
 pub counts-of-spec : {M : Type 1} → statement M
 counts-of-spec =

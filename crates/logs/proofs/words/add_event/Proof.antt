@@ -4,16 +4,16 @@ use mathlib.Core.Path.{_≡_, _∙_}
 use Prim.Native.Nat.{_+_, _-_, _≤_}
 use native.Mathlib.Omega.{arith}
 use lib.ListN.{length, getD}
-use Rattle.nets.specs.Machine.{COUNTS}
+use Rattle.limits.specs.Limits.{MAX-EVENTS}
 use Rattle.logs.specs.Prefixes.{adding, adding-none, adding-more, adding-fits, adding-end}
 use Rattle.logs.proofs.words.add_event.Statement.{statement}
 use Rattle.logs.proofs.words.add_event.Tie as tie
 
 abbrev Inv-loop : tie.InvT-loop
-Inv-loop counts₀ e i₀ counts i = (i ≤ COUNTS) × (length counts ≡ length counts₀) × (counts ≡ adding counts₀ e i)
+Inv-loop counts₀ e i₀ counts i = (i ≤ MAX-EVENTS) × (length counts ≡ length counts₀) × (counts ≡ adding counts₀ e i)
 
 abbrev μ-loop : tie.MeasureT-loop
-μ-loop counts₀ e i₀ counts i = COUNTS - i
+μ-loop counts₀ e i₀ counts i = MAX-EVENTS - i
 
 loop-holds : tie.Need-loop-holds Inv-loop μ-loop
 loop-holds c = (search needs, search needs, adding-none _ _)

@@ -1,6 +1,7 @@
 -- `logs::words::add_long_word` meets its contract.
 use borrow.Author.Needs.{needs}
 use native.Mathlib.Omega.{arith}
+use Rattle.logs.specs.Takable.{takable-room}
 use Rattle.logs.specs.IndexLaws.{index-none}
 use Rattle.logs.proofs.words.add_long_word.Statement.{statement}
 use Rattle.logs.proofs.words.add_long_word.Tie as tie
@@ -8,13 +9,13 @@ use Rattle.logs.proofs.words.add_long_word.Tie as tie
 index-rows-requires : tie.Need-index-rows-requires
 index-rows-requires c κs =
     let p = c .before .before .before .before .pre in
-    (omega arith, p .0, omega arith, omega (arith, p .0, p .1), index-none _)
+    (omega arith, p .rows, omega arith, takable-room p, index-none _)
 
 add-word-requires : tie.Need-add-word-requires
 add-word-requires c κs =
     let call = c .before .before .before .before in
     let p = call .before .before .before .before .before .pre in
-    (p .0, p .1, p .2, p .3, call .index-rows .ensures, omega (arith, p .2))
+    (p, (call .index-rows .ensures, omega (arith, p .short)))
 
 pub add-long-word-spec : {M : Type 1} → statement M
 add-long-word-spec =

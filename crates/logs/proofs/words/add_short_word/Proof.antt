@@ -8,7 +8,7 @@ use Rattle.logs.proofs.words.add_short_word.Tie as tie
 add-word-requires : tie.Need-add-word-requires
 add-word-requires c κs =
     let p = c .before .before .before .before .before .pre in
-    (p .0, p .1, omega (arith, p .2), p .3, index-short _ _ _ (omega arith), omega (arith, p .2))
+    (p .0, (index-short _ _ _ (omega arith), omega (arith, p .1)))
 
 pub add-short-word-spec : {M : Type 1} → statement M
 add-short-word-spec =

@@ -12,9 +12,7 @@ use Rattle.logs.proofs.words.add_word.Statement.{statement}
 use Rattle.logs.proofs.words.add_word.Tie as tie
 
 number-rows-requires : tie.Need-number-rows-requires
-number-rows-requires c κs =
-    let p = c .before .before .before .before .before .before .pre in
-    (p .0, omega (arith, p .0, p .1), p .2, p .3, p .4, p .5)
+number-rows-requires c κs = c .before .before .before .before .before .before .pre
 
 returns : tie.Need-returns
 returns c =
@@ -28,7 +26,7 @@ counted c =
     let call = c .before .before .before in
     let s = call .before .before .before .before .before .before .before in
     let a = s .args in
-    length-take (rowsOf (a .rows) (now (a .table))) none (now (a .word)) refl (s .pre .3) ∙ rw length-rows (sym (call .number-rows .ensures .0))
+    length-take (rowsOf (a .rows) (now (a .table))) none (now (a .word)) refl (s .pre .0 .below) ∙ rw length-rows (sym (call .number-rows .ensures .0))
 
 write-word-requires : tie.Need-write-word-requires
 write-word-requires c κs =
@@ -38,12 +36,14 @@ write-word-requires c κs =
     let p = s .pre in
     let a = s .args in
     let rows = rowsOf (a .rows) (now (a .table)) in (
-      p .2,
-      p .3,
-      omega (arith, p .0, p .1),
-      omega (arith, counted d, d .if1 .left, p .1),
-      omega (arith, call .number-rows .kept, p .5),
-      call .number-rows .ensures .1 ∙ rw length-rows at (numbered-used rows none (now (a .word)) refl (p .3)),
+      p .0,
+      (
+        omega (arith, counted d, d .if1 .left, p .0 .table),
+        (
+          omega (arith, call .number-rows .kept, p .1 .1),
+          call .number-rows .ensures .1 ∙ rw length-rows at (numbered-used rows none (now (a .word)) refl (p .0 .below)),
+        ),
+      ),
     )
 
 returns-2 : tie.Need-returns-2

@@ -4,8 +4,9 @@ use Prim.Native.Nat.{_-_, _<_}
 use mathlib.Core.Path.{_∙_}
 use native.Mathlib.Omega.{arith}
 use lib.ListN.{length, getD}
-use Rattle.nets.specs.Machine.{COUNTS}
+use Rattle.limits.specs.Limits.{MAX-EVENTS}
 use Rattle.logs.specs.Rows.{rowsOf}
+use Rattle.logs.specs.Takable.{takable-room}
 use Rattle.logs.specs.Noting.{Noting, noting-none, noting-again, noting-end}
 use Rattle.logs.proofs.words.number_rows.Statement.{statement}
 use Rattle.logs.proofs.words.number_rows.Tie as tie
@@ -28,14 +29,14 @@ number-row-requires c κs =
     let here = c .before .before .before in
     let p = here .before .before .before .before .before .pre in
     let s = here .loop .inv in
-    (p .0, p .1, p .4, s .keyed, omega (arith, s .size, p .5, s .passed), omega (arith, s .few, s .passed, p .0, p .2))
+    ((p .0 .rows, takable-room (p .0)), ((p .1 .0, s .keyed), (omega (arith, s .size, p .1 .1, s .passed), omega (arith, s .few, s .passed, p .0 .rows, p .0 .short))))
 
 -- the event at hand
 event : (c : tie.After-slice-known2 Inv-loop μ-loop) → let here = c .before .before .before .before .before .before in
-    getD (here .before .before .before .before .before .args .word .now) (here .loop .i) 0 < COUNTS
+    getD (here .before .before .before .before .before .args .word .now) (here .loop .i) 0 < MAX-EVENTS
 event c =
     let here = c .before .before .before .before .before .before in
-    here .before .before .before .before .before .pre .3 (here .loop .i) (omega arith)
+    here .before .before .before .before .before .pre .0 .below (here .loop .i) (omega arith)
 
 add-event-requires : tie.Need-add-event-requires Inv-loop μ-loop
 add-event-requires c κs =
@@ -55,14 +56,14 @@ loop-again c =
     let here = call .before .before .before .before in
     let p = here .before .before .before .before .before .pre in
     let l = here .loop in
-    noting-again _ _ _ _ _ _ _ _ _ (l .inv) (p .5) _ _ (call .number-row .ensures .0) (call .number-row .ensures .1) _ _ (omega arith) (event known) (c .before .before .add-event .ensures) (c .multiplier-of .ensures .0) (c .multiplier-of .ensures .1)
+    noting-again _ _ _ _ _ _ _ _ _ (l .inv) (p .1 .1) _ _ (call .number-row .ensures .0) (call .number-row .ensures .1) _ _ (omega arith) (event known) (c .before .before .add-event .ensures) (c .multiplier-of .ensures .0) (c .multiplier-of .ensures .1)
 
 number-row-requires-2 : tie.Need-number-row-requires-2 Inv-loop μ-loop
 number-row-requires-2 c κs =
     let here = c .before .before in
     let p = here .before .before .before .before .before .pre in
     let s = here .loop .inv in
-    (p .0, p .1, p .4, s .keyed, omega (arith, s .size, p .5, s .passed), omega (arith, s .few, s .passed, p .0, p .2))
+    ((p .0 .rows, takable-room (p .0)), ((p .1 .0, s .keyed), (omega (arith, s .size, p .1 .1, s .passed), omega (arith, s .few, s .passed, p .0 .rows, p .0 .short))))
 
 same-length : tie.Need-same-length Inv-loop μ-loop
 same-length c = let call = c .before .before in call .number-row2 .kept .1 .1 .1 .1 .1 .0 ∙ call .before .before .before .loop .inv .size
@@ -72,7 +73,7 @@ returns c =
     let call = c .before .before in
     let here = call .before .before .before in
     let p = here .before .before .before .before .before .pre in
-    noting-end _ _ _ _ _ _ _ _ _ (here .loop .inv) (p .5) _ _ (call .number-row2 .ensures .0) (call .number-row2 .ensures .1) (omega arith)
+    noting-end _ _ _ _ _ _ _ _ _ (here .loop .inv) (p .1 .1) _ _ (call .number-row2 .ensures .0) (call .number-row2 .ensures .1) (omega arith)
 
 pub number-rows-spec : {M : Type 1} → statement M
 number-rows-spec =

@@ -1,19 +1,19 @@
 -- `logs::words::step` meets its contract.
 use borrow.Author.Needs.{needs}
 use native.Mathlib.Omega.{arith}
-use Rattle.logs.specs.Flat.{row-below, step-holds}
+use Rattle.logs.specs.Storing.{row-below, followed}
 use Rattle.logs.proofs.words.step.Statement.{statement}
 use Rattle.logs.proofs.words.step.Tie as tie
 
 mark-row-requires : tie.Need-mark-row-requires
 mark-row-requires c κs =
     let p = c .before .before .before .before .before .before .pre in
-    (omega (arith, row-below _ _ _ _ (p .0)), p .1)
+    (omega (arith, row-below _ _ _ _ (p .0 .0), p .1 .1), p .0 .1)
 
 returns : tie.Need-returns
 returns c =
     let u = c .before .before .before .before .before .before in
-    step-holds _ _ _ _ (u .before .before .before .pre .0) _ _ _ _ (omega arith) (u .use-row .ensures) (c .before .before .mark-row .ensures)
+    followed _ _ _ _ (u .before .before .before .pre .0 .0) _ _ _ _ (omega arith) (u .visit-row .ensures) (c .before .before .mark-row .ensures)
 
 pub step-spec : {M : Type 1} → statement M
 step-spec = tie.close (tie.spec (λ c κs. search needs) mark-row-requires (λ c. search needs) returns)

@@ -5,8 +5,9 @@ use mathlib.Core.Path.{_≡_, refl, sym, _∙_}
 use native.Mathlib.Omega.{arith}
 use lib.ListN.{length, getD, take}
 use lib.Seq.{getD-take}
-use Rattle.nets.specs.Machine.{COUNTS}
+use Rattle.limits.specs.Limits.{MAX-EVENTS}
 use Rattle.logs.specs.Rows.{rowsOf, addEvent, findRow, takeWord, none}
+use Rattle.logs.specs.Takable.{takable-room}
 use Rattle.logs.specs.Taking.{Taking, taking-none, taking-row, taking-room, taking-again, taking-end}
 use Rattle.logs.proofs.words.write_word.Statement.{statement}
 use Rattle.logs.proofs.words.write_word.Tie as tie
@@ -19,7 +20,7 @@ abbrev μ-loop : tie.MeasureT-loop
 μ-loop table₀ rows word numbers counts₀ k₀ i₀ table counts k i = length word - i
 
 loop-holds : tie.Need-loop-holds Inv-loop μ-loop
-loop-holds c = let p = c .before .before .before .pre in taking-none _ _ _ _ (p .2) (p .5)
+loop-holds c = let p = c .before .before .before .pre in taking-none _ _ _ _ (takable-room (p .0)) (p .1 .1 .1)
 
 cast-e : tie.Need-cast-e Inv-loop μ-loop
 cast-e c = omega (arith, c .shared-slice-known3 .given (c .before .before .loop .i))
@@ -40,14 +41,14 @@ step-requires c κs =
     let here = c .before .before .before .before in
     let l = here .loop in
     let s = here .before .before .before .before in
-    (row here, s .pre .1 (l .i) (omega arith), l .inv .room, taking-room _ _ _ _ _ _ _ _ (l .inv) _ (omega arith))
+    ((row here, s .pre .0 .below (l .i) (omega arith)), (l .inv .room, taking-room _ _ _ _ _ _ _ _ (l .inv) _ (omega arith)))
 
 -- the event at hand
 event : (c : tie.After-slice-known2 Inv-loop μ-loop) → let here = c .before .before .before .before .before .before .before in
-    getD (here .before .before .before .before .args .word .now) (here .loop .i) 0 < COUNTS
+    getD (here .before .before .before .before .args .word .now) (here .loop .i) 0 < MAX-EVENTS
 event c =
     let here = c .before .before .before .before .before .before .before in
-    here .before .before .before .before .pre .1 (here .loop .i) (omega arith)
+    here .before .before .before .before .pre .0 .below (here .loop .i) (omega arith)
 
 add-counts : tie.Need-add-counts Inv-loop μ-loop
 add-counts c =
@@ -61,23 +62,23 @@ loop-again c =
     let l = call .before .before .before .before .before .loop in
     taking-again _ _ _ _ _ _ _ _ (l .inv) _ _ _ (omega arith) (event c) (call .step .kept .0) (omega arith) (call .step .ensures) refl
 
-cast-use-row : tie.Need-cast-use-row Inv-loop μ-loop
-cast-use-row c = omega (arith, c .shared-slice-known5 .given (c .before .before .before .loop .i))
+cast-visit-row : tie.Need-cast-visit-row Inv-loop μ-loop
+cast-visit-row c = omega (arith, c .shared-slice-known5 .given (c .before .before .before .loop .i))
 
-use-row-requires : tie.Need-use-row-requires Inv-loop μ-loop
-use-row-requires c κs =
+visit-row-requires : tie.Need-visit-row-requires Inv-loop μ-loop
+visit-row-requires c κs =
     let here = c .before .before .before in
     let l = here .loop in
-    (row here, l .inv .room, taking-room _ _ _ _ _ _ _ _ (l .inv) _ (omega arith))
+    (row here, (l .inv .room, taking-room _ _ _ _ _ _ _ _ (l .inv) _ (omega arith)))
 
 same-length : tie.Need-same-length Inv-loop μ-loop
-same-length c = let call = c .before .before in call .use-row .kept .0 ∙ call .before .before .before .before .loop .inv .size
+same-length c = let call = c .before .before in call .visit-row .kept .0 ∙ call .before .before .before .before .loop .inv .size
 
 returns : tie.Need-returns Inv-loop μ-loop
 returns c =
     let call = c .before .before in
     let l = call .before .before .before .before .loop in
-    taking-end _ _ _ _ _ _ _ _ (l .inv) _ _ (omega arith) (call .use-row .ensures)
+    taking-end _ _ _ _ _ _ _ _ (l .inv) _ _ (omega arith) (call .visit-row .ensures)
 
 pub write-word-spec : {M : Type 1} → statement M
 write-word-spec =
@@ -102,7 +103,7 @@ write-word-spec =
     loop-again
     (λ c. search needs)
     (λ c. search needs)
-    cast-use-row
-    use-row-requires
+    cast-visit-row
+    visit-row-requires
     same-length
     returns)

@@ -1,8 +1,8 @@
--- `block::rules::size_fits` meets its contract.
+-- `limits::size_fits` meets its contract.
 use borrow.Author.Tests.{lt-leb, le-leb}
-use Rattle.refusals.specs.Table.{rightSize}
-use Rattle.block.proofs.rules.size_fits.Statement.{statement}
-use Rattle.block.proofs.rules.size_fits.Tie as tie
+use Rattle.limits.specs.Limits.{rightSize}
+use Rattle.limits.proofs.size_fits.Statement.{statement}
+use Rattle.limits.proofs.size_fits.Tie as tie
 
 returns : tie.Need-returns
 unfolding rightSize

@@ -1,0 +1,19 @@
+-- `logs::rows::visit_row` meets its contract.
+use borrow.Author.Needs.{needs}
+use Rattle.logs.specs.Storing.{visited-found, visited-room, visited-new}
+use Rattle.logs.proofs.rows.visit_row.Statement.{statement}
+use Rattle.logs.proofs.rows.visit_row.Tie as tie
+
+returns : tie.Need-returns
+returns c = visited-found _ _ _ _ (c .before .before .pre .0) (c .if1 .taken)
+
+append-row-requires : tie.Need-append-row-requires
+append-row-requires c κs =
+    let p = c .before .before .before .pre in
+    visited-room _ _ _ _ (p .0) (c .before .if1 .left) _ (p .1 .1)
+
+returns-2 : tie.Need-returns-2
+returns-2 c = visited-new _ _ _ _ (c .before .before .before .before .before .before .pre .0) (c .before .before .before .before .if1 .left) _ (c .before .before .append-row .ensures)
+
+pub visit-row-spec : {M : Type 1} → statement M
+visit-row-spec = tie.close (tie.spec returns append-row-requires (λ c. search needs) (λ c. search needs) returns-2)
