@@ -108,6 +108,12 @@ extern "C" {
 /** The largest number of events in a log, over all its words. */
 #define HOV_MAX_LOG_EVENTS 1024
 
+/** The largest number of places in a net. */
+#define HOV_MAX_PLACES 64
+
+/** The largest number of terms in a certificate of kind 1. */
+#define HOV_MAX_TERMS 64
+
 /** The largest number of events in a word that is screened. */
 #define HOV_MAX_WORD_EVENTS 65535
 
@@ -118,7 +124,9 @@ extern "C" {
  * The numbers of the refusals.
  *
  * Each comment gives the cause, the spot that answer[0] then holds, and what
- * stays as it was. No refusal writes to an output or to an input.
+ * stays as it was. hov_judge_file refuses as open, and then as judge. No refusal
+ * writes to an input; none writes to an output, but for those of hov_judge_file
+ * that come after opening.
  *
  * This is the whole table, so that a number keeps its meaning when calls are
  * added.
@@ -152,7 +160,7 @@ enum hov_refusal {
      * fresh, take, judge: the table has fewer than 3,328 numbers.
      * Spot: 3,328. As it was: the table.
      */
-    HOV_TABLE_SHORT = 5,
+    HOV_NUMBERS_SHORT = 5,
 
     /**
      * judge, screen: the bundle ends before or inside a field.
@@ -189,7 +197,7 @@ enum hov_refusal {
      * Spot: the lowest such place. As it was: the bundle; the table as for
      * HOV_VALUE.
      */
-    HOV_PLACE_FIT = 10,
+    HOV_PLACE_MISFIT = 10,
 
     /**
      * judge: the place that a certificate lists permits the wrong continuation.
@@ -230,7 +238,7 @@ enum hov_refusal {
      * or the events are above 1,024.
      * Spot: 0. As it was: the table.
      */
-    HOV_SUMMARY = 16
+    HOV_STATE_RANGE = 16
 };
 
 /**
@@ -269,8 +277,8 @@ uint32_t hov_seal(const uint8_t *bundle, size_t bundle_len,
  * Returns 0, with the summary of the log in answer[0] to answer[2]: the event
  * count n, the rows, 1, and the events so far, 0. answer[3] stays as it was.
  *
- * Or returns the first refusal that applies in the order HOV_TABLE_SHORT,
- * HOV_SUMMARY, with its spot in answer[0]. answer[1] to answer[3] stay as they
+ * Or returns the first refusal that applies in the order HOV_NUMBERS_SHORT,
+ * HOV_STATE_RANGE, with its spot in answer[0]. answer[1] to answer[3] stay as they
  * were.
  */
 uint32_t hov_fresh(size_t n,
@@ -291,8 +299,8 @@ uint32_t hov_fresh(size_t n,
  * n, the rows and the events so far, to be handed to the next call. answer[3]
  * stays as it was.
  *
- * Or returns the first refusal that applies in the order HOV_TABLE_SHORT,
- * HOV_SUMMARY, HOV_EVENTS, HOV_VALUE, HOV_ROWS, with its spot in answer[0].
+ * Or returns the first refusal that applies in the order HOV_NUMBERS_SHORT,
+ * HOV_STATE_RANGE, HOV_EVENTS, HOV_VALUE, HOV_ROWS, with its spot in answer[0].
  * answer[1] to answer[3] and the table stay as they were, so the log can go on
  * with another word.
  *
@@ -316,16 +324,37 @@ uint32_t hov_take(size_t n, size_t rows, size_t events,
  *
  * Or returns the first refusal that applies, with its spot in answer[0];
  * answer[1] to answer[3] stay as they were. HOV_BUNDLE_LENGTH comes first, then
- * HOV_TABLE_SHORT; they leave the table as it was. Then the others come in the
+ * HOV_NUMBERS_SHORT; they leave the table as it was. Then the others come in the
  * order of the bundle, and leave the first HOV_TABLE_SIZE numbers of the table
  * zero and the rest as it was. A word's length byte is followed by HOV_EVENTS,
  * then by its events one by one, with HOV_BUNDLE_END or HOV_VALUE at the first
- * that is missing or wrong, then by HOV_ROWS. HOV_PLACE_FIT comes after the last
+ * that is missing or wrong, then by HOV_ROWS. HOV_PLACE_MISFIT comes after the last
  * place. A certificate is read whole before HOV_PLACE_PERMITS or HOV_WEIGHTS.
  */
 uint32_t hov_judge(const uint8_t *bundle, size_t bundle_len,
                    uint16_t *table, size_t table_len,
                    uint64_t answer[4]);
+
+/**
+ * Judges a sealed file: opens it as hov_open does, with the bundle written to
+ * the front of the output, then judges that bundle as hov_judge does. table_len
+ * counts numbers, not bytes.
+ *
+ * Returns 0 when the bundle is accepted, with its four counts in answer[0] to
+ * answer[3] and the rows of its log in the table, as for hov_judge.
+ *
+ * Or returns the first refusal that applies, with its spot in answer[0];
+ * answer[1] to answer[3] stay as they were. HOV_FILE_LENGTH, HOV_BLOCK and
+ * HOV_OUTPUT_SHORT come first, in this order, and leave the output and the table
+ * as they were. Then those of hov_judge come in its order, and leave the table as
+ * it does; the bundle stays in front of the output.
+ *
+ * An output of HOV_MAX_BUNDLE_SIZE bytes is long enough for every file.
+ */
+uint32_t hov_judge_file(const uint8_t *file, size_t file_len,
+                        uint8_t *output, size_t output_len,
+                        uint16_t *table, size_t table_len,
+                        uint64_t answer[4]);
 
 /**
  * Screens a word: replays its events on the places of a bundle, which need not be

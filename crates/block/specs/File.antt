@@ -7,7 +7,7 @@ use lib.ListN.{length, take, drop}
 use lib.Dec.{eqb, leb}
 use Rattle.laws.specs.Pieces.{joined}
 use Rattle.laws.specs.Scans.{firstFalse}
-use Rattle.limits.specs.Limits.{rightSize}
+use Rattle.limits.specs.Limits.{MAX-FILE-SIZE, rightSize}
 use Rattle.refusals.specs.Table.{FILE-LENGTH, BUNDLE-LENGTH}
 use Rattle.refusals.specs.Results.{Result, value, _>>_, require}
 use Rattle.refusals.specs.Answers.{refusal}
@@ -46,7 +46,7 @@ bundleOf file = joined (contentsAt file) (blockCount file)
 
 -- 1 to 128 blocks of 512 bytes
 unfoldable pub rightLength : ℕ → Bool
-rightLength n = leb 1 n && (eqb (n % 512) 0 && leb n 65536)
+rightLength n = leb 1 n && (eqb (n % 512) 0 && leb n MAX-FILE-SIZE)
 
 -- what opening gives: 1, then the refusal of the lowest faulty block; else the bundle
 unfoldable pub opened : List ℕ → Result (List ℕ)

@@ -14,6 +14,7 @@ use Rattle.laws.specs.Booleans.{and-left, and-right}
 use Rattle.laws.specs.Parts.{take-drop-take}
 use Rattle.laws.specs.Pieces.{joined, joined-next, length-joined}
 use Rattle.laws.specs.Scans.{firstFalse-all, firstFalse-at, firstFalse-none, firstFalse-fails, firstFalse-most}
+use Rattle.limits.specs.Limits.{MAX-FILE-SIZE}
 use Rattle.refusals.specs.Table.{FILE-LENGTH}
 use Rattle.refusals.specs.Results.{value, refused, passes, fails, passed}
 use Rattle.refusals.specs.Answers.{refusal}
@@ -103,7 +104,7 @@ module _ (file : List ℕ) where
 -- ---- How opening ends
 
 -- a file of whole blocks
-pub rightLength-whole : (n : ℕ) → rightLength n ≡ true → (1 ≤ n) × (n ≡ 512 * (n / 512)) × (n ≤ 65536)
+pub rightLength-whole : (n : ℕ) → rightLength n ≡ true → (1 ≤ n) × (n ≡ 512 * (n / 512)) × (n ≤ MAX-FILE-SIZE)
 unfolding rightLength
 rightLength-whole n e =
     let rest = and-right (leb 1 n) _ e in

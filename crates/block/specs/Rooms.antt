@@ -7,7 +7,7 @@ use native.Mathlib.Omega.{arith}
 use lib.ListN.{length}
 use borrow.Author.Tests.{le-leb}
 use Rattle.laws.specs.Booleans.{impossible}
-use Rattle.limits.specs.Limits.{MAX-BUNDLE-SIZE, rightSize, rightSize-bounds}
+use Rattle.limits.specs.Limits.{MAX-FILE-SIZE, MAX-BUNDLE-SIZE, rightSize, rightSize-bounds}
 use Rattle.refusals.specs.Results.{Result, value, refused, bind, require}
 use Rattle.refusals.specs.Answers.{fitted, answerOf, answer}
 use Rattle.refusals.specs.Laws.{answer-within, answerOf-refused}
@@ -42,20 +42,20 @@ open-refused file room long r e = answerOf-refused (opened file) r (sym (open-ro
 pub open-within : (file : List ℕ) (n : ℕ) → answerOf (opened file) ≡ Length n → n ≤ MAX-BUNDLE-SIZE
 open-within file n e = answer-within (opened file) MAX-BUNDLE-SIZE n (open-room file MAX-BUNDLE-SIZE (omega arith) ∙ e)
 
-pub sealed-size : (bundle file : List ℕ) → sealed bundle ≡ value file → length file ≤ 65536
+pub sealed-size : (bundle file : List ℕ) → sealed bundle ≡ value file → length file ≤ MAX-FILE-SIZE
 unfolding blocksFor
 sealed-size bundle file is = go (rightSize (length bundle)) refl
   where
-    go : (b : Bool) → rightSize (length bundle) ≡ b → length file ≤ 65536
+    go : (b : Bool) → rightSize (length bundle) ≡ b → length file ≤ MAX-FILE-SIZE
     go true fits =
         let e = sealed-file bundle fits in
         let same : sealedFile bundle ≡ file = cc in
         omega (arith, rightSize-bounds (length bundle) fits, length-sealedFile bundle, ap length same)
     go false long = let e = sealed-length bundle long in impossible cc
 
-pub seal-room : (bundle : List ℕ) (room : ℕ) → 65536 ≤ room → answer (sealed bundle) room ≡ answerOf (sealed bundle)
+pub seal-room : (bundle : List ℕ) (room : ℕ) → MAX-FILE-SIZE ≤ room → answer (sealed bundle) room ≡ answerOf (sealed bundle)
 unfolding answer
 seal-room bundle room long = ap answerOf (full (sealed bundle) room (λ new is. let size = sealed-size bundle new is in omega arith))
 
-pub seal-within : (bundle : List ℕ) (n : ℕ) → answerOf (sealed bundle) ≡ Length n → n ≤ 65536
-seal-within bundle n e = answer-within (sealed bundle) 65536 n (seal-room bundle 65536 (omega arith) ∙ e)
+pub seal-within : (bundle : List ℕ) (n : ℕ) → answerOf (sealed bundle) ≡ Length n → n ≤ MAX-FILE-SIZE
+seal-within bundle n e = answer-within (sealed bundle) MAX-FILE-SIZE n (seal-room bundle MAX-FILE-SIZE (omega arith) ∙ e)

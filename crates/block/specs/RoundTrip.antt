@@ -13,7 +13,7 @@ use borrow.Author.Tests.{eqb-false, eq-eqb, le-leb}
 use Rattle.laws.specs.Parts.{front, take-min}
 use Rattle.laws.specs.Pieces.{joined-same, joined-parts, part-joined}
 use Rattle.laws.specs.Numbers.{Bytes, bytes-take, bytes-drop, bytes-append, bytes-joined, bytes-zeros, le16, bytes-le16}
-use Rattle.limits.specs.Limits.{MAX-BUNDLE-SIZE, rightSize-bounds, rightSize-intro}
+use Rattle.limits.specs.Limits.{MAX-FILE-SIZE, MAX-BUNDLE-SIZE, rightSize-bounds, rightSize-intro}
 use Rattle.refusals.specs.Results.{Result, value}
 use Rattle.refusals.specs.Answers.{refusal, answer, written}
 use Rattle.refusals.specs.Laws.{Ends, ends-written, answer-taken}
@@ -35,7 +35,7 @@ module _ (bundle : List ℕ) (some : 1 ≤ length bundle) (most : length bundle 
   unfolding rightLength blocksFor
   fits-sealed =
       let size = length-sealedFile bundle in
-      rw (le-leb 1 (length (sealedFile bundle)) (omega arith), eq-eqb (length (sealedFile bundle) % 512) 0 (omega arith), le-leb (length (sealedFile bundle)) 65536 (omega arith))
+      rw (le-leb 1 (length (sealedFile bundle)) (omega arith), eq-eqb (length (sealedFile bundle) % 512) 0 (omega arith), le-leb (length (sealedFile bundle)) MAX-FILE-SIZE (omega arith))
 
   blockAt-sealed : (k : ℕ) → k < blocksFor (length bundle) → blockAt (sealedFile bundle) k ≡ sealedBlockAt bundle k
   unfolding blockAt sealedFile

@@ -9,7 +9,7 @@ use native.Mathlib.Omega.{arith}
 use lib.ListN.{length, take, length-take}
 use lib.Seq.{take-all}
 use Rattle.laws.specs.Booleans.{lt-or-le}
-use Rattle.limits.specs.Limits.{MAX-BUNDLE-SIZE, rightSize, rightSize-bounds}
+use Rattle.limits.specs.Limits.{MAX-FILE-SIZE, MAX-BUNDLE-SIZE, rightSize, rightSize-bounds}
 use Rattle.refusals.specs.Results.{Result, value, refused}
 use Rattle.refusals.specs.Answers.{answer, written}
 use Rattle.refusals.specs.Laws.{answer-taken}
@@ -46,10 +46,10 @@ module _ (f : List ℕ → Result (List ℕ)) (r : Result (List ℕ)) (most : �
 
 module _ (input buffer : List ℕ) (n : ℕ) (came : InputRead input buffer n) where
   -- so opening what came is opening the input
-  pub open-whole : 65536 < length buffer → opened (take n buffer) ≡ opened input
+  pub open-whole : MAX-FILE-SIZE < length buffer → opened (take n buffer) ≡ opened input
   open-whole room =
       ap opened (sym came)
-      ∙ cut opened _ 65536 (λ l long. opened-length l (refuses rightLength 65536 (λ k e. rightLength-whole k e .2) (length l) long)) (length buffer) room input
+      ∙ cut opened _ MAX-FILE-SIZE (λ l long. opened-length l (refuses rightLength MAX-FILE-SIZE (λ k e. rightLength-whole k e .2) (length l) long)) (length buffer) room input
 
   -- and sealing likewise
   pub seal-whole : MAX-BUNDLE-SIZE < length buffer → sealed (take n buffer) ≡ sealed input
@@ -58,7 +58,7 @@ module _ (input buffer : List ℕ) (n : ℕ) (came : InputRead input buffer n) w
       ∙ cut sealed _ MAX-BUNDLE-SIZE (λ l long. sealed-length l (refuses rightSize MAX-BUNDLE-SIZE (λ k e. rightSize-bounds k e .1) (length l) long)) (length buffer) room input
 
   -- what an opening of what came, into a long enough output, says of the input
-  module _ (room : 65536 < length buffer) where
+  module _ (room : MAX-FILE-SIZE < length buffer) where
     pub whole-refused : (size : ℕ) → MAX-BUNDLE-SIZE ≤ size → (r : Refusal) → answer (opened (take n buffer)) size ≡ Refused r → opened input ≡ refused (r .number) (r .spot)
     whole-refused size long r e = sym (open-whole room) ∙ open-refused (take n buffer) size long r e
 

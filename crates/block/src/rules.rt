@@ -1,5 +1,6 @@
 // What a block and a file must keep to be taken. (Inner functions.)
 use crate::sums::sums_of;
+use limits::MAX_FILE_SIZE;
 use refusals::BLOCK;
 use refusals::Refusal;
 use slices::number_at;
@@ -78,7 +79,7 @@ pub fn length_fits(size: usize) -> bool
     if size % 512 != 0 {
         return false;
     }
-    size <= 65536
+    size <= MAX_FILE_SIZE
 }
 
 // The lowest block with a fault, as its refusal; number 0 where there is none.

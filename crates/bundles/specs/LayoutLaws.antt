@@ -1,4 +1,4 @@
--- Reading undoes writing, for the parts of a bundle: each reader of Judging.antt gets exactly the values in their limits whose bytes stand there.
+-- Reading undoes writing, for the parts of a bundle: each reader of Readers.antt gets exactly the values in their limits whose bytes stand there.
 use mathlib.Core.Path.{_≡_, refl, ap}
 use mathlib.Core.Bool.{Bool, _&&_}
 use mathlib.Core.List.{List, [], _∷_, _++_, flatMap}
@@ -9,14 +9,12 @@ use lib.Ieee.Fits.{and-i, and-l, and-r}
 use lib.ListN.{length}
 use Rattle.laws.specs.Booleans.{impossible}
 use Rattle.laws.specs.Every.{Every}
+use Rattle.laws.specs.Numbers.{le16, Bytes}
 use Rattle.limits.specs.Limits.{MAX-EVENTS, MAX-LOG-EVENTS, MAX-ROWS, MAX-PLACES, MAX-TERMS}
-use Rattle.nets.specs.Nets.{Word, Log, rows}
+use Rattle.nets.specs.Nets.{Word, Log, rows, eventCount}
 use Rattle.bundles.specs.Reading.{byte, number}
 use Rattle.bundles.specs.Layout.{PlaceFields, TermFields, CertificateFields, kind0, kind1, Head, TwoBytes, WordInLimits, PlaceInLimits, TermInLimits, CertificateInLimits, wordBytes, placeBytes, placesBytes, termBytes, certificateBytes, headBytes, WeightFields, weightBytes, rowsIn}
-use Rattle.nets.specs.Nets.{eventCount}
-use Rattle.laws.specs.Numbers.{le16}
 use Rattle.bundles.specs.Readers.{anything, wordAfter, word, place, places, headAfter, head, term, weights, ofKind, certificate}
-use Rattle.laws.specs.Numbers.{Bytes}
 use Rattle.bundles.specs.ReadingLaws.{Law, Following, law-then, law-give, law-same, law-require, law-tested, law-offset, law-byte, law-number, law-following, law-times}
 
 -- from one way to say that each member is so to another

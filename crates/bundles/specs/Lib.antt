@@ -5,9 +5,9 @@ pub mod ReadingLaws
 pub mod LayoutLaws
 pub mod Limits
 pub mod Refusing
-pub mod FieldSteps
-pub mod WordSteps
-pub mod NumberSteps
-pub mod PlaceSteps
-pub mod TermSteps
-pub mod HeadSteps
+pub mod FieldReading
+pub mod WordReading
+pub mod NumberReading
+pub mod PlaceReading
+pub mod TermReading
+pub mod HeadReading

@@ -6,9 +6,9 @@ use lib.Dec.{leb, ltb}
 use lib.ListN.{length}
 use Rattle.limits.specs.Limits.{MAX-EVENTS, MAX-LOG-EVENTS, MAX-ROWS, MAX-PLACES, MAX-TERMS, rightSize}
 use Rattle.refusals.specs.Table.{BUNDLE-LENGTH, EVENTS, ROWS}
+use Rattle.refusals.specs.Results.{value, refused}
 use Rattle.nets.specs.Nets.{Word, Log, Net, eventCount, rows}
 use Rattle.bundles.specs.Reading.{Read, item, Reader, _>>=_, _>>_, give, offset, require, byte, number, following, times}
-use Rattle.refusals.specs.Results.{value, refused}
 use Rattle.bundles.specs.Layout.{PlaceFields, TermFields, CertificateFields, kind0, kind1, Head, toNet}
 
 -- any value

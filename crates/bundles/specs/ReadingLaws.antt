@@ -12,10 +12,10 @@ use lib.ListN.{length, getD, drop, replicate, length-append, length-drop}
 use lib.Seq.{drop-cons, drop-drop, drop-append-seam, getD-drop}
 use Rattle.laws.specs.Booleans.{impossible, yes-true}
 use Rattle.laws.specs.Every.{Every}
-use Rattle.refusals.specs.Table.{BUNDLE-END, VALUE}
-use Rattle.bundles.specs.Reading.{Read, got, item, Reader, andThen, _>>=_, _>>_, give, offset, require, field, byte, number, each, following, times, onward}
-use Rattle.refusals.specs.Results.{value, refused, bind}
 use Rattle.laws.specs.Numbers.{Bytes, le16, numberAt}
+use Rattle.refusals.specs.Table.{BUNDLE-END, VALUE}
+use Rattle.refusals.specs.Results.{value, refused, bind}
+use Rattle.bundles.specs.Reading.{Read, got, item, Reader, andThen, _>>=_, _>>_, give, offset, require, field, byte, number, each, following, times, onward}
 
 -- ---- a part of a bundle
 

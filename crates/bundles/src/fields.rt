@@ -9,8 +9,8 @@ ghost use mathlib.Core.Path.{_≡_};
 ghost use lib.Dec.{leb};
 ghost use Rattle.bundles.specs.Reading.{byte, number};
 ghost use Rattle.bundles.specs.Readers.{anything};
-ghost use Rattle.bundles.specs.FieldSteps.{readOf, between, upTo, below};
-ghost use Rattle.bundles.specs.NumberSteps.{numbersLeft};
+ghost use Rattle.bundles.specs.FieldReading.{readOf, between, upTo, below};
+ghost use Rattle.bundles.specs.NumberReading.{numbersLeft};
 ghost use Rattle.bundles.specs.ReadingLaws.{ranged};
 
 // A value of a field from `at` to `next`, where it is in range.

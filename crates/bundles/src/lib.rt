@@ -17,7 +17,7 @@ ghost use mathlib.Core.Path.{_≡_};
 ghost use Prim.Native.Nat.{_≤_};
 ghost use Rattle.limits.specs.Limits.{MAX-EVENTS};
 ghost use Rattle.bundles.specs.Readers.{anyRows, head, bundleHead, headAfter};
-ghost use Rattle.bundles.specs.HeadSteps.{headRead, withPlaces};
+ghost use Rattle.bundles.specs.HeadReading.{headRead, withPlaces};
 
 // A field's value and the offset behind it.
 pub enum Field {

@@ -5,6 +5,7 @@ use crate::Places;
 use crate::PlacesRead;
 use crate::fields::byte_up_to;
 use crate::fields::numbers_left;
+use limits::MAX_EVENTS;
 use limits::MAX_PLACES;
 use nets::Place;
 use refusals::BUNDLE_END;
@@ -15,14 +16,14 @@ ghost use Prim.Native.Nat.{_+_, _*_, _≤_};
 ghost use lib.ListN.{length};
 ghost use Rattle.limits.specs.Limits.{MAX-EVENTS};
 ghost use Rattle.bundles.specs.Readers.{places};
-ghost use Rattle.bundles.specs.PlaceSteps.{placeSize, numbersAt, fieldsAt, padded, machinePlace, placesRead};
+ghost use Rattle.bundles.specs.PlaceReading.{placeSize, numbersAt, fieldsAt, widened, machinePlace, placesRead};
 
 // The numbers of n events from an offset on; zero from n on.
-fn row_at(bundle: &[u8], at: usize, n: usize) -> [u16; 12]
+fn row_at(bundle: &[u8], at: usize, n: usize) -> [u16; MAX_EVENTS]
     requires { ⌜ (n ≤ MAX-EVENTS) × (at + 2 * n ≤ length (now bundle)) ⌝ }
-    ensures { λ r. ⌜ r ≡ padded (numbersAt n (now (bundle .entry)) at) ⌝ }
+    ensures { λ r. ⌜ r ≡ widened (numbersAt n (now (bundle .entry)) at) ⌝ }
 {
-    let mut row = [0u16; 12];
+    let mut row = [0u16; MAX_EVENTS];
     let mut i = 0;
     while i < n {
         row[i] = number_at(bundle, at + 2 * i) as u16;

@@ -7,7 +7,7 @@ use crate::fields::byte_below;
 use crate::fields::number_below;
 ghost use mathlib.Core.Path.{_≡_};
 ghost use Rattle.bundles.specs.Readers.{term};
-ghost use Rattle.bundles.specs.TermSteps.{termReadOf};
+ghost use Rattle.bundles.specs.TermReading.{termReadOf};
 
 // The term at an offset, where there are so many rows and n events.
 pub fn read_term(bundle: &[u8], at: usize, n: usize, rows: usize) -> TermRead

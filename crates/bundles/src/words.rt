@@ -10,11 +10,11 @@ ghost use mathlib.Core.Path.{_≡_};
 ghost use Prim.Native.Nat.{_+_, _≤_};
 ghost use lib.ListN.{length, getD};
 ghost use Rattle.limits.specs.Limits.{MAX-LOG-EVENTS};
+ghost use Rattle.nets.specs.Nets.{eventCount};
 ghost use Rattle.bundles.specs.Reading.{byte, times, following};
 ghost use Rattle.bundles.specs.Readers.{anyRows, word, wordAfter};
-ghost use Rattle.bundles.specs.FieldSteps.{readOf, below};
-ghost use Rattle.bundles.specs.WordSteps.{mapRead, eventsAt};
-ghost use Rattle.nets.specs.Nets.{eventCount};
+ghost use Rattle.bundles.specs.FieldReading.{readOf, below};
+ghost use Rattle.bundles.specs.WordReading.{mapRead, eventsAt};
 
 // The events of a word, checked one by one: how many they are, and the offset behind them.
 fn read_events(bundle: &[u8], at: usize, size: usize, n: usize) -> Field

@@ -1,4 +1,5 @@
-pub mod Terms
-pub mod Totals
-pub mod TermSums
-pub mod TermLaws
+pub mod Certifying
+pub mod PlaceNumbers
+pub mod CheckLaws
+pub mod Continuations
+pub mod CertificateReading

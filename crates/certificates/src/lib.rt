@@ -1,195 +1,260 @@
-// Whether the weights of a certificate hold, from the rows of the log table.
+// Reading the certificates of a bundle: one for each wrong continuation, checked while it is read.
 use bundles::Field;
-use bundles::Term;
-use bundles::TermRead;
+use bundles::fields::byte_below;
 use bundles::fields::byte_up_to;
-use bundles::fields::number_from;
-use bundles::terms::read_term;
 use heads::TakenHead;
 use limits::MAX_EVENTS;
-use limits::MAX_TERMS;
 use logs::rows::ROW;
 use logs::rows::counts_of;
+use nets::covers;
+use nets::gain;
 use nets::has_bit;
+use refusals::PLACE_PERMITS;
 use refusals::Refusal;
-use slices::byte_at;
+use refusals::WEIGHTS;
 use slices::number_at;
+use verdicts::Tally;
+use weights::Weighed;
+use weights::read_weights;
 ghost use mathlib.Core.Path.{_≡_};
-ghost use mathlib.Core.Bool.{cond};
-ghost use Prim.Native.Nat.{ℕ, _+_, _*_, _≤_, _<_};
-ghost use lib.ListN.{length};
-ghost use Rattle.limits.specs.Limits.{MAX-EVENTS, MAX-TERMS};
-ghost use Rattle.nets.specs.Nets.{at, same};
-ghost use Rattle.bundles.specs.Reading.{times};
-ghost use Rattle.bundles.specs.Readers.{term, weights};
-ghost use Rattle.bundles.specs.TermSteps.{termReadOf};
-ghost use Rattle.logs.specs.Rows.{rowsOf};
+ghost use mathlib.Core.List.{List, []};
+ghost use Prim.Native.Nat.{_+_, _*_, _≤_, _<_};
+ghost use lib.ListN.{length, drop};
+ghost use Rattle.limits.specs.Limits.{MAX-EVENTS, MAX-ROWS};
+ghost use Rattle.nets.specs.Nets.{placePermits};
+ghost use Rattle.logs.specs.Rows.{ROW, rowAt};
+ghost use Rattle.bundles.specs.Reading.{byte, each};
+ghost use Rattle.bundles.specs.Layout.{CertificateFields, wrongIn};
+ghost use Rattle.bundles.specs.Readers.{headOf};
+ghost use Rattle.bundles.specs.FieldReading.{below};
+ghost use Rattle.bundles.specs.PlaceReading.{placeSize, placeOn};
+ghost use Rattle.verdicts.specs.Judging.{solved};
 ghost use Rattle.heads.specs.Heads.{HeadHeld};
-ghost use Rattle.certificates.specs.Terms.{rowOf, holdsRows, weighedBy};
-ghost use Rattle.certificates.specs.TermSums.{weighedTerms};
-ghost use Rattle.certificates.specs.Totals.{NUMBER, addedWeight, added, sumsHold};
+ghost use Rattle.certificates.specs.Certifying.{certifiedOf, stepOf, checkedOf, permitsAt, placeChecked, weightsChecked};
+ghost use Rattle.certificates.specs.CertificateReading.{counted, withCertificate, Outcome};
 
-// The largest two-byte number.
-const NUMBER: u32 = 65535;
-
-// Weights that were read: they hold or fail, with the offset behind them; or a refusal.
-pub enum Weighed {
-    Holds(usize),
-    Fails(usize),
+// The certificates of a bundle: the four counts and the offset behind the last, or a refusal.
+pub enum Certified {
+    Read(Tally, usize),
     Refused(Refusal),
 }
 
-// A two-byte number, widened.
-fn wide(number: u16) -> u32
-    ensures { λ r. ⌜ (r ≡ number) × (r ≤ NUMBER) ⌝ }
-{
-    number as u32
+// One certificate that solves its step, by kind, with the offset behind it; or a refusal.
+enum Checked {
+    ByPlace(usize),
+    ByWeights(usize),
+    Refused(Refusal),
 }
 
-// [a = b]: 1 if true, else 0.
-fn one_if_same(a: usize, b: usize) -> u32
-    ensures { λ r. ⌜ (r ≡ same a b) × (r ≤ 1) ⌝ }
+// Whether the place at an offset permits the event after the counts. The tokens are added as `nets::tokens` does, but straight from the bytes,
+// since building a place costs more than this one test of it.
+fn place_permits(bundle: &[u8], at: usize, n: usize, counts: &[u16], event: usize) -> bool
+    requires { ⌜ (n ≤ MAX-EVENTS)
+        × (event < n)
+        × (at + 2 * placeSize n ≤ length (now bundle))
+        × (n ≤ length (now counts)) ⌝ }
+    ensures { λ r. ⌜ r ≡ placePermits n (placeOn n (now (bundle .entry)) at) (record { row = now (counts .entry); event = event }) ⌝ }
 {
-    if a == b {
-        return 1;
-    }
-    0
-}
-
-// A weight as it is added to the sums: 0 once all weights sum up to more than two bytes. The certificate fails then, and the sums stay in 32 bits.
-fn added_weight(total: u32, weight: u32) -> u32
-    ensures { λ r. ⌜ r ≡ addedWeight total weight ⌝ }
-{
-    if total <= NUMBER {
-        return weight;
-    }
-    0
-}
-
-// Adds weight × count at each event.
-fn add_counts(sums: &mut [u32], counts: &[u16], weight: u32)
-    requires { ⌜ (length (now sums) ≡ MAX-EVENTS)
-        × (MAX-EVENTS ≤ length (now counts))
-        × ((i : ℕ) → at (now sums) i + weight * at (now counts) i ≤ NUMBER * NUMBER) ⌝ }
-    ensures { λ _. ⌜ now (sums .exit) ≡ added weight (at (now (counts .entry))) (now (sums .entry)) ⌝ }
-{
+    let produced = at + 2;
+    let consumed = produced + 2 * n;
+    let mut tokens = number_at(bundle, at) as i64;
     let mut i = 0;
-    while i < MAX_EVENTS {
-        sums[i] = sums[i] + weight * wide(counts[i]);
+    while i < n {
+        let put = number_at(bundle, produced + 2 * i) as u16;
+        let took = number_at(bundle, consumed + 2 * i) as u16;
+        tokens += gain(counts[i], put, took);
         i += 1;
     }
+    covers(tokens, number_at(bundle, consumed + 2 * event) as u16)
 }
 
-// Whether the last two inequalities hold for the event after the counts. At each event i, `before` sums g × u(i), and `of_event` g where f = i.
-// One chain of tests for both: then the compiler keeps the sums in vectors, also while terms are added.
-fn sums_hold(before: &[u32; 12], of_event: &[u32; 12], k: u32, counts: &[u16], event: usize) -> bool
-    requires { ⌜ (MAX-EVENTS ≤ length (now counts))
-        × (k ≤ NUMBER)
-        × ((i : ℕ) → at (now before) i ≤ NUMBER * NUMBER)
-        × ((i : ℕ) → at (now «of_event») i ≤ NUMBER) ⌝ }
-    ensures { λ r. ⌜ r ≡ sumsHold (now (before .entry)) (now («of_event» .entry)) (now (counts .entry)) event k ⌝ }
-{
-    let mut hold = true;
-    let mut i = 0;
-    while i < MAX_EVENTS {
-        let count = wide(counts[i]);
-        let sum = before[i];
-        hold = hold
-            & ((sum <= k * count) & (k * (count + one_if_same(event, i)) <= sum + of_event[i]));
-        i += 1;
-    }
-    hold
-}
-
-// The term at an offset, as `read_term` reads it, but faster where it is there and in range: its five bytes are tested for at once.
-fn next_term(bundle: &[u8], at: usize, n: usize, rows: usize) -> TermRead
-    ensures { λ r. ⌜ termReadOf r ≡ term n rows (now (bundle .entry)) at ⌝ }
-{
-    if 5 <= bundle.len() && at <= bundle.len() - 5 {
-        let row = number_at(bundle, at);
-        let event = byte_at(bundle, at + 2);
-        let weight = number_at(bundle, at + 3);
-        if row < rows && event < n {
-            return TermRead::Read(Term { row, event, weight }, at + 5);
-        }
-    }
-    read_term(bundle, at, n, rows)
-}
-
-// Weights that were read up to an offset, by whether they hold.
-fn judged(holds: bool, next: usize) -> Weighed
-    ensures { λ r. ⌜ r ≡ cond holds (Weighed.Holds next) (Weighed.Fails next) ⌝ }
-{
-    if holds {
-        return Weighed::Holds(next);
-    }
-    Weighed::Fails(next)
-}
-
-// Reads so many terms at an offset, adds them up, and says whether they hold with k for the event after the counts of a row.
-fn weigh_terms(
-    bundle: &[u8],
-    at: usize,
-    count: usize,
-    head: TakenHead,
-    table: &[u16],
-    row: usize,
-    event: usize,
-    k: u32,
-) -> Weighed
-    requires { ⌜ HeadHeld (now bundle) (now table) head ⌝ }
-    requires { ⌜ (count ≤ MAX-TERMS) × (row < head .rows) × (k ≤ NUMBER) ⌝ }
-    ensures { λ r. ⌜ r ≡ weighedTerms (holdsRows (rowsOf (head .rows) (now (table .entry))) (rowOf (rowsOf (head .rows) (now (table .entry))) row .counts) event k) (times count (term (head .n) (head .rows)) (now (bundle .entry)) at) ⌝ }
-{
-    let n = head.n;
-    let rows = head.rows;
-    let mut before = [0u32; 12];
-    let mut of_event = [0u32; 12];
-    let mut total = 0u32;
-    let mut allowed = true;
-    let mut next = at;
-    let mut left = count;
-    while 0 < left {
-        match next_term(bundle, next, n, rows) {
-            TermRead::Refused(refusal) => return Weighed::Refused(refusal),
-            TermRead::Read(term, after) => {
-                let from = term.row;
-                let by = term.event;
-                total += term.weight as u32;
-                let weight = added_weight(total, term.weight as u32);
-                add_counts(&mut before, counts_of(table, from), weight);
-                of_event[by] = of_event[by] + weight;
-                allowed = allowed & has_bit(table[ROW * from + MAX_EVENTS], by);
-                next = after;
-                left -= 1;
-            }
-        }
-    }
-    let holds = sums_hold(&before, &of_event, k, counts_of(table, row), event);
-    judged(allowed & (total <= k) & holds, next)
-}
-
-// Reads k, the term count and the terms of a certificate, and says whether its weights hold for the event after the counts of a row.
-// All of it is read before the answer. (Inner function.)
-pub fn read_weights(
+// Reads a place's number, and tests that the place refuses the event after the counts of a row.
+fn check_place(
     bundle: &[u8],
     at: usize,
     head: TakenHead,
     table: &[u16],
     row: usize,
     event: usize,
-) -> Weighed
+    number: usize,
+) -> Checked
     requires { ⌜ HeadHeld (now bundle) (now table) head ⌝ }
     requires { ⌜ (row < head .rows) × (event < head .n) ⌝ }
-    ensures { λ r. ⌜ r ≡ weighedBy (holdsRows (rowsOf (head .rows) (now (table .entry))) (rowOf (rowsOf (head .rows) (now (table .entry))) row .counts) event) (weights (head .n) (head .rows) (now (bundle .entry)) at) ⌝ }
+    ensures { λ r. ⌜ r ≡ placeChecked (permitsAt (head .n) (now (bundle .entry)) (head .places .first) (rowAt (drop (ROW * row) (now (table .entry))) .counts) event) number (byte (below (head .places .count)) (now (bundle .entry)) at) ⌝ }
 {
-    match number_from(bundle, at, 1) {
-        Field::Refused(refusal) => Weighed::Refused(refusal),
-        Field::Value(k, second) => match byte_up_to(bundle, second, MAX_TERMS) {
-            Field::Refused(refusal) => Weighed::Refused(refusal),
-            Field::Value(count, third) => {
-                weigh_terms(bundle, third, count, head, table, row, event, k as u32)
+    let n = head.n;
+    let places = head.places;
+    match byte_below(bundle, at, places.count) {
+        Field::Refused(refusal) => Checked::Refused(refusal),
+        Field::Value(j, next) => {
+            let place = places.first + 2 * (j * (1 + 2 * n));
+            if place_permits(bundle, place, n, counts_of(table, row), event) {
+                return Checked::Refused(Refusal {
+                    number: PLACE_PERMITS,
+                    spot: number,
+                });
             }
-        },
+            Checked::ByPlace(next)
+        }
     }
+}
+
+// Weights that were read, as an answer.
+fn check_weights(read: Weighed, number: usize) -> Checked
+    ensures { λ r. ⌜ r ≡ weightsChecked number read ⌝ }
+{
+    match read {
+        Weighed::Holds(next) => Checked::ByWeights(next),
+        Weighed::Fails(_) => Checked::Refused(Refusal {
+            number: WEIGHTS,
+            spot: number,
+        }),
+        Weighed::Refused(refusal) => Checked::Refused(refusal),
+    }
+}
+
+// Reads the certificate of a wrong continuation, which has so many before it.
+fn check_certificate(
+    bundle: &[u8],
+    at: usize,
+    head: TakenHead,
+    table: &[u16],
+    row: usize,
+    event: usize,
+    number: usize,
+) -> Checked
+    requires { ⌜ HeadHeld (now bundle) (now table) head ⌝ }
+    requires { ⌜ (row < head .rows) × (event < head .n) ⌝ }
+    ensures { λ r. ⌜ ((before : List CertificateFields) → length before ≡ number → r ≡ checkedOf (solved (headOf (now (bundle .entry))) (stepOf (headOf (now (bundle .entry))) row event) before (now (bundle .entry)) at)) ⌝ }
+{
+    match byte_up_to(bundle, at, 1) {
+        Field::Refused(refusal) => Checked::Refused(refusal),
+        Field::Value(kind, next) => {
+            if kind == 0 {
+                return check_place(bundle, next, head, table, row, event, number);
+            }
+            let read = read_weights(bundle, next, head, table, row, event);
+            check_weights(read, number)
+        }
+    }
+}
+
+// How far the certificates are read: the allowed steps passed, the certificates of each kind, and the offset behind the last.
+struct Progress {
+    allowed: usize,
+    by_place: usize,
+    by_weights: usize,
+    next: usize,
+}
+
+enum Advanced {
+    To(Progress),
+    Refused(Refusal),
+}
+
+// The progress behind one more certificate, or its refusal.
+fn with_certificate(before: Progress, checked: Checked) -> Advanced
+    requires { ⌜ counted before ≤ MAX-EVENTS * MAX-ROWS ⌝ }
+    ensures { λ r. ⌜ r ≡ withCertificate before checked ⌝ }
+{
+    let mut after = before;
+    match checked {
+        Checked::Refused(refusal) => Advanced::Refused(refusal),
+        Checked::ByPlace(next) => {
+            after.by_place += 1;
+            after.next = next;
+            Advanced::To(after)
+        }
+        Checked::ByWeights(next) => {
+            after.by_weights += 1;
+            after.next = next;
+            Advanced::To(after)
+        }
+    }
+}
+
+// Passes one step: an allowed one is counted, a wrong continuation has a certificate.
+fn certify_step(
+    bundle: &[u8],
+    head: TakenHead,
+    table: &[u16],
+    row: usize,
+    event: usize,
+    before: Progress,
+) -> Advanced
+    requires { ⌜ HeadHeld (now bundle) (now table) head ⌝ }
+    requires { ⌜ (row < head .rows) × (event < head .n) × (counted before ≤ MAX-EVENTS * row + event) ⌝ }
+    ensures { λ r. ⌜ Outcome (now (bundle .entry)) row event row (event + 1) before r ⌝ }
+{
+    if has_bit(table[ROW * row + MAX_EVENTS], event) {
+        let mut after = before;
+        after.allowed += 1;
+        return Advanced::To(after);
+    }
+    let next = before.next;
+    let number = before.by_place + before.by_weights;
+    let checked = check_certificate(bundle, next, head, table, row, event, number);
+    with_certificate(before, checked)
+}
+
+// Passes the steps of a row.
+fn certify_row(
+    bundle: &[u8],
+    head: TakenHead,
+    table: &[u16],
+    row: usize,
+    before: Progress,
+) -> Advanced
+    requires { ⌜ HeadHeld (now bundle) (now table) head ⌝ }
+    requires { ⌜ (row < head .rows) × (counted before ≤ MAX-EVENTS * row) ⌝ }
+    ensures { λ r. ⌜ Outcome (now (bundle .entry)) row 0 (row + 1) 0 before r ⌝ }
+{
+    let n = head.n;
+    let mut state = before;
+    let mut event = 0;
+    while event < n {
+        match certify_step(bundle, head, table, row, event, state) {
+            Advanced::Refused(refusal) => {
+                return Advanced::Refused(refusal);
+            }
+            Advanced::To(more) => {
+                state = more;
+                event += 1;
+            }
+        }
+    }
+    Advanced::To(state)
+}
+
+// Reads one certificate for each wrong continuation, by row, then event: a step whose bit is clear in its row's mask. (Inner function.)
+pub fn certify(bundle: &[u8], head: TakenHead, table: &[u16]) -> Certified
+    requires { ⌜ HeadHeld (now bundle) (now table) head ⌝ }
+    ensures { λ r. ⌜ r ≡ certifiedOf (headOf (now (bundle .entry))) (each (solved (headOf (now (bundle .entry)))) (wrongIn (headOf (now (bundle .entry)))) [] (now (bundle .entry)) (head .places .next)) ⌝ }
+{
+    let rows = head.rows;
+    let mut state = Progress {
+        allowed: 0,
+        by_place: 0,
+        by_weights: 0,
+        next: head.places.next,
+    };
+    let mut row = 0;
+    while row < rows {
+        match certify_row(bundle, head, table, row, state) {
+            Advanced::Refused(refusal) => {
+                return Certified::Refused(refusal);
+            }
+            Advanced::To(more) => {
+                state = more;
+                row += 1;
+            }
+        }
+    }
+    let counts = Tally {
+        rows,
+        allowed: state.allowed,
+        by_place: state.by_place,
+        by_weights: state.by_weights,
+    };
+    Certified::Read(counts, state.next)
 }

@@ -11,7 +11,8 @@ use Rattle.laws.specs.Every.{Every, every-member, every-intro}
 use Rattle.laws.specs.Numbers.{Bytes}
 use Rattle.limits.specs.Limits.{MAX-BUNDLE-SIZE, MAX-WORD-EVENTS}
 use Rattle.refusals.specs.Results.{value, refused}
-use Rattle.nets.specs.Nets.{Word, Tally, stepAfter, permits, permitted, stopped, firstRefusing, screen}
+use Rattle.nets.specs.Nets as nets
+use Rattle.nets.specs.Nets.{Word, stepAfter, permits, permitted, stopped, firstRefusing, screen}
 use Rattle.nets.specs.Words.{Prefix, prefix→}
 use Rattle.nets.specs.Fits.{prefix-below}
 use Rattle.nets.specs.Comparison.{PrefixesIn, first-exactly, second-permits, nets-agree, first-screened, second-screened, tallies-agree}
@@ -22,9 +23,9 @@ use Rattle.bundles.specs.Layout.{CertificateFields, Head, Contents, WordInLimit
 use Rattle.bundles.specs.Readers.{headOf, eventsIn, logIn, netIn}
 use Rattle.bundles.specs.Limits.{words-below}
 use Rattle.bundles.specs.Reading.{Read, item}
-use Rattle.verdicts.specs.Judging.{countsOf, judged, verdictOn, verdict, tableAfter}
+use Rattle.verdicts.specs.Judging.{tallyOf, judged, verdictOf, verdict, tableAfter}
 use Rattle.verdicts.specs.Acceptance.{AcceptedAs, judged-long, accepted-exactly, accepted-table}
-use Rattle.verdicts.specs.declared.Counts.{Counts}
+use Rattle.verdicts.specs.declared.Tally.{Tally}
 use Rattle.verdicts.specs.declared.Verdict.the-variants.{Accepted}
 use Rattle.screening.specs.Screening.{replayed, screened}
 use Rattle.screening.specs.Screens.{Readable, Screenable, screened-replayed, permitted-exactly, readable-exactly, screenable-head}
@@ -33,16 +34,16 @@ use Rattle.demands.specs.Demands.{ScreenedAtEnd, Compared}
 -- ---- one accepted bundle
 
 -- the table of an accepted bundle was long enough
-long-table : (tableSize : ℕ) (b : List ℕ) (c : Counts) → verdict tableSize b ≡ Accepted c → TABLE ≤ tableSize
-unfolding verdict verdictOn
+long-table : (tableSize : ℕ) (b : List ℕ) (c : Tally) → verdict tableSize b ≡ Accepted c → TABLE ≤ tableSize
+unfolding verdict verdictOf
 long-table tableSize b c e = go (judged tableSize b 0) refl e
   where
-    go : (m : Read Contents) → judged tableSize b 0 ≡ m → verdictOn m ≡ Accepted c → TABLE ≤ tableSize
+    go : (m : Read Contents) → judged tableSize b 0 ≡ m → verdictOf m ≡ Accepted c → TABLE ≤ tableSize
     go (value (item d next)) is e = judged-long tableSize b d next is
     go (refused number spot) is e = impossible cc
 
 module _ (b : List ℕ) (bytes : Bytes b) where
-  screenable : (c : Counts) (d : Contents) → AcceptedAs b c d → (w : Word) → length w ≤ MAX-WORD-EVENTS → Every (λ e. e < d .head .events) w
+  screenable : (c : Tally) (d : Contents) → AcceptedAs b c d → (w : Word) → length w ≤ MAX-WORD-EVENTS → Every (λ e. e < d .head .events) w
       → Screenable b w (d .head) (flatMap certificateBytes (d .certificates))
   unfolding bytesOf
   screenable c d a w size events = record {
@@ -54,10 +55,10 @@ module _ (b : List ℕ) (bytes : Bytes b) where
   }
 
   -- screening reads the head that was judged
-  pub accepted-head : (c : Counts) (d : Contents) → AcceptedAs b c d → headOf b ≡ d .head
+  pub accepted-head : (c : Tally) (d : Contents) → AcceptedAs b c d → headOf b ≡ d .head
   accepted-head c d a = screenable-head b bytes [] (d .head) _ (screenable c d a [] (omega arith) tt)
 
-  module _ (tableSize : ℕ) (c : Counts) (yes′ : verdict tableSize b ≡ Accepted c) where
+  module _ (tableSize : ℕ) (c : Tally) (yes′ : verdict tableSize b ≡ Accepted c) where
     -- its fields, with the head that screening reads
     pub fields : (cs : List CertificateFields) × AcceptedAs b c (record { head = headOf b; certificates = cs })
     fields =
@@ -108,13 +109,13 @@ module _ (b : List ℕ) (bytes : Bytes b) where
 
 -- ---- two accepted bundles
 
-same-counts : (t₁ t₂ : Tally) (c₁ c₂ : Counts) → c₁ ≡ countsOf t₁ → c₂ ≡ countsOf t₂ → t₁ ≡ t₂
+same-counts : (t₁ t₂ : nets.Tally) (c₁ c₂ : Tally) → c₁ ≡ tallyOf t₁ → c₂ ≡ tallyOf t₂ → t₁ ≡ t₂
     → (c₁ .rows ≡ c₂ .rows) × (c₁ .allowed ≡ c₂ .allowed) × (c₁ .«by_place» ≡ c₂ .«by_place») × (c₁ .«by_weights» ≡ c₂ .«by_weights»)
 same-counts t₁ t₂ c₁ c₂ e₁ e₂ t =
-    let same : c₁ ≡ c₂ = e₁ ∙ ap countsOf t ∙ sym e₂ in
-    (ap (λ (c : Counts). c .rows) same, ap (λ (c : Counts). c .allowed) same, ap (λ (c : Counts). c .«by_place») same, ap (λ (c : Counts). c .«by_weights») same)
+    let same : c₁ ≡ c₂ = e₁ ∙ ap tallyOf t ∙ sym e₂ in
+    (ap (λ (c : Tally). c .rows) same, ap (λ (c : Tally). c .allowed) same, ap (λ (c : Tally). c .«by_place») same, ap (λ (c : Tally). c .«by_weights») same)
 
-module _ (b₁ b₂ : List ℕ) (bytes₁ : Bytes b₁) (bytes₂ : Bytes b₂) (size₁ size₂ : ℕ) (c₁ c₂ : Counts) (yes₁ : verdict size₁ b₁ ≡ Accepted c₁) (yes₂ : verdict size₂ b₂ ≡ Accepted c₂) (same-events : eventsIn b₁ ≡ eventsIn b₂) (to : PrefixesIn (logIn b₁) (logIn b₂)) where
+module _ (b₁ b₂ : List ℕ) (bytes₁ : Bytes b₁) (bytes₂ : Bytes b₂) (size₁ size₂ : ℕ) (c₁ c₂ : Tally) (yes₁ : verdict size₁ b₁ ≡ Accepted c₁) (yes₂ : verdict size₂ b₂ ≡ Accepted c₂) (same-events : eventsIn b₁ ≡ eventsIn b₂) (to : PrefixesIn (logIn b₁) (logIn b₂)) where
   pub compared : Compared b₁ b₂ c₁ c₂
   unfolding toBundle
   compared =

@@ -11,7 +11,7 @@ use Rattle.laws.specs.Lists.{among}
 use Rattle.laws.specs.Numbers.{Bytes}
 use Rattle.laws.specs.Parts.{front}
 use Rattle.refusals.specs.Results.{Result, value}
-use Rattle.refusals.specs.Answers.{answer, written, numberOf}
+use Rattle.refusals.specs.Answers.{fitted, answer, written, numberOf}
 use Rattle.refusals.specs.Laws.{Ends}
 use Rattle.refusals.specs.declared.Refusal.{Refusal}
 use Rattle.refusals.specs.declared.Written.the-variants as writing
@@ -29,8 +29,9 @@ use Rattle.bundles.specs.Layout.{Head, Contents}
 use Rattle.bundles.specs.Readers.{headOf, eventsIn, logIn, netIn}
 use Rattle.verdicts.specs.Judging.{verdict, verdictNumber, tableAfter}
 use Rattle.verdicts.specs.Acceptance.{AcceptedAs}
-use Rattle.verdicts.specs.declared.Counts.{Counts}
+use Rattle.verdicts.specs.declared.Tally.{Tally}
 use Rattle.verdicts.specs.declared.Verdict.the-variants as judging
+use Rattle.judging.specs.Files.{fileVerdict, fileTable}
 use Rattle.screening.specs.Screening.{screened, screenedNumber}
 use Rattle.screening.specs.Screens.{Readable, Screenable}
 use Rattle.screening.specs.declared.Screened.{Screened}
@@ -48,8 +49,9 @@ pub record Demand1 : Type 0 where
   pub refusals-of-fresh : (n : ℕ) (table : List ℕ) → among (takenNumber (freshAnswer n table)) (0 ∷ 5 ∷ 16 ∷ []) ≡ true
   pub refusals-of-take : (s : Summary) (table : List ℕ) (w : Word) → among (takenNumber (takenAnswer s table w)) (0 ∷ 5 ∷ 16 ∷ 8 ∷ 7 ∷ 9 ∷ []) ≡ true
   pub refusals-of-judge : (tableSize : ℕ) (b : List ℕ) → among (verdictNumber (verdict tableSize b)) (0 ∷ 4 ∷ 5 ∷ 6 ∷ 7 ∷ 8 ∷ 9 ∷ 10 ∷ 11 ∷ 12 ∷ 13 ∷ []) ≡ true
+  pub refusals-of-judge-file : (file : List ℕ) (room tableSize : ℕ) → among (verdictNumber (fileVerdict file room tableSize)) (0 ∷ 1 ∷ 2 ∷ 3 ∷ 4 ∷ 5 ∷ 6 ∷ 7 ∷ 8 ∷ 9 ∷ 10 ∷ 11 ∷ 12 ∷ 13 ∷ []) ≡ true
   pub refusals-of-screen : (b : List ℕ) (w : Word) → among (screenedNumber (screened b w)) (0 ∷ 256 ∷ 14 ∷ 4 ∷ 6 ∷ 7 ∷ 8 ∷ 15 ∷ []) ≡ true
-  -- no refusal writes to an output; a result stands in front of it, and the rest is left
+  -- no refusal of opening or sealing writes to an output; a result stands in front of it, and the rest is left
   pub refused-output : (result : Result (List ℕ)) (output : List ℕ) (r : Refusal) → answer result (length output) ≡ writing.Refused r → written result output ≡ output
   pub result-output : (result : Result (List ℕ)) (output : List ℕ) (n : ℕ) → answer result (length output) ≡ writing.Length n
       → (new : List ℕ) × (result ≡ value new) × (n ≡ length new) × (written result output ≡ front new output)
@@ -66,8 +68,15 @@ pub record Demand1 : Type 0 where
   pub refused-judge : (table b : List ℕ) (r : Refusal) → verdict (length table) b ≡ judging.Refused r
       → ((among (r .number) (4 ∷ 5 ∷ []) ≡ true) → tableAfter b table ≡ table) × ((among (r .number) (4 ∷ 5 ∷ []) ≡ false) → tableAfter b table ≡ cleared TABLE table)
   -- accepting, it leaves the log's rows, each with its mask, zeros up to number 3,327, and the rest
-  pub accepted-judge : (table b : List ℕ) → Bytes b → (c : Counts) → verdict (length table) b ≡ judging.Accepted c
+  pub accepted-judge : (table b : List ℕ) → Bytes b → (c : Tally) → verdict (length table) b ≡ judging.Accepted c
       → tableAfter b table ≡ withRows (logRows (logIn b)) (cleared TABLE table)
+  -- judging a file that does not open into the output gives opening's refusal and leaves the table; of one that opens it gives the verdict on
+  -- the bundle in front of the output, and leaves the table as the judge does
+  pub file-refused : (file output table : List ℕ) (r : Refusal) → answer (opened file) (length output) ≡ writing.Refused r
+      → (fileVerdict file (length output) (length table) ≡ judging.Refused r) × (fileTable (fitted (opened file) (length output)) table ≡ table)
+  pub file-opened : (file output table : List ℕ) (n : ℕ) → answer (opened file) (length output) ≡ writing.Length n
+      → (fileVerdict file (length output) (length table) ≡ verdict (length table) (take n (written (opened file) output)))
+      × (fileTable (fitted (opened file) (length output)) table ≡ tableAfter (take n (written (opened file) output)) table)
 
 -- ---- DEMAND 2: 'With long enough buffers lent, a bundle is accepted exactly when it keeps the layout and limits and, by the region
 -- definitions of Badouel and Schlachter, its net permits every log word and each wrong continuation is refused by the place its
@@ -76,9 +85,9 @@ pub record Demand1 : Type 0 where
 -- each other.'
 
 pub record Demand2 : Type 0 where
-  pub accepted : (tableSize : ℕ) → TABLE ≤ tableSize → (b : List ℕ) → Bytes b → (c : Counts) → (verdict tableSize b ≡ judging.Accepted c) ↔ ((d : Contents) × AcceptedAs b c d)
+  pub accepted : (tableSize : ℕ) → TABLE ≤ tableSize → (b : List ℕ) → Bytes b → (c : Tally) → (verdict tableSize b ≡ judging.Accepted c) ↔ ((d : Contents) × AcceptedAs b c d)
   -- the event count, log and net that the lines below and demand 3 speak of are, of an accepted bundle, those of its contents
-  pub head : (b : List ℕ) → Bytes b → (c : Counts) (d : Contents) → AcceptedAs b c d → headOf b ≡ d .head
+  pub head : (b : List ℕ) → Bytes b → (c : Tally) (d : Contents) → AcceptedAs b c d → headOf b ≡ d .head
   pub permitted : (b : List ℕ) (w : Word) → Readable b w → (screened b w ≡ screening.Permitted) ↔ T (permits (eventsIn b) (netIn b) w)
   pub stopped : (b : List ℕ) (w : Word) → Readable b w → (i j : ℕ) → (screened b w ≡ screening.Stopped (record { position = i; place = j })) ↔ FirstRefused (eventsIn b) (netIn b) w i j
   pub readable : (b : List ℕ) → Bytes b → (w : Word) → Readable b w ↔ ((h : Head) × (rest : List ℕ) × Screenable b w h rest)
@@ -93,7 +102,7 @@ pub record Demand2 : Type 0 where
 -- count and with every prefix in the first log a prefix in the second. Add any one event at the end of any prefix of the first log. ...'
 
 -- the file opens into the output, in front of which is then the bundle b, and with the table b is accepted with the counts c
-pub record FileAccepted (file output table b : List ℕ) (c : Counts) : Type 0 where
+pub record FileAccepted (file output table b : List ℕ) (c : Tally) : Type 0 where
   pub size : ℕ
   pub opens : answer (opened file) (length output) ≡ writing.Length size
   pub bundle : take size (written (opened file) output) ≡ b
@@ -119,7 +128,7 @@ pub record Longer (b₁ b₂ : List ℕ) (w : Word) (e : ℕ) : Type 0 where
   pub screened₂ : ScreenedAtEnd (screened b₂ (w ++ e ∷ [])) (eventsIn b₂) (netIn b₂) w e
 
 -- the whole of demand 3 for two bundles
-pub record Compared (b₁ b₂ : List ℕ) (c₁ c₂ : Counts) : Type 0 where
+pub record Compared (b₁ b₂ : List ℕ) (c₁ c₂ : Tally) : Type 0 where
   pub longer : (w : Word) → Prefix (logIn b₁) w → (e : ℕ) → e < eventsIn b₁ → Longer b₁ b₂ w e
   -- '.. and the four counts in the first verdict equal those in the second, one by one.'
   pub counts : PrefixesIn (logIn b₂) (logIn b₁)
@@ -128,6 +137,6 @@ pub record Compared (b₁ b₂ : List ℕ) (c₁ c₂ : Counts) : Type 0 where
 -- for any two files that open and are accepted, whatever the outputs and tables held before
 abbrev pub Demand3 : Type 0
 Demand3 =
-    (file₁ file₂ output₁ output₂ table₁ table₂ b₁ b₂ : List ℕ) (c₁ c₂ : Counts) → Bytes file₁ → Bytes file₂
+    (file₁ file₂ output₁ output₂ table₁ table₂ b₁ b₂ : List ℕ) (c₁ c₂ : Tally) → Bytes file₁ → Bytes file₂
     → FileAccepted file₁ output₁ table₁ b₁ c₁ → FileAccepted file₂ output₂ table₂ b₂ c₂
     → eventsIn b₁ ≡ eventsIn b₂ → PrefixesIn (logIn b₁) (logIn b₂) → Compared b₁ b₂ c₁ c₂

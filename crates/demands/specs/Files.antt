@@ -16,7 +16,7 @@ use Rattle.nets.specs.Words.{Prefix}
 use Rattle.nets.specs.Comparison.{PrefixesIn}
 use Rattle.bundles.specs.Readers.{eventsIn, logIn, netIn}
 use Rattle.verdicts.specs.Judging.{verdict, tableAfter}
-use Rattle.verdicts.specs.declared.Counts.{Counts}
+use Rattle.verdicts.specs.declared.Tally.{Tally}
 use Rattle.verdicts.specs.declared.Verdict.the-variants.{Accepted}
 use Rattle.screening.specs.Screening.{screened}
 use Rattle.screening.specs.declared.Screened.{Screened}
@@ -47,7 +47,7 @@ tableRan (refused number spot) table = table
 -- word is a prefix of the first log with one event more, so do the answers of screening it
 abbrev pub AnswersCompared : Both → List ℕ → List ℕ → Word → Type 0
 AnswersCompared r output₁ output₂ word =
-    (a₁ a₂ : Answers) (c₁ c₂ : Counts) → r .first ≡ Opened a₁ → r .second ≡ Opened a₂ → a₁ .verdict ≡ Accepted c₁ → a₂ .verdict ≡ Accepted c₂
+    (a₁ a₂ : Answers) (c₁ c₂ : Tally) → r .first ≡ Opened a₁ → r .second ≡ Opened a₂ → a₁ .verdict ≡ Accepted c₁ → a₂ .verdict ≡ Accepted c₂
     → (b₁ b₂ : List ℕ) → b₁ ≡ take (a₁ .size) output₁ → b₂ ≡ take (a₂ .size) output₂
     → eventsIn b₁ ≡ eventsIn b₂ → PrefixesIn (logIn b₁) (logIn b₂)
     → Compared b₁ b₂ c₁ c₂

@@ -23,9 +23,9 @@ use Rattle.nets.specs.Words.{Prefix, PermitsLog}
 use Rattle.nets.specs.Comparison.{PrefixesIn}
 use Rattle.logs.specs.Answers.{TABLE}
 use Rattle.bundles.specs.Readers.{eventsIn, logIn, netIn}
-use Rattle.verdicts.specs.Judging.{verdictOn, verdict}
+use Rattle.verdicts.specs.Judging.{verdictOf, verdict}
 use Rattle.verdicts.specs.Acceptance.{judged-right}
-use Rattle.verdicts.specs.declared.Counts.{Counts}
+use Rattle.verdicts.specs.declared.Tally.{Tally}
 use Rattle.verdicts.specs.declared.Verdict.the-variants as verdicts
 use Rattle.demands.specs.Demands.{FileAccepted, Compared}
 use Rattle.demands.specs.Proved.{demand-3}
@@ -43,7 +43,7 @@ prefixes-in : (log₁ log₂ : Log) → all (λ w. member w (prefixes log₂)) (
 prefixes-in log₁ log₂ e u m = member→ u (prefixes log₂) (all-member (λ w. member w (prefixes log₂)) (prefixes log₁) (rw e tt) m)
 
 -- a sealed bundle opens into every output that is long enough, and is accepted with every table that is
-accepted-sealed : (b : List ℕ) (c : Counts) → rightSize (length b) ≡ true → verdict TABLE b ≡ verdicts.Accepted c
+accepted-sealed : (b : List ℕ) (c : Tally) → rightSize (length b) ≡ true → verdict TABLE b ≡ verdicts.Accepted c
     → (output table : List ℕ) → length b ≤ length output → TABLE ≤ length table → FileAccepted (sealedFile b) output table b c
 unfolding verdict
 accepted-sealed b c size accepted output table room long =
@@ -53,7 +53,7 @@ accepted-sealed b c size accepted output table room long =
       size = length b;
       opens = sym (ends .0);
       bundle = ap (take (length b)) (sym (ends .1)) ∙ take-front b output;
-      accepted = ap verdictOn (judged-right (length table) b long size ∙ sym (judged-right TABLE b (omega arith) size)) ∙ accepted;
+      accepted = ap verdictOf (judged-right (length table) b long size ∙ sym (judged-right TABLE b (omega arith) size)) ∙ accepted;
     }
 
 module _ (output₁ output₂ table₁ table₂ : List ℕ) (room₁ : length bytesA ≤ length output₁) (room₂ : length bytesA′ ≤ length output₂) (long₁ : TABLE ≤ length table₁) (long₂ : TABLE ≤ length table₂) where

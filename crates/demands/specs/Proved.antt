@@ -14,7 +14,8 @@ use Rattle.logs.specs.AnswerLaws.{refused-table}
 use Rattle.logs.specs.LogTable.{log-table}
 use Rattle.verdicts.specs.Acceptance.{accepted-exactly}
 use Rattle.verdicts.specs.RefusalNumbers.{judge-numbers, refused-judge}
-use Rattle.verdicts.specs.declared.Counts.{Counts}
+use Rattle.verdicts.specs.declared.Tally.{Tally}
+use Rattle.judging.specs.Files.{judge-file-numbers, file-refused, file-opened}
 use Rattle.screening.specs.RefusalNumbers.{screen-numbers}
 use Rattle.screening.specs.Screens.{permitted-exactly, stopped-exactly, readable-exactly}
 use Rattle.demands.specs.Demands.{Demand1, Demand2, Demand3, FileAccepted}
@@ -28,6 +29,7 @@ demand-1 = record {
   refusals-of-fresh = fresh-numbers;
   refusals-of-take = take-numbers;
   refusals-of-judge = judge-numbers;
+  refusals-of-judge-file = judge-file-numbers;
   refusals-of-screen = screen-numbers;
   refused-output = refused-writes-nothing;
   result-output = λ result output n e. let a = answer-length result output n e in (a .0, a .1, a .2 .0, a .2 .1);
@@ -37,6 +39,8 @@ demand-1 = record {
   refused-take = λ s table w r e. sym (refused-table s table w r e);
   refused-judge = refused-judge;
   accepted-judge = λ table b bytes c e. table-left b bytes (length table) c e table refl;
+  file-refused = file-refused;
+  file-opened = file-opened;
 }
 
 pub demand-2 : Demand2
@@ -52,7 +56,7 @@ demand-2 = record {
 }
 
 -- the bundle of a file that opens and is accepted
-accepted-bundle : {file output table b : List ℕ} {c : Counts} → FileAccepted file output table b c → opened file ≡ value b
+accepted-bundle : {file output table b : List ℕ} {c : Tally} → FileAccepted file output table b c → opened file ≡ value b
 accepted-bundle {file} {output} f = answer-taken (opened file) output (f .size) (f .opens) ∙ ap value (f .bundle)
 
 pub demand-3 : Demand3

@@ -10,16 +10,16 @@ use Rattle.laws.specs.Numbers.{numberAt}
 use Rattle.laws.specs.Differences.{sumℤ}
 use Rattle.laws.specs.Scans.{firstFailing}
 use Rattle.limits.specs.Limits.{rightSize}
+use Rattle.refusals.specs.Results.{bind}
 use Rattle.nets.specs.Nets.{Log, same, occurrences, eventCount, weighed, beginnings, prefixes, addRow, counts, stepAfter, tokens, surplus, placePermits, netPermits, permitsAfter, permits, firstRefusing, screenAfter, screen, rows, allowed, rowSteps, continuations, allowedSteps, wrongContinuations, fits, refusedBy, weighsBefore, weighsAfter, weightsHold, solves, isByPlace, tally}
 use Rattle.nets.specs.Events.{firstBad}
 use Rattle.logs.specs.Answers.{TABLE}
 use Rattle.bundles.specs.Reading.{require, field, byte, number, each, onward}
-use Rattle.refusals.specs.Results.{bind}
 use Rattle.bundles.specs.Layout.{toPlace, toNet, toTerm, toCertificate, toBundle}
 use Rattle.bundles.specs.Readers.{headIn, headOf, eventsIn, logIn, netIn, wordAfter, word, place, places, headAfter, head, bundleSize, bundleHead, term, weights, ofKind, certificate}
-use Rattle.verdicts.specs.Judging.{unsolved, solved, atEnd, afterHead, contents, judging, judged, verdictOn, verdict}
+use Rattle.verdicts.specs.Judging.{unsolved, solved, atEnd, afterHead, contents, judging, judged, verdictOf, verdict}
 use Rattle.verdicts.specs.declared.Verdict.{Verdict}
-use Rattle.verdicts.specs.declared.Counts.{Counts}
+use Rattle.verdicts.specs.declared.Tally.{Tally}
 use Rattle.verdicts.specs.declared.Verdict.the-variants as verdicts
 use Rattle.screening.specs.Screening.{wordOn, screening, replayed, screenedOf, screened}
 use Rattle.screening.specs.declared.Screened.{Screened}
@@ -103,7 +103,7 @@ bytesA′ =
     ∷ 0 ∷ 0 ∷ 0 ∷ 0 ∷ 1 ∷ 2 ∷ 0 ∷ 2 ∷ 0 ∷ 0 ∷ 1 ∷ 1 ∷ 0 ∷ 3 ∷ 0 ∷ 1 ∷ 1 ∷ 0 ∷ 0 ∷ 1 ∷ 0 ∷ 0 ∷ 0 ∷ 0 ∷ []
 
 -- 5 rows, 4 allowed steps, 5 certificates of kind 0 and 1 of kind 1
-unfoldable pub countsA : Counts
+unfoldable pub countsA : Tally
 countsA = record { rows = 5; allowed = 4; «by_place» = 5; «by_weights» = 1 }
 
 -- ---- One result over all of it
@@ -129,7 +129,7 @@ pub record Computed : Type 0 where
   pub refuses10 : permits (eventsIn bytesA) (netIn bytesA) (1 ∷ 0 ∷ []) ≡ false
 
 pub computed : Computed
-unfolding ofVerdict ofScreened bytesA logI samples all any keep tabulate equal numberAt firstFailing sumℤ same occurrences eventCount weighed beginnings prefixes addRow counts tokens surplus placePermits netPermits firstRefusing screenAfter screen rows allowed rowSteps continuations allowedSteps wrongContinuations fits refusedBy weighsBefore weighsAfter weightsHold solves isByPlace tally firstBad flatMap bind onward require field byte number each toPlace toNet toTerm toCertificate toBundle rightSize wordAfter word place places headAfter head bundleSize bundleHead term weights ofKind certificate unsolved solved atEnd afterHead contents judging judged verdictOn verdict replayed wordOn screening screenedOf screened bytesA′ countsA headOf headIn permits permitsAfter
+unfolding ofVerdict ofScreened bytesA logI samples all any keep tabulate equal numberAt firstFailing sumℤ same occurrences eventCount weighed beginnings prefixes addRow counts tokens surplus placePermits netPermits firstRefusing screenAfter screen rows allowed rowSteps continuations allowedSteps wrongContinuations fits refusedBy weighsBefore weighsAfter weightsHold solves isByPlace tally firstBad flatMap bind onward require field byte number each toPlace toNet toTerm toCertificate toBundle rightSize wordAfter word place places headAfter head bundleSize bundleHead term weights ofKind certificate unsolved solved atEnd afterHead contents judging judged verdictOf verdict replayed wordOn screening screenedOf screened bytesA′ countsA headOf headIn permits permitsAfter
 computed = record {
   samplesHold = refl;
   acceptedA = refl;

@@ -20,14 +20,14 @@ use Rattle.laws.specs.Sums.{sum, sum-same}
 use Rattle.limits.specs.Limits.{MAX-EVENTS}
 use Rattle.nets.specs.Nets.{Place, Step, Counts, at, tokens, surplus, placePermits, fits}
 use Rattle.nets.specs.Surplus.{given, taken, tokens-is, given-next, taken-next, tokens-row, permits→le, le→permits, tokens-zeros}
-use Rattle.bundles.specs.Readers.{eventsIn, logIn, netIn}
 use Rattle.logs.specs.Rows.{Row, none, rowAt, rowsOf}
+use Rattle.bundles.specs.Readers.{eventsIn, logIn, netIn}
+use Rattle.bundles.specs.HeadReading.{net-size}
 use Rattle.heads.specs.Heads.{HeadHeld}
 use Rattle.heads.specs.declared.TakenHead.{TakenHead}
 use Rattle.fitting.specs.Fitting.{rowFits, fitsRows, misfitIn, noPlace, placeIn}
 use Rattle.fitting.specs.FittingLaws.{permits-front, fits-held}
-use Rattle.fitting.specs.Columns.{WIDTH, MATRIX, inRow, outRow, column, SamePlace, Marking, Covered, Shifted, Recounted, Beside, Written, putBetween, tookBetween, Between}
-use Rattle.bundles.specs.HeadSteps.{net-size}
+use Rattle.fitting.specs.Columns.{WIDTH, MATRIX, inRow, outRow, column, SamePlace, Marking, Covered, Shifted, Recounted, Beside, Filled, putBetween, tookBetween, Between}
 
 -- ---- The tokens
 
@@ -210,7 +210,7 @@ module _ {m₀ : List ℕ} {j : ℕ} {p : Place} where
 -- ---- The places of a bundle written into the columns
 
 -- one column more, the others untouched
-pub written-next : {b m m′ : List ℕ} {j : ℕ} → j < WIDTH → Written b m j → Beside m m′ j → SamePlace (column m′ j) (placeIn b j) → Written b m′ (j + 1)
+pub written-next : {b m m′ : List ℕ} {j : ℕ} → j < WIDTH → Filled b m j → Beside m m′ j → SamePlace (column m′ j) (placeIn b j) → Filled b m′ (j + 1)
 written-next {b} {m} {m′} {j} few below beside here = record {
   places = each-next (λ (i : ℕ). SamePlace (column m′ i) (placeIn b i)) j
       (λ i l.
@@ -227,7 +227,7 @@ written-next {b} {m} {m′} {j} few below beside here = record {
 
 -- ---- The places of a bundle that all fit
 
-pub all-fit : {b t m : List ℕ} {head : TakenHead} → HeadHeld b t head → Written b m (head .places .count)
+pub all-fit : {b t m : List ℕ} {head : TakenHead} → HeadHeld b t head → Filled b m (head .places .count)
     → ((j : ℕ) → j < head .places .count → fitsRows (column m j) (rowsOf (head .rows) t) ≡ true) → head .places .count ≡ misfitIn b
 all-fit {b} {t} {head = head} held written fit =
     let size = net-size (held .found) in

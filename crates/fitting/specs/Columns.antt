@@ -82,7 +82,7 @@ abbrev pub Beside : List ℕ → List ℕ → ℕ → Type 0
 Beside m m′ j = (x k : ℕ) → k < WIDTH → (k ≡ j → ⊥) → getD m′ (WIDTH * x + k) 0 ≡ getD m (WIDTH * x + k) 0
 
 -- the first `count` columns have the places of a bundle
-pub record Written (b m : List ℕ) (count : ℕ) : Type 0 where
+pub record Filled (b m : List ℕ) (count : ℕ) : Type 0 where
   pub places : (j : ℕ) → j < count → SamePlace (column m j) (placeIn b j)
 
 -- the tokens after the counts of `row` below i, and those of `before` from i on, as a difference of two numbers. What the counts of `before`

@@ -13,7 +13,6 @@ use Rattle.laws.specs.Booleans.{same-test, yes-true, implied, implies}
 use Rattle.laws.specs.Bits.{bit, bit-of-zero}
 use Rattle.laws.specs.Lists.{all, all-member, all-intro, all-next, getD-map, tabulate, length-tabulate, getD-tabulate, tabulate-member, tabulate-inverse}
 use Rattle.limits.specs.Limits.{MAX-EVENTS}
-use Rattle.nets.specs.declared.Place as Declared
 use Rattle.nets.specs.Nets.{Log, Counts, Step, Place, tokens, surplus, placePermits, rows, allowed, allowedSteps, fits}
 use Rattle.nets.specs.CountLaws.{length-counts}
 use Rattle.nets.specs.Fits.{LogBelow, allowed-listed}
@@ -21,15 +20,16 @@ use Rattle.nets.specs.Machine.{placeOf}
 use Rattle.nets.specs.Rows.{row→, continuation→, allowedStep→}
 use Rattle.nets.specs.Surplus.{tokens-row}
 use Rattle.nets.specs.Wide.{wide, permits-wide}
+use Rattle.nets.specs.declared.Place as Declared
 use Rattle.logs.specs.Rows.{ROW, Row, rowAt, rowsOf}
 use Rattle.logs.specs.Flat.{length-rows, rows-at}
 use Rattle.logs.specs.Log.{logRow, logRows}
 use Rattle.logs.specs.LogTable.{logRows-is, logRow-bit}
 use Rattle.bundles.specs.Layout.{toPlace, toNet}
 use Rattle.bundles.specs.Readers.{eventsIn, logIn}
-use Rattle.bundles.specs.NumberSteps.{itemsAt, items-length, getD-items}
-use Rattle.bundles.specs.PlaceSteps.{placeSize, fieldsAt, placeOn}
-use Rattle.bundles.specs.HeadSteps.{HeadAt}
+use Rattle.bundles.specs.NumberReading.{itemsAt, items-length, getD-items}
+use Rattle.bundles.specs.PlaceReading.{placeSize, fieldsAt, placeOn}
+use Rattle.bundles.specs.HeadReading.{HeadAt}
 use Rattle.bundles.specs.declared.Places.{Places}
 use Rattle.heads.specs.Heads.{HeadHeld}
 use Rattle.heads.specs.declared.TakenHead.{TakenHead}
@@ -38,16 +38,16 @@ use Rattle.fitting.specs.Fitting.{rowFits, fitsRows, eventFits, eventsFi
 -- ---- a row
 
 -- a loop over the events that has tested those below e
-abbrev pub EventsBelow : ℤ → List ℕ → ℕ → Bool → ℕ → Type 0
-EventsBelow t consumed mask fit e = eventsFit t consumed mask ≡ (fit && all (eventFits t consumed mask) (drop e (tabulate MAX-EVENTS (λ e. e))))
+abbrev pub EventsPassed : ℤ → List ℕ → ℕ → Bool → ℕ → Type 0
+EventsPassed t consumed mask fit e = eventsFit t consumed mask ≡ (fit && all (eventFits t consumed mask) (drop e (tabulate MAX-EVENTS (λ e. e))))
 
 module _ (t : ℤ) (consumed : List ℕ) (mask : ℕ) where
-  pub events-start : EventsBelow t consumed mask true 0
+  pub events-start : EventsPassed t consumed mask true 0
   unfolding eventsFit
   events-start = refl
 
-  pub events-next : (fit : Bool) (e : ℕ) → e < MAX-EVENTS → EventsBelow t consumed mask fit e
-      → EventsBelow t consumed mask (fit && (not (bit mask e) || nonNeg (t -ℤ pos (getD consumed e 0)))) (e + 1)
+  pub events-next : (fit : Bool) (e : ℕ) → e < MAX-EVENTS → EventsPassed t consumed mask fit e
+      → EventsPassed t consumed mask (fit && (not (bit mask e) || nonNeg (t -ℤ pos (getD consumed e 0)))) (e + 1)
   unfolding eventFits
   events-next fit e h inv =
       let test : ℕ → Bool = eventFits t consumed mask in
@@ -56,7 +56,7 @@ module _ (t : ℤ) (consumed : List ℕ) (mask : ℕ) where
       ∙ ap (λ (b : Bool). fit && b) (all-next test events e 0 (rw length-tabulate h) ∙ ap (λ (x : ℕ). test x && all test (drop (e + 1) events)) (getD-tabulate MAX-EVENTS (λ e. e) e 0 h))
       ∙ sym (and-assoc fit (test e) (all test (drop (e + 1) events)))
 
-  pub events-end : (fit : Bool) (e : ℕ) → MAX-EVENTS ≤ e → EventsBelow t consumed mask fit e → eventsFit t consumed mask ≡ fit
+  pub events-end : (fit : Bool) (e : ℕ) → MAX-EVENTS ≤ e → EventsPassed t consumed mask fit e → eventsFit t consumed mask ≡ fit
   unfolding all
   events-end fit e h inv =
       inv ∙ rw (drop-of-length-le (tabulate MAX-EVENTS (λ e. e)) {i = e} (rw length-tabulate h)) (and-true fit)

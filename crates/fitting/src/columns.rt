@@ -16,10 +16,10 @@ ghost use lib.ListN.{length, getD};
 ghost use Rattle.laws.specs.Bits.{bit};
 ghost use Rattle.limits.specs.Limits.{MAX-EVENTS};
 ghost use Rattle.nets.specs.Machine.{placeOf};
-ghost use Rattle.bundles.specs.HeadSteps.{HeadAt};
 ghost use Rattle.logs.specs.Rows.{ROW, none, rowsOf};
+ghost use Rattle.bundles.specs.HeadReading.{HeadAt};
 ghost use Rattle.fitting.specs.Fitting.{fitsRows};
-ghost use Rattle.fitting.specs.Columns.{WIDTH, MATRIX, Sides, outRow, column, SamePlace, Moderate, Marking, Covered, Shiftable, Shifted, Recounted, Beside, Written};
+ghost use Rattle.fitting.specs.Columns.{WIDTH, MATRIX, Sides, outRow, column, SamePlace, Moderate, Marking, Covered, Shiftable, Shifted, Recounted, Beside, Filled};
 
 // The columns of a matrix: as many as a bundle may have places.
 pub const WIDTH: usize = MAX_PLACES;
@@ -92,7 +92,7 @@ fn recount(tokens: &mut [i64], count: usize, matrix: &[u16], i: usize, before: u
 }
 
 // The tokens after the counts of a row, from those after the counts `before`.
-fn advance(tokens: &mut [i64], count: usize, matrix: &[u16], before: [u16; 12], row: &[u16])
+fn advance(tokens: &mut [i64], count: usize, matrix: &[u16], before: [u16; MAX_EVENTS], row: &[u16])
     requires { ⌜ Sides count (now tokens) (now matrix) × Marking count (now matrix) (now tokens) before ⌝ }
     requires { ⌜ MAX-EVENTS ≤ length (now row) ⌝ }
     ensures { λ u. ⌜ Marking count (now (matrix .entry)) (now (tokens .exit)) (now (row .entry)) ⌝ }
@@ -132,11 +132,11 @@ fn covers_mask(tokens: &[i64], count: usize, matrix: &[u16], mask: u16) -> bool
 }
 
 // The counts of the row at the front of a slice.
-fn counts_of(row: &[u16]) -> [u16; 12]
+fn counts_of(row: &[u16]) -> [u16; MAX_EVENTS]
     requires { ⌜ MAX-EVENTS ≤ length (now row) ⌝ }
     ensures { λ r. ⌜ ((i : ℕ) → i < MAX-EVENTS → getD r i 0 ≡ getD (now (row .entry)) i 0) ⌝ }
 {
-    let mut counts = [0u16; 12];
+    let mut counts = [0u16; MAX_EVENTS];
     let mut i = 0;
     while i < MAX_EVENTS {
         counts[i] = row[i];
@@ -157,7 +157,7 @@ pub fn columns_fit(
     requires { ⌜ ROW * rows ≤ length (now table) ⌝ }
     ensures { λ r. ⌜ (r ≡ true → (j : ℕ) → j < count → fitsRows (column (now (matrix .entry)) j) (rowsOf rows (now (table .entry))) ≡ true) ⌝ }
 {
-    let mut before = [0u16; 12];
+    let mut before = [0u16; MAX_EVENTS];
     let mut r = 0;
     while r < rows {
         let at = ROW * r;
@@ -201,7 +201,7 @@ fn write_column(matrix: &mut [u16], j: usize, place: Place)
 // Writes the places of a bundle into the columns of a matrix.
 pub fn write_columns(bundle: &[u8], head: TakenHead, matrix: &mut [u16])
     requires { ⌜ HeadAt (now bundle) (head .n) (head .places) × (MATRIX ≤ length (now matrix)) ⌝ }
-    ensures { λ u. ⌜ Written (now (bundle .entry)) (now (matrix .exit)) (head .places .count) ⌝ }
+    ensures { λ u. ⌜ Filled (now (bundle .entry)) (now (matrix .exit)) (head .places .count) ⌝ }
 {
     let n = head.n;
     let size = 2 * (1 + 2 * n);

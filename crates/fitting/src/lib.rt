@@ -22,7 +22,7 @@ ghost use Rattle.heads.specs.Heads.{HeadHeld};
 ghost use Rattle.fitting.specs.Fitting.{eventsFit, rowFits, fitsRows, misfitIn};
 
 // Whether the tokens cover what each event of the mask takes. All twelve are tested without a branch: which bits are set is hard to predict.
-fn events_fit(tokens: i64, consumed: [u16; 12], mask: u16) -> bool
+fn events_fit(tokens: i64, consumed: [u16; MAX_EVENTS], mask: u16) -> bool
     requires { ⌜ Held tokens ⌝ }
     ensures { λ r. ⌜ r ≡ eventsFit tokens consumed mask ⌝ }
 {

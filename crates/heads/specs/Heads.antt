@@ -5,9 +5,9 @@ use Prim.Native.Nat.{ℕ, _*_, _≤_}
 use native.Mathlib.Omega.{arith}
 use lib.ListN.{length, drop}
 use Rattle.laws.specs.Booleans.{impossible}
-use Rattle.limits.specs.Limits.{MAX-ROWS}
-use Rattle.refusals.specs.declared.Refusal.{Refusal}
+use Rattle.limits.specs.Limits.{MAX-ROWS, MAX-EVENTS}
 use Rattle.refusals.specs.Results.{value, refused, bind}
+use Rattle.refusals.specs.declared.Refusal.{Refusal}
 use Rattle.nets.specs.Nets.{rows}
 use Rattle.nets.specs.Fits.{LogBelow}
 use Rattle.logs.specs.Rows.{ROW, rowsOf, Holds}
@@ -16,9 +16,9 @@ use Rattle.logs.specs.Log.{logRows}
 use Rattle.bundles.specs.Reading.{Read, got, item, byte, onward}
 use Rattle.bundles.specs.Layout.{PlaceFields, Head}
 use Rattle.bundles.specs.Readers.{anything, places, head, rowsInLimit, headOf, eventsIn, logIn, headAfter}
-use Rattle.bundles.specs.FieldSteps.{between}
-use Rattle.bundles.specs.PlaceSteps.{keptPlaces, placesRead}
-use Rattle.bundles.specs.HeadSteps.{HeadAt, head-got, after-failed, head-taken}
+use Rattle.bundles.specs.FieldReading.{between}
+use Rattle.bundles.specs.PlaceReading.{keptPlaces, placesRead}
+use Rattle.bundles.specs.HeadReading.{HeadAt, head-got, after-failed, head-taken}
 use Rattle.bundles.specs.declared.Places.{Places}
 use Rattle.bundles.specs.declared.PlacesRead.the-variants as places-read
 use Rattle.heads.specs.Taken.{Fresh, AllTaken, held-rest}
@@ -54,7 +54,7 @@ places-refused n (value (item ps next)) r e = impossible cc
 places-refused n (refused number spot) r e = let same : record { number = number; spot = spot } ≡ r = cc in ap₂ refused (ap (λ (x : Refusal). x .number) same) (ap (λ (x : Refusal). x .spot) same)
 
 -- behind the event count
-module _ (b : List ℕ) {n at : ℕ} (events : byte (between 1 12) b 0 ≡ got n at) (t₀ t : List ℕ) where
+module _ (b : List ℕ) {n at : ℕ} (events : byte (between 1 MAX-EVENTS) b 0 ≡ got n at) (t₀ t : List ℕ) where
   pub count-refused : (r : Refusal) → byte anything b at ≡ refused (r .number) (r .spot) → t ≡ t₀ → HeadIs b t₀ t (heads-taken.Refused r)
   count-refused r e same = (head-got rowsInLimit b events ∙ after-failed rowsInLimit b n at e, ap (drop TABLE) same)
 

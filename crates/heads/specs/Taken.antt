@@ -11,7 +11,8 @@ use lib.ListN.{length, getD, drop, replicate, length-replicate}
 use borrow.Author.Tests.{le-leb, lt-leb, ltb-true}
 use Rattle.laws.specs.Every.{Every, every-last}
 use Rattle.limits.specs.Limits.{MAX-EVENTS, MAX-LOG-EVENTS, MAX-ROWS}
-use Rattle.refusals.specs.Table.{ROWS}
+use Rattle.refusals.specs.Table.{ROWS, EVENTS}
+use Rattle.refusals.specs.Results.{refused, bind}
 use Rattle.refusals.specs.declared.Refusal.{Refusal}
 use Rattle.nets.specs.Events.{EventsBelow}
 use Rattle.nets.specs.Nets.{Word, Log, eventCount, rows}
@@ -27,12 +28,10 @@ use Rattle.logs.specs.Growth.{length-take}
 use Rattle.logs.specs.Taking.{drop-more}
 use Rattle.logs.specs.Flat.{length-rows}
 use Rattle.bundles.specs.Reading.{got, _>>_, require, byte, each, times, following, onward}
-use Rattle.refusals.specs.Results.{refused, bind}
 use Rattle.bundles.specs.Readers.{anything, wordAfter, word, rowsInLimit}
-use Rattle.bundles.specs.FieldSteps.{below, byte-got}
+use Rattle.bundles.specs.FieldReading.{below, byte-got}
 use Rattle.bundles.specs.ReadingLaws.{andThen-got, require-got}
-use Rattle.bundles.specs.WordSteps.{mapRead, mapRead-got, mapRead-failed, rest, rest-all, rest-none, rest-more, rest-failed, eventsAt, word-limit, word-part, word-tested}
-use Rattle.refusals.specs.Table.{EVENTS}
+use Rattle.bundles.specs.WordReading.{mapRead, mapRead-got, mapRead-failed, rest, rest-all, rest-none, rest-more, rest-failed, eventsAt, word-limit, word-part, word-tested}
 use Rattle.heads.specs.declared.LogTaken.{LogTaken}
 use Rattle.heads.specs.declared.LogTaken.the-variants as log-taken
 

@@ -7,6 +7,7 @@ use bundles::fields::byte_between;
 use bundles::net::read_places;
 use bundles::words::read_word;
 use bundles::words::word_at;
+use limits::MAX_EVENTS;
 use limits::MAX_ROWS;
 use logs::index::INDEX;
 use logs::index::index_rows;
@@ -22,7 +23,7 @@ ghost use Rattle.nets.specs.Nets.{Log};
 ghost use Rattle.logs.specs.Answers.{TABLE};
 ghost use Rattle.logs.specs.Index.{INDEX, Index};
 ghost use Rattle.bundles.specs.Reading.{got, byte};
-ghost use Rattle.bundles.specs.FieldSteps.{between};
+ghost use Rattle.bundles.specs.FieldReading.{between};
 ghost use Rattle.heads.specs.Taken.{Fresh, LogHeld, OneMore, AllTaken, Reindexed};
 ghost use Rattle.heads.specs.Heads.{HeadIs};
 
@@ -118,7 +119,7 @@ pub enum HeadTaken {
 
 // A head from its word count on, behind n.
 fn take_after(bundle: &[u8], at: usize, n: usize, table: &mut [u16]) -> HeadTaken
-    requires { ⌜ (byte (between 1 12) (now bundle) 0 ≡ got n at) × Fresh (now table) ⌝ }
+    requires { ⌜ (byte (between 1 MAX-EVENTS) (now bundle) 0 ≡ got n at) × Fresh (now table) ⌝ }
     ensures { λ r. ⌜ HeadIs (now (bundle .entry)) (now (table .entry)) (now (table .exit)) r ⌝ }
 {
     match any_byte(bundle, at) {
@@ -138,7 +139,7 @@ pub fn take_head(bundle: &[u8], table: &mut [u16]) -> HeadTaken
     requires { ⌜ Fresh (now table) ⌝ }
     ensures { λ r. ⌜ HeadIs (now (bundle .entry)) (now (table .entry)) (now (table .exit)) r ⌝ }
 {
-    match byte_between(bundle, 0, 1, 12) {
+    match byte_between(bundle, 0, 1, MAX_EVENTS) {
         Field::Refused(refusal) => HeadTaken::Refused(refusal),
         Field::Value(n, at) => take_after(bundle, at, n, table),
     }

@@ -14,7 +14,7 @@ use Rattle.block.specs.File.{opened}
 use Rattle.block.specs.RefusalNumbers.{openNumbers, open-refuses}
 use Rattle.bundles.specs.Reading.{Read}
 use Rattle.bundles.specs.Layout.{Contents}
-use Rattle.verdicts.specs.Judging.{judged, verdictOn, verdict, verdictNumber, tableAfter}
+use Rattle.verdicts.specs.Judging.{judged, verdictOf, verdict, verdictNumber, tableAfter}
 use Rattle.verdicts.specs.RefusalNumbers.{judgeNumbers, judged-refuses, verdict-numbers}
 use Rattle.verdicts.specs.declared.Verdict.{Verdict}
 use Rattle.verdicts.specs.declared.Verdict.the-variants as verdicts
@@ -26,7 +26,7 @@ fileJudged file room tableSize = do
   judged tableSize b 0
 
 unfoldable pub fileVerdict : List ℕ → ℕ → ℕ → Verdict
-fileVerdict file room tableSize = verdictOn (fileJudged file room tableSize)
+fileVerdict file room tableSize = verdictOf (fileJudged file room tableSize)
 
 -- the table afterwards: as judging leaves it; where the file does not open, as it was
 unfoldable pub fileTable : Result (List ℕ) → List ℕ → List ℕ
@@ -38,7 +38,7 @@ fileTable (refused number spot) t = t
 module _ (file output table : List ℕ) where
   pub file-refused : (r : Refusal) → answer (opened file) (length output) ≡ writing.Refused r
       → (fileVerdict file (length output) (length table) ≡ verdicts.Refused r) × (fileTable (fitted (opened file) (length output)) table ≡ table)
-  unfolding fileVerdict fileJudged fileTable bind verdictOn
+  unfolding fileVerdict fileJudged fileTable bind verdictOf
   file-refused r e = rw (answer-refused (opened file) (length output) r e) (refl, refl)
 
   -- the bundle is in front of the output

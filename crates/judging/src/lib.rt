@@ -1,8 +1,8 @@
 // Judging a bundle. The contracts cite crate verdicts' definitions.
 pub mod files; // judging a sealed file
 
-use certifying::Certified;
-use certifying::certify;
+use certificates::Certified;
+use certificates::certify;
 pub use files::judge_file;
 use fitting::first_misfit;
 use heads::HeadTaken;
@@ -13,18 +13,18 @@ use logs::TABLE;
 use logs::clear;
 use refusals::BUNDLE_LENGTH;
 use refusals::BYTES_FOLLOW;
-use refusals::PLACE_FIT;
+use refusals::NUMBERS_SHORT;
+use refusals::PLACE_MISFIT;
 use refusals::Refusal;
-use refusals::TABLE_SHORT;
 use verdicts::Verdict;
 ghost use mathlib.Core.Path.{_≡_};
 ghost use lib.ListN.{length};
 ghost use Rattle.refusals.specs.Answers.{refusal};
 ghost use Rattle.bundles.specs.Readers.{headOf};
+ghost use Rattle.verdicts.specs.Judging.{judging, verdictOf, verdict, tableAfter};
 ghost use Rattle.heads.specs.Taken.{Fresh};
 ghost use Rattle.heads.specs.Heads.{HeadHeld};
-ghost use Rattle.verdicts.specs.Judging.{judging, verdictOn, verdict, tableAfter};
-ghost use Rattle.judging.specs.Steps.{afterwards, endedAs, TableLeft, isRefused};
+ghost use Rattle.judging.specs.JudgeLaws.{afterwards, endedAs, TableLeft, isRefused};
 
 fn refused(number: u8, spot: usize) -> Verdict
     ensures { λ r. ⌜ r ≡ Verdict.Refused (refusal number spot) ⌝ }
@@ -50,11 +50,11 @@ fn ended(bundle: &[u8], certified: Certified) -> Verdict
 // The verdict on a bundle whose head is read and whose log is in the table.
 fn judge_net(bundle: &[u8], head: TakenHead, table: &[u16]) -> Verdict
     requires { ⌜ HeadHeld (now bundle) (now table) head ⌝ }
-    ensures { λ r. ⌜ r ≡ verdictOn (afterwards (headOf (now (bundle .entry))) (now (bundle .entry)) (head .places .next)) ⌝ }
+    ensures { λ r. ⌜ r ≡ verdictOf (afterwards (headOf (now (bundle .entry))) (now (bundle .entry)) (head .places .next)) ⌝ }
 {
     let misfit = first_misfit(bundle, head, table);
     if misfit < head.places.count {
-        return refused(PLACE_FIT, misfit);
+        return refused(PLACE_MISFIT, misfit);
     }
     ended(bundle, certify(bundle, head, table))
 }
@@ -62,7 +62,7 @@ fn judge_net(bundle: &[u8], head: TakenHead, table: &[u16]) -> Verdict
 // The verdict on a bundle's fields. The table has the row of the empty log.
 fn judge_fields(bundle: &[u8], table: &mut [u16]) -> Verdict
     requires { ⌜ Fresh (now table) ⌝ }
-    ensures { λ r. ⌜ r ≡ verdictOn (judging (now (bundle .entry)) 0) ⌝ }
+    ensures { λ r. ⌜ r ≡ verdictOf (judging (now (bundle .entry)) 0) ⌝ }
     ensures { λ _. ⌜ TableLeft (judging (now (bundle .entry)) 0) (now (table .entry)) (now (table .exit)) ⌝ }
 {
     match take_head(bundle, table) {
@@ -90,7 +90,7 @@ pub fn judge(bundle: &[u8], table: &mut [u16]) -> Verdict
         return refused(BUNDLE_LENGTH, 0);
     }
     if table.len() < TABLE {
-        return refused(TABLE_SHORT, TABLE);
+        return refused(NUMBERS_SHORT, TABLE);
     }
     clear(table);
     let verdict = judge_fields(bundle, table);

@@ -201,7 +201,6 @@ allBelow-wide n (suc k) f h =
 abbrev pub among : ℕ → List ℕ → Bool
 among x = any (eqb x)
 
--- what holds of each element
 -- in a longer list too
 pub among-more : (x : ℕ) (l : List ℕ) (n : ℕ) → among n l ≡ true → among n (x ∷ l) ≡ true
 unfolding any
@@ -211,6 +210,7 @@ among-more x l n e = ap (λ (b : Bool). eqb n x || b) e ∙ or-true (eqb n x)
     or-true true = refl
     or-true false = refl
 
+-- what holds of each element
 pub among-all : (f : ℕ → Bool) (l : List ℕ) → T (all f l) → (n : ℕ) → T (among n l) → T (f n)
 among-all f l t n m = let w = any-witness (eqb n) l m in subst (λ (k : ℕ). T (f k)) (sym (eqb→eq n (w .0) (w .2))) (all-member f l t (w .1))
 

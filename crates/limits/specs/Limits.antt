@@ -6,6 +6,10 @@ use lib.Dec.{leb}
 use borrow.Author.Tests.{leb-true, le-leb}
 use Rattle.laws.specs.Booleans.{and-left, and-right}
 
+-- a sealed file's bytes
+abbrev pub MAX-FILE-SIZE : ℕ
+MAX-FILE-SIZE = 65536
+
 -- a bundle's bytes
 abbrev pub MAX-BUNDLE-SIZE : ℕ
 MAX-BUNDLE-SIZE = 64512

@@ -2,6 +2,9 @@
 ghost use mathlib.Core.Path.{_≡_};
 ghost use Rattle.limits.specs.Limits.{rightSize};
 
+// A sealed file's bytes.
+pub const MAX_FILE_SIZE: usize = 65536;
+
 // A bundle's bytes.
 pub const MAX_BUNDLE_SIZE: usize = 64512;
 

@@ -11,7 +11,7 @@ use borrow.Author.Tests.{leb-true, lt-leb, le-leb}
 use Rattle.laws.specs.Booleans.{impossible, and-left, and-right}
 use Rattle.laws.specs.Scans.{failing-all, failing-some}
 use Rattle.limits.specs.Limits.{MAX-EVENTS, MAX-LOG-EVENTS, MAX-ROWS}
-use Rattle.refusals.specs.Table.{TABLE-SHORT, VALUE, EVENTS, ROWS, SUMMARY}
+use Rattle.refusals.specs.Table.{NUMBERS-SHORT, VALUE, EVENTS, ROWS, STATE-RANGE}
 use Rattle.refusals.specs.Results.{Result, value, refused, _>>_, require, passes, fails}
 use Rattle.refusals.specs.Answers.{refusal}
 use Rattle.refusals.specs.declared.Refusal.{Refusal}
@@ -57,11 +57,11 @@ module _ (s : Summary) (t w : List ℕ) where
   unfolding takenAnswer takenOf
   ends-refused number spot e = let a = ap takenOf e in (sym a, refused-table (refusal number spot) a)
 
-  pub answer-5 : length t < TABLE → Ends (Refused (refusal TABLE-SHORT TABLE)) t
+  pub answer-5 : length t < TABLE → Ends (Refused (refusal NUMBERS-SHORT TABLE)) t
   unfolding wordTaken
   answer-5 h = ends-refused _ _ (fails _ _ _ _ (lt-leb _ _ h))
 
-  pub answer-16 : TABLE ≤ length t → rightSummary s ≡ false → Ends (Refused (refusal SUMMARY 0)) t
+  pub answer-16 : TABLE ≤ length t → rightSummary s ≡ false → Ends (Refused (refusal STATE-RANGE 0)) t
   unfolding wordTaken
   answer-16 long e = ends-refused _ _ (passes _ _ _ _ (le-leb _ _ long) ∙ fails _ _ _ _ e)
 
@@ -89,11 +89,11 @@ module _ (s : Summary) (t w : List ℕ) where
       ∙ fails _ _ _ _ some))
 
   -- and with those
-  pub record Readable : Type 0 where
+  pub record WordAdmitted : Type 0 where
     pub admitted : Admitted
     pub events : length w ≤ firstBad (s .n) w
 
-  module _ (r : Readable) where
+  module _ (r : WordAdmitted) where
     -- what the loops over the word ask
     pub takable : Takable (s .rows) t w
     takable =

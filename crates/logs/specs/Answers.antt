@@ -6,7 +6,7 @@ use lib.ListN.{length}
 use lib.Dec.{leb, ltb}
 use Rattle.laws.specs.Lists.{all}
 use Rattle.limits.specs.Limits.{MAX-EVENTS, MAX-LOG-EVENTS, MAX-ROWS}
-use Rattle.refusals.specs.Table.{TABLE-SHORT, VALUE, EVENTS, ROWS, SUMMARY}
+use Rattle.refusals.specs.Table.{NUMBERS-SHORT, VALUE, EVENTS, ROWS, STATE-RANGE}
 use Rattle.refusals.specs.Results.{Result, value, refused, _>>_, require}
 use Rattle.refusals.specs.Answers.{refusal}
 use Rattle.nets.specs.Events.{firstBad}
@@ -42,8 +42,8 @@ freshSummary n = record { n = n; rows = 1; events = 0 }
 -- what starting a log gives: 5, 16; else its summary
 unfoldable pub logStarted : ℕ → List ℕ → Result Summary
 logStarted n t = do
-  require (leb TABLE (length t)) TABLE-SHORT TABLE
-  require (rightEventCount n) SUMMARY 0
+  require (leb TABLE (length t)) NUMBERS-SHORT TABLE
+  require (rightEventCount n) STATE-RANGE 0
   value (freshSummary n)
 
 unfoldable pub freshAnswer : ℕ → List ℕ → Taken
@@ -67,8 +67,8 @@ summaryAfter s t w = record { n = s .n; rows = length (rowsAfter s t w); events 
 -- what taking the word gives: 5, 16, 8, 7, 9; else the next summary
 unfoldable pub wordTaken : Summary → List ℕ → Word → Result Summary
 wordTaken s t w = do
-  require (leb TABLE (length t)) TABLE-SHORT TABLE
-  require (rightSummary s) SUMMARY 0
+  require (leb TABLE (length t)) NUMBERS-SHORT TABLE
+  require (rightSummary s) STATE-RANGE 0
   require (leb (s .events + length w) MAX-LOG-EVENTS) EVENTS 0
   require (all (λ e. ltb e (s .n)) w) VALUE (firstBad (s .n) w)
   require (leb (length (rowsAfter s t w)) MAX-ROWS) ROWS 0

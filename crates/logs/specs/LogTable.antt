@@ -22,13 +22,13 @@ use Rattle.logs.specs.Rows.{ROW, Row, rowAt, numbers, rowsOf, flat, with
 use Rattle.logs.specs.Answers.{TABLE, freshSummary, logStarted, freshAnswer, freshTable, rowsAfter, summaryAfter, wordTaken, takenAnswer, takenTable}
 use Rattle.logs.specs.AnswerLaws.{next→value, rightEventCount-most}
 use Rattle.logs.specs.Log.{takeLog, maskAt, logRow, logRows, Takes}
-use Rattle.logs.specs.declared.Summary.{Summary}
-use Rattle.logs.specs.declared.Taken.the-variants.{Next}
 use Rattle.logs.specs.Flat.{length-rows, rows-flat, length-numbers, rowAt-numbers, counts-rowAt}
 use Rattle.logs.specs.Visiting.{countsOf, visit-cases, length-visit, counts-follow}
 use Rattle.logs.specs.Growth.{length-addEvent, visit-le}
 use Rattle.logs.specs.Taking.{drop-more}
 use Rattle.logs.specs.LogRows.{log-rows}
+use Rattle.logs.specs.declared.Summary.{Summary}
+use Rattle.logs.specs.declared.Taken.the-variants.{Next}
 
 -- rows of twelve counts each
 unfoldable Twelve : List Row → Type 0

@@ -1,11 +1,11 @@
--- The refusal numbers of each call are those of its line in the order of refusals: fresh 5, 16; summary 5, 16, 8, 7, 9.
+-- The refusal numbers of each call are those of its line in the order of refusals: fresh 5, 16; take 5, 16, 8, 7, 9.
 use mathlib.Core.Path.{_≡_, refl}
 use mathlib.Core.Bool.{Bool, true}
 use mathlib.Core.Logic.{inr}
 use mathlib.Core.List.{List, [], _∷_}
 use Prim.Native.Nat.{ℕ}
 use Rattle.laws.specs.Lists.{any, among}
-use Rattle.refusals.specs.Table.{TABLE-SHORT, VALUE, EVENTS, ROWS, SUMMARY}
+use Rattle.refusals.specs.Table.{NUMBERS-SHORT, VALUE, EVENTS, ROWS, STATE-RANGE}
 use Rattle.refusals.specs.Results.{Result, value, refused, _>>_, require, numberIn, Refuses, refuses-value, refuses-require, refuses-then, numbers-listed}
 use Rattle.nets.specs.Nets.{Word}
 use Rattle.logs.specs.Answers.{TABLE, takenOf, logStarted, freshAnswer, wordTaken, takenAnswer, takenNumber}
@@ -22,18 +22,18 @@ answered numbers (value s) r = numbers-listed r
 answered numbers (refused number spot) r = numbers-listed r
 
 abbrev freshNumbers : List ℕ
-freshNumbers = TABLE-SHORT ∷ SUMMARY ∷ []
+freshNumbers = NUMBERS-SHORT ∷ STATE-RANGE ∷ []
 
 pub fresh-numbers : (n : ℕ) (t : List ℕ) → among (takenNumber (freshAnswer n t)) (0 ∷ freshNumbers) ≡ true
 unfolding freshAnswer logStarted any
-fresh-numbers n t = answered freshNumbers (logStarted n t) (tested _ TABLE-SHORT TABLE refl (tested _ SUMMARY 0 refl (refuses-value _)))
+fresh-numbers n t = answered freshNumbers (logStarted n t) (tested _ NUMBERS-SHORT TABLE refl (tested _ STATE-RANGE 0 refl (refuses-value _)))
 
 abbrev takeNumbers : List ℕ
-takeNumbers = TABLE-SHORT ∷ SUMMARY ∷ EVENTS ∷ VALUE ∷ ROWS ∷ []
+takeNumbers = NUMBERS-SHORT ∷ STATE-RANGE ∷ EVENTS ∷ VALUE ∷ ROWS ∷ []
 
 pub take-numbers : (s : Summary) (t : List ℕ) (w : Word) → among (takenNumber (takenAnswer s t w)) (0 ∷ takeNumbers) ≡ true
 unfolding takenAnswer wordTaken any
 take-numbers s t w =
     answered takeNumbers (wordTaken s t w)
-    (tested _ TABLE-SHORT TABLE refl (tested _ SUMMARY 0 refl
+    (tested _ NUMBERS-SHORT TABLE refl (tested _ STATE-RANGE 0 refl
     (tested _ EVENTS 0 refl (tested _ VALUE _ refl (tested _ ROWS 0 refl (refuses-value _))))))

@@ -17,7 +17,7 @@ pub const INDEX: usize = 512;
 const CHAINS: usize = 256;
 
 // The multiplier of each event in a key. They are odd, so that 256 equal events have 256 chains.
-const MULTIPLIERS: [u16; 12] = [1, 37, 89, 151, 211, 17, 73, 131, 193, 241, 53, 103];
+const MULTIPLIERS: [u16; MAX_EVENTS] = [1, 37, 89, 151, 211, 17, 73, 131, 193, 241, 53, 103];
 
 // The multiplier of an event in a key.
 pub fn multiplier_of(e: usize) -> usize
@@ -71,7 +71,13 @@ pub fn index_rows(table: &[u16], start: usize, end: usize, index: &mut [u16])
 }
 
 // The lowest row below `rows` with these counts, or `rows`. The rows in the chain of their key are looked at, the last first.
-fn follow_chain(table: &[u16], rows: usize, counts: [u16; 12], index: &[u16], key: usize) -> usize
+fn follow_chain(
+    table: &[u16],
+    rows: usize,
+    counts: [u16; MAX_EVENTS],
+    index: &[u16],
+    key: usize,
+) -> usize
     requires { ⌜ (rows ≤ CHAINS)
         × (ROW * rows ≤ length (now table))
         × (INDEX ≤ length (now index))
@@ -92,7 +98,13 @@ fn follow_chain(table: &[u16], rows: usize, counts: [u16; 12], index: &[u16], ke
 }
 
 // The lowest row below `rows` with these counts, or `rows`. An index that is too short is not used.
-pub fn find_row(table: &[u16], rows: usize, counts: [u16; 12], index: &[u16], key: usize) -> usize
+pub fn find_row(
+    table: &[u16],
+    rows: usize,
+    counts: [u16; MAX_EVENTS],
+    index: &[u16],
+    key: usize,
+) -> usize
     requires { ⌜ (rows ≤ CHAINS)
         × (ROW * rows ≤ length (now table))
         × Index rows (now table) (now index)

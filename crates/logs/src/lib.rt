@@ -8,10 +8,10 @@ use limits::MAX_LOG_EVENTS;
 use limits::MAX_ROWS;
 use nets::first_bad;
 use refusals::EVENTS;
+use refusals::NUMBERS_SHORT;
 use refusals::ROWS;
 use refusals::Refusal;
-use refusals::SUMMARY;
-use refusals::TABLE_SHORT;
+use refusals::STATE_RANGE;
 use refusals::VALUE;
 use rows::ROW;
 use words::add_alone;
@@ -86,10 +86,10 @@ pub fn fresh(n: usize, table: &mut [u16]) -> Taken
     ensures { λ _. ⌜ now (table .exit) ≡ freshTable (freshAnswer n (now (table .entry))) (now (table .entry)) ⌝ }
 {
     if table.len() < TABLE {
-        return refused(TABLE_SHORT, TABLE);
+        return refused(NUMBERS_SHORT, TABLE);
     }
     if !right_event_count(n) {
-        return refused(SUMMARY, 0);
+        return refused(STATE_RANGE, 0);
     }
     clear(table);
     Taken::Next(Summary {
@@ -110,10 +110,10 @@ impl Summary {
         let rows = self.rows;
         let events = self.events;
         if table.len() < TABLE {
-            return refused(TABLE_SHORT, TABLE);
+            return refused(NUMBERS_SHORT, TABLE);
         }
         if !right_summary(self) {
-            return refused(SUMMARY, 0);
+            return refused(STATE_RANGE, 0);
         }
         if MAX_LOG_EVENTS - events < word.len() {
             return refused(EVENTS, 0);

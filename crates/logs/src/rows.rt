@@ -54,7 +54,7 @@ pub fn same_counts(row: &[u16], counts: &[u16]) -> bool
 }
 
 // The lowest row below `rows` with these counts, or `rows`. All rows are looked at in turn.
-pub fn scan_rows(table: &[u16], rows: usize, counts: [u16; 12]) -> usize
+pub fn scan_rows(table: &[u16], rows: usize, counts: [u16; MAX_EVENTS]) -> usize
     requires { ⌜ ROW * rows ≤ length (now table) ⌝ }
     ensures { λ r. ⌜ r ≡ findRow counts (rowsOf rows (now (table .entry))) ⌝ }
 {
@@ -69,7 +69,7 @@ pub fn scan_rows(table: &[u16], rows: usize, counts: [u16; 12]) -> usize
 }
 
 // Appends a row with these counts and mask 0.
-fn append_row(table: &mut [u16], rows: usize, counts: [u16; 12])
+fn append_row(table: &mut [u16], rows: usize, counts: [u16; MAX_EVENTS])
     requires { ⌜ ROW * rows + ROW ≤ length (now table) ⌝ }
     ensures { λ r. ⌜ Holds (rows + 1) (rowsOf rows (now (table .entry)) ++ (newRow counts ∷ [])) (now (table .entry)) (now (table .exit)) ⌝ }
 {
@@ -83,7 +83,7 @@ fn append_row(table: &mut [u16], rows: usize, counts: [u16; 12])
 }
 
 // Visits a prefix with these counts: their row is found at r, or nowhere and then appended. Returns how many rows there are.
-pub fn visit_row(table: &mut [u16], rows: usize, counts: [u16; 12], r: usize) -> usize
+pub fn visit_row(table: &mut [u16], rows: usize, counts: [u16; MAX_EVENTS], r: usize) -> usize
     requires { ⌜ r ≡ findRow counts (rowsOf rows (now table)) ⌝ }
     requires { ⌜ (ROW * rows ≤ length (now table)) × (ROW * length (visit counts (rowsOf rows (now table))) ≤ length (now table)) ⌝ }
     ensures { λ k. ⌜ Holds k (visit counts (rowsOf rows (now (table .entry)))) (now (table .entry)) (now (table .exit)) ⌝ }

@@ -7,6 +7,7 @@ use crate::index::multiplier_of;
 use crate::rows::mark_row;
 use crate::rows::visit_row;
 use limits::MAX_EVENTS;
+use limits::MAX_LOG_EVENTS;
 use limits::MAX_ROWS;
 ghost use mathlib.Core.Path.{_≡_};
 ghost use mathlib.Core.Bool.{cond};
@@ -45,7 +46,7 @@ fn add_event(counts: &mut [u16], e: usize)
 fn number_row(
     table: &[u16],
     rows: usize,
-    counts: [u16; 12],
+    counts: [u16; MAX_EVENTS],
     index: &[u16],
     key: usize,
     numbers: &mut [u16],
@@ -75,7 +76,7 @@ fn number_rows(table: &[u16], rows: usize, word: &[u8], index: &[u16], numbers: 
     ensures { λ r. ⌜ r ≡ rows + newRows (rowsOf rows (now (table .entry))) none (now (word .entry)) ⌝ }
     ensures { λ _. ⌜ take (length (now (word .entry)) + 1) (now (numbers .exit)) ≡ numbered (rowsOf rows (now (table .entry))) rows none (now (word .entry)) ⌝ }
 {
-    let mut counts = [0u16; 12];
+    let mut counts = [0u16; MAX_EVENTS];
     let mut key = 0;
     let mut next = rows;
     let mut i = 0;
@@ -90,7 +91,7 @@ fn number_rows(table: &[u16], rows: usize, word: &[u8], index: &[u16], numbers: 
 }
 
 // Visits a prefix with these counts, whose row is r, and sets the bit of event e, which follows it. Returns how many rows there are.
-fn step(table: &mut [u16], rows: usize, counts: [u16; 12], r: usize, e: usize) -> usize
+fn step(table: &mut [u16], rows: usize, counts: [u16; MAX_EVENTS], r: usize, e: usize) -> usize
     requires { ⌜ (r ≡ findRow counts (rowsOf rows (now table))) × (e < MAX-EVENTS) ⌝ }
     requires { ⌜ (ROW * rows ≤ length (now table)) × (ROW * length (visit counts (rowsOf rows (now table))) ≤ length (now table)) ⌝ }
     ensures { λ k. ⌜ Holds k (follow counts e (visit counts (rowsOf rows (now (table .entry))))) (now (table .entry)) (now (table .exit)) ⌝ }
@@ -107,7 +108,7 @@ fn write_word(table: &mut [u16], rows: usize, word: &[u8], numbers: &[u16]) -> u
     requires { ⌜ (length (now word) < length (now numbers)) × (take (length (now word) + 1) (now numbers) ≡ used (rowsOf rows (now table)) none (now word)) ⌝ }
     ensures { λ k. ⌜ Holds k (takeWord (rowsOf rows (now (table .entry))) none (now (word .entry))) (now (table .entry)) (now (table .exit)) ⌝ }
 {
-    let mut counts = [0u16; 12];
+    let mut counts = [0u16; MAX_EVENTS];
     let mut k = rows;
     let mut i = 0;
     while i < word.len() {
@@ -157,7 +158,7 @@ fn add_long_word(table: &mut [u16], rows: usize, word: &[u8]) -> usize
     ensures { λ r. ⌜ Added MAX-ROWS rows (now (word .entry)) (now (table .entry)) (now (table .exit)) r ⌝ }
 {
     let mut index = [0u16; INDEX];
-    let mut numbers = [0u16; 1025];
+    let mut numbers = [0u16; MAX_LOG_EVENTS + 1];
     index_rows(table, 0, rows, &mut index);
     add_word(table, rows, word, &index, &mut numbers)
 }

@@ -94,8 +94,8 @@ module _ {t : ℤ} {i : ℕ} (a : TokensAfter t i) where
       }
 
   module _ (few : i ≤ 65535) where
-    pub tokens-held : Held t
-    tokens-held = record {
+    pub after-held : Held t
+    after-held = record {
       plus = a .amount;
       minus = 0;
       is = a .is ∙ rw (pos-of-difference (a .amount) 0 (omega arith)) (ap pos (omega arith));

@@ -66,10 +66,10 @@ pub record Bundle : Type 0 where
   pub certificates : List Certificate
 
 -- the answer of screening a word
-pub data Screened : Type 0 where
-  permitted : Screened
+pub data Answer : Type 0 where
+  permitted : Answer
   -- the position of the first refused step, and the lowest place that refuses it
-  stopped : ℕ → ℕ → Screened
+  stopped : ℕ → ℕ → Answer
 
 -- ---- Counting
 
@@ -225,13 +225,13 @@ module _ (n : ℕ) where
   firstRefusing net s = firstFailing (λ p. placePermits p s) net
 
   -- the first refused step of w, whose steps follow those of u
-  unfoldable pub screenAfter : Net → Word → Word → Screened
+  unfoldable pub screenAfter : Net → Word → Word → Answer
   screenAfter net u [] = permitted
   screenAfter net u (e ∷ w) =
       cond (netPermits net (stepAfter u e)) (screenAfter net (u ++ e ∷ []) w) (stopped (length u) (firstRefusing net (stepAfter u e)))
 
   -- the first refused step of a word
-  unfoldable pub screen : Net → Word → Screened
+  unfoldable pub screen : Net → Word → Answer
   screen net w = screenAfter net [] w
 
 -- ---- Acceptance

@@ -15,8 +15,8 @@ ghost use Rattle.nets.specs.Machine.{placeOf, Held};
 // A place: its initial tokens m, and for each event the tokens in(i) that it puts there and out(i) that it takes.
 pub struct Place {
     pub initial: u16,
-    pub produced: [u16; 12],
-    pub consumed: [u16; 12],
+    pub produced: [u16; MAX_EVENTS],
+    pub consumed: [u16; MAX_EVENTS],
 }
 
 // The tokens that `count` occurrences of an event put into a place, less those that they take. (Inner function.)

@@ -13,8 +13,8 @@ OUTPUT-SHORT = 3
 abbrev pub BUNDLE-LENGTH : ℕ
 BUNDLE-LENGTH = 4
 
-abbrev pub TABLE-SHORT : ℕ
-TABLE-SHORT = 5
+abbrev pub NUMBERS-SHORT : ℕ
+NUMBERS-SHORT = 5
 
 abbrev pub BUNDLE-END : ℕ
 BUNDLE-END = 6
@@ -28,8 +28,8 @@ EVENTS = 8
 abbrev pub ROWS : ℕ
 ROWS = 9
 
-abbrev pub PLACE-FIT : ℕ
-PLACE-FIT = 10
+abbrev pub PLACE-MISFIT : ℕ
+PLACE-MISFIT = 10
 
 abbrev pub PLACE-PERMITS : ℕ
 PLACE-PERMITS = 11
@@ -46,5 +46,5 @@ WORD-LENGTH = 14
 abbrev pub WORD-EVENT : ℕ
 WORD-EVENT = 15
 
-abbrev pub SUMMARY : ℕ
-SUMMARY = 16
+abbrev pub STATE-RANGE : ℕ
+STATE-RANGE = 16

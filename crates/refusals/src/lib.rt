@@ -30,8 +30,8 @@ pub const BLOCK: u8 = 2;
 pub const OUTPUT_SHORT: u8 = 3;
 // A bundle's length is 0 or above 64,512.
 pub const BUNDLE_LENGTH: u8 = 4;
-// The table has too few numbers.
-pub const TABLE_SHORT: u8 = 5;
+// A slice of numbers that the call writes is too short; today this is the table.
+pub const NUMBERS_SHORT: u8 = 5;
 // The bundle ends before or inside a field.
 pub const BUNDLE_END: u8 = 6;
 // A value is outside its range, or names a row, an event or a place that isn't there.
@@ -41,7 +41,7 @@ pub const EVENTS: u8 = 8;
 // The rows would pass 256.
 pub const ROWS: u8 = 9;
 // A place doesn't fit the log.
-pub const PLACE_FIT: u8 = 10;
+pub const PLACE_MISFIT: u8 = 10;
 // The place that a certificate lists doesn't refuse the step.
 pub const PLACE_PERMITS: u8 = 11;
 // A certificate's weights don't hold, or one of its steps isn't allowed.
@@ -52,5 +52,5 @@ pub const BYTES_FOLLOW: u8 = 13;
 pub const WORD_LENGTH: u8 = 14;
 // A screened event is not below n.
 pub const WORD_EVENT: u8 = 15;
-// A summary's numbers are outside their ranges.
-pub const SUMMARY: u8 = 16;
+// A state that is handed back to a call is outside its ranges; today this is a summary.
+pub const STATE_RANGE: u8 = 16;

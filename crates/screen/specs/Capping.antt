@@ -18,7 +18,7 @@ use Rattle.nets.specs.Events.{firstBad}
 use Rattle.bundles.specs.Reading.{Read, got, item, andThen, _>>=_, give, require, onward}
 use Rattle.bundles.specs.Layout.{Head, toNet}
 use Rattle.bundles.specs.Readers.{bundleHead}
-use Rattle.bundles.specs.HeadSteps.{headRead, head-kept}
+use Rattle.bundles.specs.HeadReading.{headRead, head-kept}
 use Rattle.screening.specs.Screening.{wordOn, screening, screenedOf, screened}
 use Rattle.screen.specs.Events.{capped}
 
@@ -52,7 +52,7 @@ module _ (b : List ℕ) (w : Word) where
       n : ℕ
       n = h .events
 
-      replay : Word → Bool → Read nets.Screened
+      replay : Word → Bool → Read nets.Answer
       replay x t = andThen (cond t (got (tt {0}) at) (refused WORD-EVENT (firstBad n w))) (λ u. give (screen n (toNet h) x)) b
 
       go : (t : Bool) → all (λ e. ltb e n) w ≡ t → replay (map capped w) t ≡ replay w t
@@ -68,7 +68,7 @@ module _ (b : List ℕ) (w : Word) where
   unfolding screened screening require bind onward
   screened-capped = rw (length-map w capped) (go (leb (length w) MAX-WORD-EVENTS))
     where
-      whole : Word → Bool → Read nets.Screened
+      whole : Word → Bool → Read nets.Answer
       whole x t = andThen (cond t (got (tt {0}) 0) (refused WORD-LENGTH MAX-WORD-EVENTS)) (λ u. bundleHead >>= wordOn x) b
 
       go : (t : Bool) → screenedOf (whole (map capped w) t) ≡ screenedOf (whole w t)

@@ -5,6 +5,8 @@ use console::print_line;
 use console::print_refusal;
 use console::write_number;
 use libc::STDERR_FILENO;
+use limits::MAX_FILE_SIZE;
+use limits::MAX_WORD_EVENTS;
 use refusals::Written;
 use screening::Screened;
 ghost use mathlib.Core.Bool.{true};
@@ -12,6 +14,7 @@ ghost use mathlib.Core.List.{List};
 ghost use mathlib.Core.Path.{_≡_};
 ghost use Prim.Native.Nat.{ℕ, _≤_, _<_};
 ghost use lib.ListN.{length};
+ghost use Rattle.limits.specs.Limits.{MAX-FILE-SIZE};
 ghost use Rattle.block.specs.File.{opened};
 ghost use Rattle.block.specs.Whole.{InputRead};
 ghost use Rattle.console.specs.Inputs.{Within};
@@ -129,7 +132,7 @@ fn read_file(buffer: &mut [u8]) -> Input
 // What screening a word with the sealed file that came to a buffer, its first n bytes, answers: the refusal of opening it, or the answer of its
 // bundle. The buffer is longer than every file, so the answer is that of the whole file, however long it is.
 fn screen_file(buffer: &[u8], n: usize, word: &[u8]) -> Screened
-    requires { ⌜ (n ≤ length (now buffer)) × (65536 < length (now buffer)) ⌝ }
+    requires { ⌜ (n ≤ length (now buffer)) × (MAX-FILE-SIZE < length (now buffer)) ⌝ }
     ensures { λ r. ⌜ ((input : List ℕ) → InputRead input (now (buffer .entry)) n → r ≡ fileScreened (opened input) (now (word .entry))) ⌝ }
 {
     let mut bundle = io::large_buffer();
@@ -159,8 +162,8 @@ fn main() {
         return;
     }
     // An event more than the longest word, and a byte more than the longest file, so that longer ones are seen.
-    let mut word = [0u8; 65536];
-    let mut file = [0u8; 65537];
+    let mut word = [0u8; MAX_WORD_EVENTS + 1];
+    let mut file = [0u8; MAX_FILE_SIZE + 1];
     let Input::Bytes(events) = read_word(&mut word) else {
         return;
     };

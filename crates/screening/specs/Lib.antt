@@ -4,4 +4,4 @@ pub mod RefusalNumbers
 pub mod Positions
 pub mod Replay
 pub mod Searching
-pub mod Steps
+pub mod ScreenLaws

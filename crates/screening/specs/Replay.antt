@@ -15,7 +15,7 @@ use mir.Facts.{toZ-pos}
 use Rattle.nets.specs.Nets.{Word, Place, counts, tokens, placePermits}
 use Rattle.nets.specs.Events.{EventsBelow}
 use Rattle.nets.specs.Machine.{Held}
-use Rattle.nets.specs.Markings.{tokens-snoc, covered, permits-is, moved, TokensAfter, tokens-start, tokens-moved, tokens-held, tokens-bits}
+use Rattle.nets.specs.Markings.{tokens-snoc, covered, permits-is, moved, TokensAfter, tokens-start, tokens-moved, after-held, tokens-bits}
 use Rattle.screening.specs.Positions.{stepBehind, step-first, step-shift}
 
 -- how many steps of a word a place permits, one after another, with t tokens at first
@@ -45,7 +45,7 @@ module _ {p : Place} {w : Word} {t : ℤ} {i : ℕ} (g : Going p w t i) where
   going-end h = g .rest ∙ rw (drop-of-length-le w h) (omega arith)
 
   pub going-held : i ≤ 65535 → Held t
-  going-held h = tokens-held (g .tokens) h
+  going-held h = after-held (g .tokens) h
 
   module _ (h : i < length w) where
     step : replay p t (drop i w) ≡ cond (covered p t (getD w i 0)) (suc (replay p (moved p t (getD w i 0)) (drop (i + 1) w))) 0

@@ -18,25 +18,25 @@ use Rattle.screening.specs.declared.Screened.{Screened}
 use Rattle.screening.specs.declared.Screened.the-variants.{Permitted, Stopped, Refused}
 
 -- a word with a head that was read: 15 over the whole word, then the replay
-unfoldable pub wordOn : Word → Head → Reader nets.Screened
+unfoldable pub wordOn : Word → Head → Reader nets.Answer
 wordOn w h = do
   require (all (λ e. ltb e (h .events)) w) WORD-EVENT (firstBad (h .events) w)
   give (screen (h .events) (toNet h) w)
 
 -- screening of a word: 14, 4, then 6, 7, 8 in bundle order up to the last place, then 15, then the replay
-unfoldable pub screening : Word → Reader nets.Screened
+unfoldable pub screening : Word → Reader nets.Answer
 screening w = do
   require (leb (length w) MAX-WORD-EVENTS) WORD-LENGTH MAX-WORD-EVENTS
   h ← bundleHead
   wordOn w h
 
 -- what the replay found
-unfoldable pub replayed : nets.Screened → Screened
+unfoldable pub replayed : nets.Answer → Screened
 replayed permitted = Permitted
 replayed (stopped position place) = Stopped (record { position = position; place = place })
 
 -- the answer
-unfoldable pub screenedOf : Read nets.Screened → Screened
+unfoldable pub screenedOf : Read nets.Answer → Screened
 screenedOf (value (item x next)) = replayed x
 screenedOf (refused number spot) = Refused (refusal number spot)
 

@@ -26,7 +26,7 @@ use Rattle.bundles.specs.Readers.{anyRows, head, bundleSize, bundleHead, headOf
 use Rattle.bundles.specs.ReadingLaws.{part-front, andThen-got, require-got}
 use Rattle.bundles.specs.LayoutLaws.{law-head}
 use Rattle.bundles.specs.Limits.{→size, head→limits, limits→head}
-use Rattle.bundles.specs.HeadSteps.{head-of}
+use Rattle.bundles.specs.HeadReading.{head-of}
 use Rattle.screening.specs.Screening.{wordOn, screening, replayed, screenedOf, screened}
 use Rattle.screening.specs.declared.Stop.{Stop}
 use Rattle.screening.specs.declared.Screened.the-variants as answers
@@ -53,7 +53,7 @@ record Passed (b : List ℕ) (w : Word) (h : Head) : Type 0 where
   events : all (λ e. ltb e (h .events)) w ≡ true
 
 module _ (b : List ℕ) (w : Word) where
-  screening→ : (x : nets.Screened) (end : ℕ) → screening w b 0 ≡ got x end → (h : Head) × Passed b w h
+  screening→ : (x : nets.Answer) (end : ℕ) → screening w b 0 ≡ got x end → (h : Head) × Passed b w h
   unfolding screening bundleHead bundleSize wordOn
   screening→ x end e =
       let p = require-got (leb (length w) MAX-WORD-EVENTS) WORD-LENGTH MAX-WORD-EVENTS (bundleHead >>= wordOn w) b 0 x end e in
@@ -66,7 +66,7 @@ module _ (b : List ℕ) (w : Word) where
   unfolding screened screenedOf
   readable→ readable = go (screening w b 0) refl readable
     where
-      go : (m : Read nets.Screened) → screening w b 0 ≡ m → ((r : Refusal) → screenedOf m ≡ answers.Refused r → ⊥) → (h : Head) × Passed b w h
+      go : (m : Read nets.Answer) → screening w b 0 ≡ m → ((r : Refusal) → screenedOf m ≡ answers.Refused r → ⊥) → (h : Head) × Passed b w h
       go (value (item x end)) is rest = screening→ x end is
       go (refused number spot) is rest = absurd (rest (refusal number spot) refl)
 
@@ -80,12 +80,12 @@ module _ (b : List ℕ) (w : Word) where
       let a = readable→ readable in
       →screened (a .0) (a .1) ∙ ap (λ (h : Head). replayed (screen (h .events) (toNet h) w)) (sym (head-of b (a .0) (a .1 .next) (a .1 .read)))
 
-replayed-permitted : (x : nets.Screened) → (replayed x ≡ answers.Permitted) ↔ (x ≡ permitted)
+replayed-permitted : (x : nets.Answer) → (replayed x ≡ answers.Permitted) ↔ (x ≡ permitted)
 unfolding replayed
 replayed-permitted permitted = ((λ e. refl), (λ e. refl))
 replayed-permitted (stopped i j) = ((λ e. impossible cc), (λ e. impossible cc))
 
-replayed-stopped : (x : nets.Screened) (i j : ℕ) → (replayed x ≡ answers.Stopped (record { position = i; place = j })) ↔ (x ≡ stopped i j)
+replayed-stopped : (x : nets.Answer) (i j : ℕ) → (replayed x ≡ answers.Stopped (record { position = i; place = j })) ↔ (x ≡ stopped i j)
 unfolding replayed
 replayed-stopped permitted i j = ((λ e. impossible cc), (λ e. impossible cc))
 replayed-stopped (stopped k l) i j = ((λ e. same e), (λ e. ap replayed e))
@@ -113,7 +113,7 @@ module _ (b : List ℕ) (w : Word) (readable : Readable b w) where
 -- ---- which words are readable
 
 -- the replay refuses nothing
-never : (x : nets.Screened) (r : Refusal) → replayed x ≡ answers.Refused r → ⊥
+never : (x : nets.Answer) (r : Refusal) → replayed x ≡ answers.Refused r → ⊥
 unfolding replayed
 never permitted r e = impossible cc
 never (stopped i j) r e = impossible cc

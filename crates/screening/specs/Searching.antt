@@ -21,9 +21,9 @@ use Rattle.nets.specs.Markings.{tokens-none}
 use Rattle.nets.specs.declared.Place as declared
 use Rattle.bundles.specs.Layout.{toPlace, toNet}
 use Rattle.bundles.specs.Readers.{eventsIn, netIn}
-use Rattle.bundles.specs.HeadSteps.{HeadAt}
-use Rattle.bundles.specs.NumberSteps.{itemsAt, items-length, items-snoc}
-use Rattle.bundles.specs.PlaceSteps.{placeSize, fieldsAt, placeOn, machinePlace, place-means}
+use Rattle.bundles.specs.HeadReading.{HeadAt}
+use Rattle.bundles.specs.NumberReading.{itemsAt, items-length, items-snoc}
+use Rattle.bundles.specs.PlaceReading.{placeSize, fieldsAt, placeOn, machinePlace, place-means}
 use Rattle.bundles.specs.declared.Places.{Places}
 use Rattle.bundles.specs.declared.Head.{Head}
 use Rattle.screening.specs.Positions.{stepAt, Best, best-stays, best-earlier}

@@ -18,13 +18,13 @@ ghost use Rattle.refusals.specs.Answers.{refusal};
 ghost use Rattle.nets.specs.Nets.{Net, screen as screenWord};
 ghost use Rattle.nets.specs.Machine.{placeOf, Held};
 ghost use Rattle.bundles.specs.Readers.{bundleHead, eventsIn, netIn};
-ghost use Rattle.bundles.specs.HeadSteps.{headRead};
-ghost use Rattle.bundles.specs.PlaceSteps.{placeSize, placeOn};
+ghost use Rattle.bundles.specs.HeadReading.{headRead};
+ghost use Rattle.bundles.specs.PlaceReading.{placeSize, placeOn};
 ghost use Rattle.screening.specs.Screening.{replayed, screened};
 ghost use Rattle.screening.specs.Positions.{Best};
 ghost use Rattle.screening.specs.Replay.{reach};
 ghost use Rattle.screening.specs.Searching.{WordOver, Searchable, netAt, firstOf};
-ghost use Rattle.screening.specs.Steps.{answerOn};
+ghost use Rattle.screening.specs.ScreenLaws.{answerOn};
 
 // The position of the first refused step, and the lowest place that refuses it.
 pub struct Stop {

@@ -16,7 +16,8 @@ use Rattle.laws.specs.Booleans.{impossible}
 use Rattle.laws.specs.Lists.{all, any}
 use Rattle.laws.specs.Numbers.{Bytes}
 use Rattle.limits.specs.Limits.{MAX-BUNDLE-SIZE, MAX-ROWS, rightSize, rightSize-bounds}
-use Rattle.refusals.specs.Table.{BUNDLE-LENGTH, TABLE-SHORT, BYTES-FOLLOW}
+use Rattle.refusals.specs.Table.{BUNDLE-LENGTH, NUMBERS-SHORT, BYTES-FOLLOW}
+use Rattle.refusals.specs.Results.{value, refused, bind}
 use Rattle.nets.specs.Nets.{Log, Step, prefixes, addRow, permitsLog, rows, solvesAll, accepted, tally}
 use Rattle.nets.specs.LogLaws.{rows-longer}
 use Rattle.nets.specs.Fits.{LogBelow, permits-fits}
@@ -24,14 +25,13 @@ use Rattle.logs.specs.Rows.{withRows, cleared}
 use Rattle.logs.specs.Answers.{TABLE}
 use Rattle.logs.specs.Log.{logRows}
 use Rattle.bundles.specs.Reading.{Read, got, item, _>>_, give, require, onward}
-use Rattle.refusals.specs.Results.{value, refused, bind}
 use Rattle.bundles.specs.Layout.{CertificateFields, Head, Contents, HeadInLimits, CertificateInLimits, InLimits, rowsIn, wrongIn, fitsIn, solvesIn, toNet, toCertificate, toBundle, certificateBytes, bytesOf}
 use Rattle.bundles.specs.Readers.{certificate, rowsInLimit, bundleSize}
 use Rattle.bundles.specs.ReadingLaws.{Law, part-front, EachValid, andThen-got, require-got, law-then, law-give, law-same, law-require, law-tested, law-each}
 use Rattle.bundles.specs.LayoutLaws.{HeadValid, law-head, law-certificate}
 use Rattle.bundles.specs.Limits.{→size, words-below, head→limits, limits→head}
-use Rattle.verdicts.specs.Judging.{solved, atEnd, afterHead, contents, judging, judged, countsOf, verdictOn, verdict, tableOn, tableAfter}
-use Rattle.verdicts.specs.declared.Counts.{Counts}
+use Rattle.verdicts.specs.Judging.{solved, atEnd, afterHead, contents, judging, judged, tallyOf, verdictOf, verdict, tableOn, tableAfter}
+use Rattle.verdicts.specs.declared.Tally.{Tally}
 use Rattle.verdicts.specs.declared.Verdict.the-variants as verdicts
 
 few-rows : (n : ℕ) (log more : Log) → T (rowsInLimit n (log ++ more)) → T (rowsInLimit n log)
@@ -140,17 +140,17 @@ module _ (b : List ℕ) (bytes : Bytes b) where
 
 -- the bundle b has the fields d, within every limit; its net permits every log word, each wrong continuation has a certificate that solves
 -- it, and the counts c are the definitions'
-pub record AcceptedAs (b : List ℕ) (c : Counts) (d : Contents) : Type 0 where
+pub record AcceptedAs (b : List ℕ) (c : Tally) (d : Contents) : Type 0 where
   pub layout : b ≡ bytesOf d
   pub limits : InLimits d
   pub accepted : T (accepted (toBundle d))
-  pub counts : c ≡ countsOf (tally (toBundle d))
+  pub counts : c ≡ tallyOf (tally (toBundle d))
 
-acceptable : {b : List ℕ} {c : Counts} {d : Contents} → AcceptedAs b c d → Acceptable d
+acceptable : {b : List ℕ} {c : Tally} {d : Contents} → AcceptedAs b c d → Acceptable d
 acceptable a = record { head = a .limits .head; rowCount = a .limits .rowCount; certificates = a .limits .certificates; accepted = a .accepted }
 
 -- a bundle that is so has the right length
-accepted-size : {b : List ℕ} {c : Counts} {d : Contents} → AcceptedAs b c d → rightSize (length b) ≡ true
+accepted-size : {b : List ℕ} {c : Tally} {d : Contents} → AcceptedAs b c d → rightSize (length b) ≡ true
 unfolding bytesOf
 accepted-size {b} {c} {d} a =
     →size b (d .head) (flatMap certificateBytes (d .certificates)) (a .layout) (subst (λ (l : List ℕ). length l ≤ MAX-BUNDLE-SIZE) (sym (a .layout)) (a .limits .size))
@@ -160,8 +160,8 @@ module _ (tableSize : ℕ) (b : List ℕ) where
   judged→ : (d : Contents) (next : ℕ) → judged tableSize b 0 ≡ got d next → (rightSize (length b) ≡ true) × (leb TABLE tableSize ≡ true) × (judging b 0 ≡ got d next)
   unfolding judged bundleSize
   judged→ d next e =
-      let p = require-got (rightSize (length b)) BUNDLE-LENGTH 0 (require (leb TABLE tableSize) TABLE-SHORT TABLE >> judging) b 0 d next e in
-      let q = require-got (leb TABLE tableSize) TABLE-SHORT TABLE judging b 0 d next (p .1) in
+      let p = require-got (rightSize (length b)) BUNDLE-LENGTH 0 (require (leb TABLE tableSize) NUMBERS-SHORT TABLE >> judging) b 0 d next e in
+      let q = require-got (leb TABLE tableSize) NUMBERS-SHORT TABLE judging b 0 d next (p .1) in
       (p .0, q .0, q .1)
 
   pub judged-long : (d : Contents) (next : ℕ) → judged tableSize b 0 ≡ got d next → TABLE ≤ tableSize
@@ -171,12 +171,12 @@ module _ (tableSize : ℕ) (b : List ℕ) where
   unfolding judged bundleSize require bind onward
   judged-right long right = rw (right, le-leb TABLE tableSize long)
 
-module _ (tableSize : ℕ) (long : TABLE ≤ tableSize) (b : List ℕ) (bytes : Bytes b) (c : Counts) where
+module _ (tableSize : ℕ) (long : TABLE ≤ tableSize) (b : List ℕ) (bytes : Bytes b) (c : Tally) where
   verdict→ : verdict tableSize b ≡ verdicts.Accepted c → (d : Contents) × AcceptedAs b c d
-  unfolding verdict verdictOn
+  unfolding verdict verdictOf
   verdict→ e = go (judged tableSize b 0) refl e
     where
-      go : (r : Read Contents) → judged tableSize b 0 ≡ r → verdictOn r ≡ verdicts.Accepted c → (d : Contents) × AcceptedAs b c d
+      go : (r : Read Contents) → judged tableSize b 0 ≡ r → verdictOf r ≡ verdicts.Accepted c → (d : Contents) × AcceptedAs b c d
       go (value (item d next)) q e =
           let s = judged→ tableSize b d next q in
           let j = judging→ b bytes d next (s .2) in (
@@ -191,20 +191,20 @@ module _ (tableSize : ℕ) (long : TABLE ≤ tableSize) (b : List ℕ) (bytes : 
       go (refused number spot) q e = impossible cc
 
   →verdict : (d : Contents) → AcceptedAs b c d → verdict tableSize b ≡ verdicts.Accepted c
-  unfolding verdict verdictOn
-  →verdict d a = ap verdictOn (judged-right tableSize b long (accepted-size a) ∙ →judging b bytes d (acceptable a) (a .layout)) ∙ ap verdicts.Accepted (sym (a .counts))
+  unfolding verdict verdictOf
+  →verdict d a = ap verdictOf (judged-right tableSize b long (accepted-size a) ∙ →judging b bytes d (acceptable a) (a .layout)) ∙ ap verdicts.Accepted (sym (a .counts))
 
   -- DEMAND 2: accepted with counts c exactly when there are contents with these very bytes that are so
   pub accepted-exactly : (verdict tableSize b ≡ verdicts.Accepted c) ↔ ((d : Contents) × AcceptedAs b c d)
   accepted-exactly = (verdict→, λ r. →verdict (r .0) (r .1))
 
 -- an accepted bundle leaves its log's rows in the table, zeros up to number 3,327, and the rest as it was
-pub accepted-table : (b t : List ℕ) → Bytes b → TABLE ≤ length t → (c : Counts) (d : Contents) → AcceptedAs b c d → tableAfter b t ≡ withRows (logRows (d .head .log)) (cleared TABLE t)
+pub accepted-table : (b t : List ℕ) → Bytes b → TABLE ≤ length t → (c : Tally) (d : Contents) → AcceptedAs b c d → tableAfter b t ≡ withRows (logRows (d .head .log)) (cleared TABLE t)
 unfolding tableAfter tableOn
 accepted-table b t bytes long c d a = rw (accepted-size a, le-leb TABLE (length t) long, →judging b bytes d (acceptable a) (a .layout))
 
 -- a bundle has its fields once
-pub accepted-unique : (b : List ℕ) → Bytes b → (c₁ c₂ : Counts) (d₁ d₂ : Contents) → AcceptedAs b c₁ d₁ → AcceptedAs b c₂ d₂ → d₁ ≡ d₂
+pub accepted-unique : (b : List ℕ) → Bytes b → (c₁ c₂ : Tally) (d₁ d₂ : Contents) → AcceptedAs b c₁ d₁ → AcceptedAs b c₂ d₂ → d₁ ≡ d₂
 accepted-unique b bytes c₁ c₂ d₁ d₂ a e =
     let p = →judging b bytes d₁ (acceptable a) (a .layout) in
     let q = →judging b bytes d₂ (acceptable e) (e .layout) in

@@ -7,17 +7,18 @@ use lib.ListN.{length}
 use Rattle.laws.specs.Lists.{all}
 use Rattle.laws.specs.Scans.{firstFailing}
 use Rattle.limits.specs.Limits.{rightSize}
-use Rattle.refusals.specs.Table.{TABLE-SHORT, PLACE-FIT, PLACE-PERMITS, WEIGHTS, BYTES-FOLLOW}
+use Rattle.refusals.specs.Table.{NUMBERS-SHORT, PLACE-MISFIT, PLACE-PERMITS, WEIGHTS, BYTES-FOLLOW}
 use Rattle.refusals.specs.Answers.{refusal}
-use Rattle.nets.specs.Nets.{Step, Tally, tally}
+use Rattle.refusals.specs.Results.{value, refused}
+use Rattle.nets.specs.Nets.{Step, tally}
+use Rattle.nets.specs.Nets as nets
 use Rattle.logs.specs.Rows.{withRows, cleared}
 use Rattle.logs.specs.Answers.{TABLE}
 use Rattle.logs.specs.Log.{logRows}
 use Rattle.bundles.specs.Reading.{Read, item, Reader, _>>=_, _>>_, give, require, each}
-use Rattle.refusals.specs.Results.{value, refused}
 use Rattle.bundles.specs.Layout.{CertificateFields, kind0, kind1, Head, Contents, wrongIn, fitsIn, solvesIn, toNet, toBundle}
 use Rattle.bundles.specs.Readers.{head, certificate, rowsInLimit, bundleSize}
-use Rattle.verdicts.specs.declared.Counts.{Counts}
+use Rattle.verdicts.specs.declared.Tally.{Tally}
 use Rattle.verdicts.specs.declared.Verdict.{Verdict}
 use Rattle.verdicts.specs.declared.Verdict.the-variants.{Accepted, Refused}
 
@@ -42,7 +43,7 @@ atEnd b at = require (leb (length b) at) BYTES-FOLLOW at b at
 -- behind the last place: 10 with the lowest place that does not fit, then one certificate for each wrong continuation
 unfoldable pub afterHead : Head → Reader Contents
 afterHead h = do
-  require (all (fitsIn h) (toNet h)) PLACE-FIT (firstFailing (fitsIn h) (toNet h))
+  require (all (fitsIn h) (toNet h)) PLACE-MISFIT (firstFailing (fitsIn h) (toNet h))
   cs ← each (solved h) (wrongIn h) []
   give (record { head = h; certificates = cs })
 
@@ -63,21 +64,21 @@ judging = do
 unfoldable pub judged : ℕ → Reader Contents
 judged tableSize = do
   bundleSize
-  require (leb TABLE tableSize) TABLE-SHORT TABLE
+  require (leb TABLE tableSize) NUMBERS-SHORT TABLE
   judging
 
--- the definitions' counts, as a verdict has them
-abbrev pub countsOf : Tally → Counts
-countsOf t = record { rows = t .rowCount; allowed = t .allowedCount; «by_place» = t .byPlaceCount; «by_weights» = t .byWeightsCount }
+-- the definitions' tally, as a verdict has it
+abbrev pub tallyOf : nets.Tally → Tally
+tallyOf t = record { rows = t .rowCount; allowed = t .allowedCount; «by_place» = t .byPlaceCount; «by_weights» = t .byWeightsCount }
 
 -- the verdict on what was read
-unfoldable pub verdictOn : Read Contents → Verdict
-verdictOn (value (item c next)) = Accepted (countsOf (tally (toBundle c)))
-verdictOn (refused number spot) = Refused (refusal number spot)
+unfoldable pub verdictOf : Read Contents → Verdict
+verdictOf (value (item c next)) = Accepted (tallyOf (tally (toBundle c)))
+verdictOf (refused number spot) = Refused (refusal number spot)
 
 -- the verdict on a bundle
 unfoldable pub verdict : ℕ → List ℕ → Verdict
-verdict tableSize b = verdictOn (judged tableSize b 0)
+verdict tableSize b = verdictOf (judged tableSize b 0)
 
 -- 0, or the refusal's number
 unfoldable pub verdictNumber : Verdict → ℕ

@@ -2,7 +2,7 @@
 use refusals::Refusal;
 
 // The four counts of an accepted bundle: rows, allowed steps, kind 0 and kind 1 certificates.
-pub struct Counts {
+pub struct Tally {
     pub rows: usize,
     pub allowed: usize,
     pub by_place: usize,
@@ -11,6 +11,6 @@ pub struct Counts {
 
 // The verdict on a bundle.
 pub enum Verdict {
-    Accepted(Counts),
+    Accepted(Tally),
     Refused(Refusal),
 }

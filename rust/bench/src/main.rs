@@ -19,7 +19,7 @@ fn main() {
     println!("The ratio is ours / reference; below 1 ours is faster.");
     println!();
     println!(
-        "{:<6} {:<31} {:>10} {:>10} {:>6}",
+        "{:<10} {:<31} {:>10} {:>10} {:>6}",
         "call", "size", "ours", "reference", "ratio"
     );
     for call in calls::on_files() {
@@ -31,6 +31,9 @@ fn main() {
     for call in calls::on_bundles() {
         print(&call);
     }
+    for call in calls::on_sealed_bundles() {
+        print(&call);
+    }
     for call in calls::on_words() {
         print(&call);
     }
@@ -40,7 +43,7 @@ fn main() {
 fn print<I, T: Default + Clone + PartialEq>(call: &Call<I, T>) {
     let (ours, reference) = timing::compare(call);
     println!(
-        "{:<6} {:<31} {ours:>10.1} {reference:>10.1} {:>6.2}",
+        "{:<10} {:<31} {ours:>10.1} {reference:>10.1} {:>6.2}",
         call.name,
         call.size,
         ours / reference

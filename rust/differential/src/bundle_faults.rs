@@ -2,7 +2,7 @@
 //! changes.
 
 use crate::bundles::{Bundle, Certificate, Field, Layout, MAX_PLACES, MAX_TERMS};
-use crate::logs::COUNTS;
+use crate::logs::MAX_EVENTS;
 use crate::nets::{term, weights_but_for, Certified, Step};
 use crate::rng::Rng;
 use reference::Refusal;
@@ -264,7 +264,7 @@ fn wrong_value(rng: &mut Rng, certified: &Certified, field: Field) -> usize {
     let n = certified.bundle.n;
     let rows = certified.rows.len();
     match field {
-        Field::EventCount => rng.choose(&[0, COUNTS + 1, COUNTS + 2, 128, 255]),
+        Field::EventCount => rng.choose(&[0, MAX_EVENTS + 1, MAX_EVENTS + 2, 128, 255]),
         Field::Event | Field::TermEvent => from(rng, n, 255),
         Field::PlaceCount => from(rng, MAX_PLACES + 1, 255),
         Field::Kind => from(rng, 2, 255),

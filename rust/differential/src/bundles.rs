@@ -1,8 +1,8 @@
 //! Bundles: their parts, and the fields that these are written as.
 
-use crate::files::MAX_BUNDLE;
+use crate::files::MAX_BUNDLE_SIZE;
 use crate::run::{refusal, Outcome};
-use reference::Counts;
+use reference::Tally;
 use std::ops::Range;
 
 /// The largest number of words.
@@ -190,7 +190,7 @@ impl Bundle {
 
     /// Whether the bytes are not too many.
     pub fn has_allowed_length(&self) -> bool {
-        self.bytes().len() <= MAX_BUNDLE
+        self.bytes().len() <= MAX_BUNDLE_SIZE
     }
 }
 
@@ -223,13 +223,13 @@ pub const SAMPLE_G: [u8; 7] = [1, 0, 0, 1, 1, 0, 0];
 pub const SAMPLE_H: [u8; 7] = [1, 0, 0, 1, 0, 0, 0];
 
 /// A bundle for each answer of the judge that does not depend on the table.
-pub fn one_for_each_answer() -> [(Vec<u8>, Outcome<Counts>); 10] {
+pub fn one_for_each_answer() -> [(Vec<u8>, Outcome<Tally>); 10] {
     let changed = |position: usize, value| {
         let mut bundle = SAMPLE_A.to_vec();
         bundle[position] = value;
         bundle
     };
-    let counts = Counts {
+    let counts = Tally {
         rows: 5,
         allowed: 4,
         by_place: 5,

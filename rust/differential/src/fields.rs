@@ -2,7 +2,7 @@
 //! reference, kept as close to their wording as possible and without regard to
 //! speed.
 
-use crate::logs::MAX_EVENTS;
+use crate::logs::MAX_LOG_EVENTS;
 use crate::places::Place;
 use crate::run::{refusal, Outcome};
 use reference::log_rows;
@@ -59,7 +59,7 @@ impl<'b> Fields<'b> {
         for _ in 0..self.within(1, 0, 255)? {
             let (length, offset) = self.field(1)?;
             events += length;
-            if events > MAX_EVENTS {
+            if events > MAX_LOG_EVENTS {
                 return refusal(8, offset);
             }
             let mut word = Vec::new();

@@ -14,7 +14,7 @@ pub const CONTENTS: usize = 504;
 /// The largest number of blocks in a file.
 pub const MAX_BLOCKS: usize = 128;
 /// The largest length of a bundle.
-pub const MAX_BUNDLE: usize = 64_512;
+pub const MAX_BUNDLE_SIZE: usize = 64_512;
 /// The modulus of both sums.
 pub const MODULUS: usize = 65_521;
 

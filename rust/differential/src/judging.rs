@@ -3,15 +3,15 @@
 //! from it what a call has to answer, apart from what the reference says.
 
 use crate::fields::Fields;
-use crate::files::MAX_BUNDLE;
+use crate::files::MAX_BUNDLE_SIZE;
 use crate::logs::{table_of, MAX_ROWS, TABLE};
 use crate::run::{refusal, Outcome, Run};
-use reference::{log_rows, Counts, Row};
+use reference::{log_rows, Row, Tally};
 
 /// Judges a bundle of an allowed length by the definitions. Returns the answer,
 /// and what the first 3,328 numbers of the table are afterwards.
-pub fn judge_by_definitions(bundle: &[u8]) -> (Outcome<Counts>, Vec<u16>) {
-    assert!(!bundle.is_empty() && bundle.len() <= MAX_BUNDLE);
+pub fn judge_by_definitions(bundle: &[u8]) -> (Outcome<Tally>, Vec<u16>) {
+    assert!(!bundle.is_empty() && bundle.len() <= MAX_BUNDLE_SIZE);
     match accepted(&mut Fields::new(bundle)) {
         Ok((counts, table)) => (Ok(counts), table),
         Err(refused) => (Err(refused), vec![0; TABLE]),
@@ -20,7 +20,7 @@ pub fn judge_by_definitions(bundle: &[u8]) -> (Outcome<Counts>, Vec<u16>) {
 
 /// Judges a bundle of an allowed length on both sides, in a table of noise, and
 /// checks answer and table by the definitions.
-pub fn judge(run: &mut Run, bundle: &[u8]) -> Outcome<Counts> {
+pub fn judge(run: &mut Run, bundle: &[u8]) -> Outcome<Tally> {
     let length = TABLE + run.rng.choose(&[0, 0, 1, 13, 1_000]);
     let noise: Vec<u16> = run.rng.items(length);
     let judged = run.judge(bundle, &noise);
@@ -33,7 +33,7 @@ pub fn judge(run: &mut Run, bundle: &[u8]) -> Outcome<Counts> {
 }
 
 /// Reads a whole bundle. Gives back the counts and the table.
-fn accepted(fields: &mut Fields) -> Outcome<(Counts, Vec<u16>)> {
+fn accepted(fields: &mut Fields) -> Outcome<(Tally, Vec<u16>)> {
     let n = fields.within(1, 1, 12)?;
     let words = fields.words(n, MAX_ROWS)?;
     let rows = log_rows(n, &words);
@@ -42,7 +42,7 @@ fn accepted(fields: &mut Fields) -> Outcome<(Counts, Vec<u16>)> {
         return refusal(10, lowest);
     }
 
-    let mut counts = Counts {
+    let mut counts = Tally {
         rows: rows.len(),
         allowed: 0,
         by_place: 0,

@@ -3,7 +3,7 @@
 use crate::bundles::{Bundle, Certificate, Place, Term, MAX_TERMS};
 use crate::nets::{fitting_place, refusing_place, term, Certified, Step};
 use crate::rng::Rng;
-use reference::{log_rows, Counts};
+use reference::{log_rows, Tally};
 
 /// How large a bundle is. Its log has the words 1 and 0 … 0 1, and beginnings of
 /// the latter: so no place refuses event 1 in between.
@@ -68,7 +68,7 @@ impl Size {
                 places,
                 certificates: Vec::new(),
             },
-            counts: Counts {
+            counts: Tally {
                 rows: rows.len(),
                 allowed: 0,
                 by_place: 0,

@@ -10,7 +10,7 @@ use reference::{log_rows, Summary};
 use std::ops::RangeInclusive;
 
 /// The largest event count, and the counts of a row.
-pub const COUNTS: usize = 12;
+pub const MAX_EVENTS: usize = 12;
 /// Numbers of a row: the counts and the mask.
 pub const ROW: usize = 13;
 /// The largest number of rows.
@@ -18,7 +18,7 @@ pub const MAX_ROWS: usize = 256;
 /// Numbers of a table.
 pub const TABLE: usize = 3_328;
 /// The largest number of events in a log.
-pub const MAX_EVENTS: usize = 1_024;
+pub const MAX_LOG_EVENTS: usize = 1_024;
 
 /// The table of a log by the definition of its rows, zero up to its end.
 pub fn table_of(n: usize, words: &[Vec<u8>]) -> Vec<u16> {
@@ -28,7 +28,7 @@ pub fn table_of(n: usize, words: &[Vec<u8>]) -> Vec<u16> {
         for (event, (&count, &allowed)) in row.counts.iter().zip(&row.allowed).enumerate() {
             numbers[event] = count as u16;
             if allowed {
-                numbers[COUNTS] += 1 << event;
+                numbers[MAX_EVENTS] += 1 << event;
             }
         }
         table.extend(numbers);
@@ -38,8 +38,8 @@ pub fn table_of(n: usize, words: &[Vec<u8>]) -> Vec<u16> {
 }
 
 /// How often each event occurs in a prefix.
-pub fn counts_of(prefix: &[u8]) -> [u16; COUNTS] {
-    let mut counts = [0; COUNTS];
+pub fn counts_of(prefix: &[u8]) -> [u16; MAX_EVENTS] {
+    let mut counts = [0; MAX_EVENTS];
     for &event in prefix {
         counts[usize::from(event)] += 1;
     }
@@ -48,12 +48,12 @@ pub fn counts_of(prefix: &[u8]) -> [u16; COUNTS] {
 
 /// The counts in a row of a table.
 pub fn counts_at(table: &[u16], row: usize) -> &[u16] {
-    &table[row * ROW..][..COUNTS]
+    &table[row * ROW..][..MAX_EVENTS]
 }
 
 /// The mask in a row of a table.
 pub fn mask_at(table: &[u16], row: usize) -> u16 {
-    table[row * ROW + COUNTS]
+    table[row * ROW + MAX_EVENTS]
 }
 
 /// Takes a word step by step, with a table of any contents. The summary, the
@@ -73,14 +73,14 @@ pub fn take_step_by_step(
             Some(row) => row,
             None if rows == MAX_ROWS => return (refusal(9, 0), table.to_vec()),
             None => {
-                next[rows * ROW..][..COUNTS].copy_from_slice(&counts);
-                next[rows * ROW + COUNTS] = 0;
+                next[rows * ROW..][..MAX_EVENTS].copy_from_slice(&counts);
+                next[rows * ROW + MAX_EVENTS] = 0;
                 rows += 1;
                 rows - 1
             }
         };
         if end < word.len() {
-            next[used * ROW + COUNTS] |= 1 << word[end];
+            next[used * ROW + MAX_EVENTS] |= 1 << word[end];
         }
     }
     let summary = Summary {
@@ -131,7 +131,7 @@ impl Shape {
     /// The words of a log over `n` events. Some logs are small; others have as
     /// many events as are allowed, and a few more.
     pub fn words(self, rng: &mut Rng, n: usize) -> Vec<Vec<u8>> {
-        let events_wanted = rng.choose(&[10, 100, MAX_EVENTS, MAX_EVENTS + 100]);
+        let events_wanted = rng.choose(&[10, 100, MAX_LOG_EVENTS, MAX_LOG_EVENTS + 100]);
         let base_length = rng.choose(&[3, 6, 12, 100]);
         let base = random_word(rng, n, base_length..=base_length);
         let mut words = Vec::new();
@@ -189,7 +189,7 @@ impl Contents {
     pub fn table(self, rng: &mut Rng, n: usize, word: &[u8], length: usize) -> Vec<u16> {
         let mut table: Vec<u16> = rng.items(length);
         for row in table[..TABLE].chunks_exact_mut(ROW) {
-            let counts = &mut row[..COUNTS];
+            let counts = &mut row[..MAX_EVENTS];
             match self {
                 Contents::Noise => (),
                 Contents::Small => {
@@ -210,8 +210,8 @@ impl Contents {
 
 /// Changes one count: any of the twelve, often the last or the first from `n` on.
 fn change_one(rng: &mut Rng, n: usize, counts: &mut [u16]) {
-    let any = rng.below(COUNTS);
-    let count = &mut counts[rng.choose(&[any, any, n.min(COUNTS - 1), COUNTS - 1])];
+    let any = rng.below(MAX_EVENTS);
+    let count = &mut counts[rng.choose(&[any, any, n.min(MAX_EVENTS - 1), MAX_EVENTS - 1])];
     *count ^= rng.choose(&[1, 2, 256, 32_768, 65_535]);
 }
 

@@ -1,11 +1,11 @@
 //! Nets and certificates for logs, so that their bundles are accepted.
 
 use crate::bundles::{Bundle, Certificate, Place, Term, MAX_PLACES, MAX_TERMS};
-use crate::logs::{random_word, Shape, COUNTS, MAX_ROWS};
+use crate::logs::{random_word, Shape, MAX_EVENTS, MAX_ROWS};
 use crate::places;
 use crate::rng::Rng;
 use crate::simplex::{solve, Solution};
-use reference::{log_rows, Counts, Row};
+use reference::{log_rows, Row, Tally};
 use std::iter;
 
 /// A bundle that has to be accepted.
@@ -16,7 +16,7 @@ pub struct Certified {
     /// The rows of its log.
     pub rows: Vec<Row>,
     /// The counts to be answered.
-    pub counts: Counts,
+    pub counts: Tally,
 }
 
 impl Certified {
@@ -313,7 +313,7 @@ pub fn certified(rng: &mut Rng, n: usize, words: Vec<Vec<u8>>) -> Option<Certifi
             }
         });
     }
-    let counts = Counts {
+    let counts = Tally {
         rows: rows.len(),
         allowed: allowed.len(),
         by_place,
@@ -336,7 +336,7 @@ pub fn certified(rng: &mut Rng, n: usize, words: Vec<Vec<u8>>) -> Option<Certifi
 /// events, and with few rows.
 pub fn small_log(rng: &mut Rng) -> (usize, Vec<Vec<u8>>) {
     let n = match rng.below(4) {
-        0 => rng.within(1..=COUNTS),
+        0 => rng.within(1..=MAX_EVENTS),
         _ => rng.within(2..=5),
     };
     let most_rows = rng.choose(&[1, 4, 8, 16, 24, 40]);

@@ -13,7 +13,7 @@ use std::process::{Command, Stdio};
 const VARIABLE: &str = "HOVMEKHAR_BIN_DIR";
 
 /// The largest length of a sealed file.
-pub const MAX_FILE: usize = 65_536;
+pub const MAX_FILE_SIZE: usize = 65_536;
 
 /// What a program wrote.
 #[derive(Clone, Debug, PartialEq, Eq)]

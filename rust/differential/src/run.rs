@@ -4,7 +4,7 @@ use crate::guarded::Guarded;
 use crate::logs::{ROW, TABLE};
 use crate::rng::{Item, Rng};
 use hovmekhar::ffi;
-use reference::{Counts, Refusal, Screened, Summary};
+use reference::{Refusal, Screened, Summary, Tally};
 use std::collections::BTreeMap;
 use std::time::{SystemTime, UNIX_EPOCH};
 use std::{env, fmt};
@@ -37,7 +37,17 @@ pub struct Taken {
 /// What judging a bundle did, the same on both sides.
 pub struct Judged {
     /// The answer.
-    pub outcome: Outcome<Counts>,
+    pub outcome: Outcome<Tally>,
+    /// The whole table after the call.
+    pub table: Vec<u16>,
+}
+
+/// What judging a sealed file did, the same on both sides.
+pub struct FileJudged {
+    /// The answer.
+    pub outcome: Outcome<Tally>,
+    /// The whole output after the call.
+    pub output: Vec<u8>,
     /// The whole table after the call.
     pub table: Vec<u16>,
 }
@@ -69,8 +79,8 @@ impl Written {
         }
     }
 
-    fn counts(counts: &Counts) -> Self {
-        let &Counts {
+    fn counts(counts: &Tally) -> Self {
+        let &Tally {
             rows,
             allowed,
             by_place,
@@ -218,6 +228,35 @@ impl Run {
             },
         );
         Judged { outcome, table }
+    }
+
+    /// Judges a sealed file on both sides, with copies of this table and outputs of
+    /// noise, and compares. Of the output only the bundle's bytes may change.
+    pub fn judge_file(&mut self, file: &[u8], output_len: usize, table: &[u16]) -> FileJudged {
+        let mut output = self.rng.bytes(output_len);
+        let mut our_output = self.guarded(&output);
+        let written = reference::open(file, &mut output.clone()).unwrap_or(0);
+        let (outcome, table) = self.compare(
+            [file],
+            table.to_vec(),
+            |[file], table, answer| ffi::judge_file(file, our_output.lent_mut(), table, answer),
+            |[file], table| reference::judge_file(file, &mut output, table),
+            Written::counts,
+            |refused| match refused.number {
+                1..=5 => 0,
+                _ => TABLE,
+            },
+        );
+        assert!(our_output.lent() == output, "the outputs differ: {self}");
+        assert!(
+            our_output.kept_beyond(written),
+            "changed beyond the bundle, in the output or around it: {self}"
+        );
+        FileJudged {
+            outcome,
+            output,
+            table,
+        }
     }
 
     /// Screens a word on both sides and compares. Notes whether it is permitted or

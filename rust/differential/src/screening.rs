@@ -4,7 +4,7 @@
 
 use crate::bundles::{Bundle, Place, MAX_PLACES};
 use crate::fields::Fields;
-use crate::files::MAX_BUNDLE;
+use crate::files::MAX_BUNDLE_SIZE;
 use crate::logs::random_word;
 use crate::nets::small_log;
 use crate::places::first_refused;
@@ -13,7 +13,7 @@ use crate::run::{refusal, Outcome, Run};
 use reference::Screened;
 
 /// The largest number of events in a word that is screened.
-pub const MAX_WORD: usize = 65_535;
+pub const MAX_WORD_EVENTS: usize = 65_535;
 
 /// The answer for a word that is stopped.
 pub fn stopped(position: usize, place: usize) -> Outcome<Screened> {
@@ -22,10 +22,10 @@ pub fn stopped(position: usize, place: usize) -> Outcome<Screened> {
 
 /// Screens a word by the definitions.
 pub fn screen_by_definitions(bundle: &[u8], word: &[u8]) -> Outcome<Screened> {
-    if word.len() > MAX_WORD {
-        return refusal(14, MAX_WORD);
+    if word.len() > MAX_WORD_EVENTS {
+        return refusal(14, MAX_WORD_EVENTS);
     }
-    if bundle.is_empty() || bundle.len() > MAX_BUNDLE {
+    if bundle.is_empty() || bundle.len() > MAX_BUNDLE_SIZE {
         return refusal(4, 0);
     }
     let mut fields = Fields::new(bundle);

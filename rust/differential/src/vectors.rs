@@ -4,7 +4,7 @@
 //! hexadecimal, or a comment that starts with `#`. No bytes are written as `-`.
 
 use crate::run::Outcome;
-use reference::{Counts, Refusal, Screened};
+use reference::{Refusal, Screened, Tally};
 
 /// A sealed file, and the line that the program prints for it.
 #[derive(Clone, Debug, PartialEq, Eq)]
@@ -73,9 +73,9 @@ fn bytes(hexadecimal: &str) -> Vec<u8> {
 }
 
 /// The line that the program prints for this answer, without its end.
-pub fn line(answer: Outcome<Counts>) -> String {
+pub fn line(answer: Outcome<Tally>) -> String {
     match answer {
-        Ok(Counts {
+        Ok(Tally {
             rows,
             allowed,
             by_place,

@@ -160,12 +160,12 @@ fn header_and_crate_agree() {
         ("HOV_BLOCK", Refusal::BLOCK),
         ("HOV_OUTPUT_SHORT", Refusal::OUTPUT_SHORT),
         ("HOV_BUNDLE_LENGTH", Refusal::BUNDLE_LENGTH),
-        ("HOV_TABLE_SHORT", Refusal::TABLE_SHORT),
+        ("HOV_NUMBERS_SHORT", Refusal::NUMBERS_SHORT),
         ("HOV_BUNDLE_END", Refusal::BUNDLE_END),
         ("HOV_VALUE", Refusal::VALUE),
         ("HOV_EVENTS", Refusal::EVENTS),
         ("HOV_ROWS", Refusal::ROWS),
-        ("HOV_PLACE_FIT", Refusal::PLACE_FIT),
+        ("HOV_PLACE_MISFIT", Refusal::PLACE_MISFIT),
         ("HOV_PLACE_PERMITS", Refusal::PLACE_PERMITS),
         ("HOV_WEIGHTS", Refusal::WEIGHTS),
         ("HOV_BYTES_FOLLOW", Refusal::BYTES_FOLLOW),
@@ -178,7 +178,11 @@ fn header_and_crate_agree() {
         );
     }
     // The last one of the enum, without a comma.
-    assert!(has(&["HOV_SUMMARY", "=", &Refusal::SUMMARY.to_string()]));
+    assert!(has(&[
+        "HOV_STATE_RANGE",
+        "=",
+        &Refusal::STATE_RANGE.to_string()
+    ]));
 
     for (name, size) in [
         ("HOV_BLOCK_SIZE", hovmekhar::BLOCK_SIZE),
@@ -191,6 +195,8 @@ fn header_and_crate_agree() {
         ("HOV_MAX_ROWS", hovmekhar::MAX_ROWS),
         ("HOV_TABLE_SIZE", hovmekhar::TABLE_SIZE),
         ("HOV_MAX_LOG_EVENTS", hovmekhar::MAX_LOG_EVENTS),
+        ("HOV_MAX_PLACES", hovmekhar::MAX_PLACES),
+        ("HOV_MAX_TERMS", hovmekhar::MAX_TERMS),
         ("HOV_MAX_WORD_EVENTS", hovmekhar::MAX_WORD_EVENTS),
         ("HOV_STOPPED", hovmekhar::ffi::STOPPED as usize),
     ] {

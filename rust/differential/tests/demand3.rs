@@ -3,14 +3,14 @@
 //! log is continued with each event.
 
 use differential::bundles::MAX_WORDS;
-use differential::files::{BLOCK, CONTENTS, MAX_BUNDLE};
+use differential::files::{BLOCK, CONTENTS, MAX_BUNDLE_SIZE};
 use differential::limits::{LARGEST, MIDDLE, MOST_WORDS};
 use differential::logs::{table_of, TABLE};
 use differential::nets::{certified, small_log, strictest_net, Certified};
 use differential::places::{first_refused, Place};
 use differential::run::Run;
 use differential::screening::screen;
-use reference::{log_rows, Counts, Row, Screened};
+use reference::{log_rows, Row, Screened, Tally};
 use std::collections::BTreeSet;
 
 type Words = Vec<Vec<u8>>;
@@ -23,7 +23,7 @@ struct File {
     /// As it was opened.
     bundle: Vec<u8>,
     /// As they were answered.
-    counts: Counts,
+    counts: Tally,
 }
 
 impl File {
@@ -35,7 +35,7 @@ impl File {
         let longer = run.rng.choose(&[0, 1, 1_000]);
         let sealed = run.seal(&bytes, blocks * BLOCK + longer);
         let file_len = sealed.outcome.expect("the length is allowed");
-        let opened = run.open(&sealed.output[..file_len], MAX_BUNDLE + longer);
+        let opened = run.open(&sealed.output[..file_len], MAX_BUNDLE_SIZE + longer);
         let bundle_len = opened.outcome.expect("the file is sound");
 
         let table = dirty_table(run, bundle.n);

@@ -2,7 +2,7 @@
 //! pair of short words, and every event.
 
 use differential::files::{build, write_sums, Field, BLOCK, CONTENTS, MODULUS};
-use differential::logs::{table_of, COUNTS, TABLE};
+use differential::logs::{table_of, MAX_EVENTS, TABLE};
 use differential::run::{refusal, Run};
 use reference::{log_rows, Summary};
 
@@ -142,7 +142,7 @@ fn every_pair_of_short_words() {
 #[test]
 fn every_event() {
     let mut run = Run::start("every_event");
-    for n in 1..=COUNTS {
+    for n in 1..=MAX_EVENTS {
         let fresh = run.fresh(n, &[9; TABLE]);
         let summary = fresh.outcome.expect("an allowed event count");
         for event in 0..=255 {

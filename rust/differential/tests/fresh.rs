@@ -1,6 +1,6 @@
 //! Fresh logs: event counts, and tables of every kind of length and contents.
 
-use differential::logs::{COUNTS, TABLE, WRONG_N};
+use differential::logs::{MAX_EVENTS, TABLE, WRONG_N};
 use differential::run::{refusal, Run};
 use reference::Summary;
 
@@ -24,7 +24,7 @@ fn fresh(run: &mut Run, n: usize, table: &[u16]) {
     if table.len() < TABLE {
         assert_eq!(fresh.outcome, refusal(5, TABLE), "{run}");
         assert!(fresh.table == table, "the table changed: {run}");
-    } else if !(1..=COUNTS).contains(&n) {
+    } else if !(1..=MAX_EVENTS).contains(&n) {
         assert_eq!(fresh.outcome, refusal(16, 0), "{run}");
         assert!(fresh.table == table, "the table changed: {run}");
     } else {
@@ -46,7 +46,7 @@ fn event_counts_and_table_lengths() {
     let mut run = Run::start("event_counts_and_table_lengths");
     for _ in 0..run.cases(4) {
         for length in LENGTHS {
-            for n in (1..=COUNTS).chain(WRONG_N) {
+            for n in (1..=MAX_EVENTS).chain(WRONG_N) {
                 let table: Vec<u16> = run.rng.items(length);
                 fresh(&mut run, n, &table);
             }
@@ -76,7 +76,7 @@ fn contents() {
         for position in 0..length {
             let mut table = vec![0; length];
             table[position] = run.rng.choose(&[1, 256, 32_768, 65_535]);
-            let n = run.rng.within(1..=COUNTS);
+            let n = run.rng.within(1..=MAX_EVENTS);
             fresh(&mut run, n, &table);
         }
     }

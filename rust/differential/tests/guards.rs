@@ -6,7 +6,7 @@ use differential::guarded::Guarded;
 use differential::logs::TABLE;
 use differential::rng::Item;
 use differential::run::Run;
-use differential::screening::MAX_WORD;
+use differential::screening::MAX_WORD_EVENTS;
 use hovmekhar::ffi;
 
 /// Alignments to try: all within a cache line, more than any load asks for.
@@ -250,7 +250,7 @@ fn screenings() -> [Screening; 9] {
         case(&SAMPLE_A[..28], &[1, 0], 6, &[27]),
         case(&[0, 0, 0], &[1, 0], 7, &[0]),
         case(&five_words, &[1, 0], 8, &[2 + 4 * 256]),
-        case(&SAMPLE_A, &[0; MAX_WORD + 1], 14, &[65_535]),
+        case(&SAMPLE_A, &[0; MAX_WORD_EVENTS + 1], 14, &[65_535]),
         case(&SAMPLE_A, &[1, 0, 2], 15, &[2]),
     ]
 }

@@ -2,16 +2,16 @@
 
 use differential::bundles::{one_for_each_answer, Certificate, MAX_TERMS, MAX_WORDS};
 use differential::bundles::{SAMPLE_A, SAMPLE_E, SAMPLE_F, SAMPLE_G, SAMPLE_H};
-use differential::files::MAX_BUNDLE;
+use differential::files::MAX_BUNDLE_SIZE;
 use differential::judging::{judge, judge_by_definitions};
-use differential::logs::{table_of, Shape, COUNTS, MAX_EVENTS, MAX_ROWS, TABLE};
+use differential::logs::{table_of, Shape, MAX_EVENTS, MAX_LOG_EVENTS, MAX_ROWS, TABLE};
 use differential::nets::{certified, small_certified, small_log, Certified};
 use differential::run::{refusal, Outcome, Run};
-use reference::{log_rows, Counts};
+use reference::{log_rows, Tally};
 use std::collections::HashSet;
 
-fn counts(rows: usize, allowed: usize, by_place: usize, by_weights: usize) -> Counts {
-    Counts {
+fn counts(rows: usize, allowed: usize, by_place: usize, by_weights: usize) -> Tally {
+    Tally {
         rows,
         allowed,
         by_place,
@@ -105,7 +105,7 @@ fn small_logs() {
     for _ in 0..run.cases(2_500) {
         let certified = small_certified(&mut run.rng);
         accept(&mut run, &certified);
-        if certified.bundle.n == COUNTS {
+        if certified.bundle.n == MAX_EVENTS {
             run.note("12 events");
         }
         if certified.bundle.n == 1 {
@@ -146,7 +146,7 @@ fn words_of_shape(run: &mut Run, shape: Shape, n: usize, most_rows: usize) -> Ve
     let mut words: Vec<Vec<u8>> = Vec::new();
     let mut events = 0;
     for word in shape.words(&mut run.rng, n) {
-        if words.len() == MAX_WORDS || events + word.len() > MAX_EVENTS {
+        if words.len() == MAX_WORDS || events + word.len() > MAX_LOG_EVENTS {
             break;
         }
         events += word.len();
@@ -164,7 +164,7 @@ fn words_of_shape(run: &mut Run, shape: Shape, n: usize, most_rows: usize) -> Ve
 fn every_shape() {
     let mut run = Run::start("every_shape");
     for shape in Shape::ALL {
-        for n in 1..=COUNTS {
+        for n in 1..=MAX_EVENTS {
             let most_rows = match n {
                 1 => MAX_ROWS,
                 2 => 120,
@@ -216,7 +216,7 @@ fn equal_logs() {
 }
 
 /// Judges with this table and checks every number of it afterwards.
-fn judge_with(run: &mut Run, bundle: &[u8], table: &[u16], expected: Outcome<Counts>) {
+fn judge_with(run: &mut Run, bundle: &[u8], table: &[u16], expected: Outcome<Tally>) {
     let judged = run.judge(bundle, table);
     assert_eq!(judged.outcome, expected, "{run}");
     let mut after = table.to_vec();
@@ -246,7 +246,7 @@ fn table_lengths() {
             65_536 + 3_327,
         ] {
             let accepted = small_certified(&mut run.rng);
-            let too_long = run.rng.bytes(MAX_BUNDLE + 1);
+            let too_long = run.rng.bytes(MAX_BUNDLE_SIZE + 1);
             for (bundle, outcome) in [
                 (accepted.bundle.bytes(), Ok(accepted.counts)),
                 (SAMPLE_A.to_vec(), Ok(counts(5, 4, 5, 1))),
@@ -280,7 +280,11 @@ fn table_contents() {
         let (cut_outcome, _) = judge_by_definitions(cut);
         let (n, words) = small_log(&mut run.rng);
         let mut masks_only = vec![0; TABLE];
-        for mask in masks_only.iter_mut().skip(COUNTS).step_by(COUNTS + 1) {
+        for mask in masks_only
+            .iter_mut()
+            .skip(MAX_EVENTS)
+            .step_by(MAX_EVENTS + 1)
+        {
             *mask = 65_535;
         }
         for table in [

@@ -3,16 +3,16 @@
 use differential::bundle_faults::{refusal_of_cut, BundleFault};
 use differential::bundles::{Bundle, Certificate, Field, Place, Term};
 use differential::bundles::{MAX_LENGTH, MAX_PLACES, MAX_TERMS, MAX_WORDS};
-use differential::files::MAX_BUNDLE;
+use differential::files::MAX_BUNDLE_SIZE;
 use differential::judging::judge;
 use differential::limits::{Size, LARGEST, MIDDLE, MOST_WORDS};
-use differential::logs::{random_word, MAX_EVENTS, MAX_ROWS, TABLE};
+use differential::logs::{random_word, MAX_LOG_EVENTS, MAX_ROWS, TABLE};
 use differential::nets::{certified, fitting_place, Certified};
 use differential::run::{refusal, Outcome, Run};
-use reference::{log_rows, Counts};
+use reference::{log_rows, Tally};
 
 /// Judges without the definitions, which take long for large bundles.
-fn judge_on_both_sides(run: &mut Run, bundle: &[u8]) -> Outcome<Counts> {
+fn judge_on_both_sides(run: &mut Run, bundle: &[u8]) -> Outcome<Tally> {
     let table: Vec<u16> = run.rng.items(TABLE);
     run.judge(bundle, &table).outcome
 }
@@ -29,7 +29,7 @@ fn largest_bundles() {
             rows,
         } = &certified;
         let layout = bundle.layout();
-        assert_eq!(layout.bytes.len(), MAX_BUNDLE);
+        assert_eq!(layout.bytes.len(), MAX_BUNDLE_SIZE);
         assert_eq!(rows.len(), MAX_ROWS);
         assert_eq!(bundle.places.len(), MAX_PLACES);
         assert_eq!(counts.by_weights, 252);
@@ -43,7 +43,7 @@ fn largest_bundles() {
         let outcome = judge_on_both_sides(&mut run, &one_more);
         assert_eq!(outcome, refusal(4, 0), "{run}");
         for _ in 0..run.cases(50) {
-            let length = run.rng.within(1..=MAX_BUNDLE - 1);
+            let length = run.rng.within(1..=MAX_BUNDLE_SIZE - 1);
             let outcome = judge_on_both_sides(&mut run, &layout.bytes[..length]);
             let expected = Err(refusal_of_cut(&layout, length));
             assert_eq!(outcome, expected, "{length}, {run}");
@@ -62,7 +62,8 @@ fn faults_in_large_bundles() {
             for _ in 0..run.cases(count) {
                 let made = fault.bytes(&mut run.rng, &certified);
                 // One byte more than there can be is another fault.
-                let Some((bytes, refused)) = made.filter(|(b, _)| b.len() <= MAX_BUNDLE) else {
+                let Some((bytes, refused)) = made.filter(|(b, _)| b.len() <= MAX_BUNDLE_SIZE)
+                else {
                     continue;
                 };
                 let outcome = judge_on_both_sides(&mut run, &bytes);
@@ -92,7 +93,7 @@ fn sample_j() {
     let mut run = Run::start("judge_limits::sample_j");
     let words = vec![vec![0; 255]; 4];
     let sample = certified(&mut run.rng, 1, words).expect("one wrong continuation");
-    let counts = Counts {
+    let counts = Tally {
         rows: 256,
         allowed: 255,
         by_place: 1,
@@ -167,7 +168,7 @@ fn events_and_rows_at_once() {
         let cut = run.rng.choose(&[any, last.len()]);
         bytes.truncate(start + cut);
 
-        let expected = if events + last.len() > MAX_EVENTS {
+        let expected = if events + last.len() > MAX_LOG_EVENTS {
             refusal(8, length)
         } else if has_bad && bad < cut {
             refusal(7, start + bad)
@@ -190,7 +191,7 @@ fn words_up_to_the_limit() {
     for length in 0..=MAX_LENGTH {
         let words = match length {
             0..=4 => vec![vec![0; length]; MAX_WORDS],
-            _ => vec![vec![0; length]; MAX_EVENTS / length],
+            _ => vec![vec![0; length]; MAX_LOG_EVENTS / length],
         };
         let certified = certified(&mut run.rng, 1, words).expect("one wrong continuation");
         assert_eq!(certified.counts.rows, length + 1);

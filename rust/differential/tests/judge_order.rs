@@ -2,7 +2,7 @@
 
 use differential::bundle_faults::{refusal_of_cut, write_value};
 use differential::bundles::{Certificate, Field, Layout};
-use differential::files::MAX_BUNDLE;
+use differential::files::MAX_BUNDLE_SIZE;
 use differential::limits::Size;
 use differential::logs::TABLE;
 use differential::nets::Certified;
@@ -237,8 +237,8 @@ fn lengths_come_first() {
             (layout.bytes.len(), 0, refusal(5, TABLE)),
             (0, TABLE - 1, refusal(4, 0)),
             (0, TABLE, refusal(4, 0)),
-            (MAX_BUNDLE + 1, 0, refusal(4, 0)),
-            (MAX_BUNDLE + 1, TABLE, refusal(4, 0)),
+            (MAX_BUNDLE_SIZE + 1, 0, refusal(4, 0)),
+            (MAX_BUNDLE_SIZE + 1, TABLE, refusal(4, 0)),
         ] {
             let mut bytes = layout.bytes.clone();
             for (range, value) in &fault.fields {

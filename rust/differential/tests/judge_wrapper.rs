@@ -2,22 +2,23 @@
 
 use differential::bundle_faults::BundleFault;
 use differential::bundles::{one_for_each_answer, SAMPLE_A};
-use differential::files::MAX_BUNDLE;
+use differential::faults::{BlockFault, LengthFault};
+use differential::files::{build, MAX_BUNDLE_SIZE};
 use differential::logs::TABLE;
 use differential::nets::small_certified;
 use differential::run::{Outcome, Run};
-use hovmekhar::{Counts, Refusal, ROW_SIZE, TABLE_SIZE};
+use hovmekhar::{Refusal, Tally, ROW_SIZE, TABLE_SIZE};
 use std::error::Error;
 
 /// A result of the safe calls in the reference's terms.
-fn outcome(result: Result<Counts, Refusal>) -> Outcome<reference::Counts> {
+fn outcome(result: Result<Tally, Refusal>) -> Outcome<reference::Tally> {
     match result {
-        Ok(Counts {
+        Ok(Tally {
             rows,
             allowed,
             by_place,
             by_weights,
-        }) => Ok(reference::Counts {
+        }) => Ok(reference::Tally {
             rows,
             allowed,
             by_place,
@@ -34,7 +35,7 @@ fn any_bundle(run: &mut Run) -> Vec<u8> {
     match run.rng.below(8) {
         0 | 1 => certified.bundle.bytes(),
         2 => {
-            let length = run.rng.choose(&[0, MAX_BUNDLE + 1]);
+            let length = run.rng.choose(&[0, MAX_BUNDLE_SIZE + 1]);
             run.rng.bytes(length)
         }
         _ => match fault.bytes(&mut run.rng, &certified) {
@@ -82,6 +83,45 @@ fn vectors_agree() {
     run.finish(&[(0, 100), (4, 50), (6, 1), (7, 60), (11, 5)]);
 }
 
+/// A file of any kind: at least one in four does not open.
+fn any_file(run: &mut Run) -> Vec<u8> {
+    match run.rng.below(8) {
+        0 => LengthFault::OneByteMore.file(&mut run.rng),
+        1 => BlockFault::AlteredByte.file(&mut run.rng).0,
+        _ => build(&any_bundle(run)),
+    }
+}
+
+/// The calls on a sealed file: into lent buffers, and the one that never lacks
+/// room.
+#[test]
+fn files_agree() {
+    let mut run = Run::start("judge_wrapper::files_agree");
+    for _ in 0..run.cases(1_000) {
+        let file = any_file(&mut run);
+        let noise: Vec<u16> = run.rng.items(TABLE + 9);
+        let judged = run.judge_file(&file, MAX_BUNDLE_SIZE, &noise);
+
+        let mut output = run.rng.bytes(MAX_BUNDLE_SIZE);
+        let mut table = noise;
+        let result = hovmekhar::judge_file(&file, &mut output, &mut table);
+        assert_eq!(outcome(result), judged.outcome, "{run}");
+        assert!(table == judged.table, "{run}");
+        if let Ok(bundle) = hovmekhar::open_vec(&file) {
+            assert!(output[..bundle.len()] == bundle, "{run}");
+        }
+
+        let result = hovmekhar::judge_file_vec(&file);
+        if let Ok((counts, rows)) = &result {
+            assert_eq!(rows.len(), counts.rows * ROW_SIZE, "{run}");
+            assert!(judged.table[..rows.len()] == *rows, "{run}");
+        }
+        let result = outcome(result.map(|(counts, _)| counts));
+        assert_eq!(result, judged.outcome, "{run}");
+    }
+    run.finish(&[(0, 80), (1, 80), (2, 60), (7, 40)]);
+}
+
 /// Each refusal that judging can give is an error with its number, its spot and a
 /// sentence with both.
 #[test]
@@ -95,13 +135,13 @@ fn refusals_are_errors() {
         }
     }
     let short = reference::Refusal {
-        number: Refusal::TABLE_SHORT,
+        number: Refusal::NUMBERS_SHORT,
         spot: 3_328,
     };
     check_error(hovmekhar::judge(&SAMPLE_A, &mut table[1..]), short);
 }
 
-fn check_error(result: Result<Counts, Refusal>, expected: reference::Refusal) {
+fn check_error(result: Result<Tally, Refusal>, expected: reference::Refusal) {
     let reference::Refusal { number, spot } = expected;
     let refusal = result.expect_err("each of these is refused");
     assert_eq!(refusal, Refusal { number, spot });

@@ -1,7 +1,7 @@
 //! Logs from a fresh table on, word by word, up to the limits.
 
 use differential::logs::{
-    mask_at, random_word, table_of, Shape, COUNTS, MAX_EVENTS, MAX_ROWS, ROW, TABLE,
+    mask_at, random_word, table_of, Shape, MAX_EVENTS, MAX_LOG_EVENTS, MAX_ROWS, ROW, TABLE,
 };
 use differential::run::{refusal, Outcome, Run};
 use reference::{log_rows, Refusal, Summary};
@@ -56,7 +56,7 @@ impl Log {
 
     /// Checks that a word was refused because it would pass a limit.
     fn check_refusal(&self, run: &Run, word: &[u8], refused: Refusal) {
-        let expected = if self.summary.events + word.len() > MAX_EVENTS {
+        let expected = if self.summary.events + word.len() > MAX_LOG_EVENTS {
             8
         } else {
             let with_word = [self.words.as_slice(), &[word.to_vec()]].concat();
@@ -72,7 +72,7 @@ impl Log {
 fn generated_logs() {
     let mut run = Run::start("generated_logs");
     for shape in Shape::ALL {
-        for n in 1..=COUNTS {
+        for n in 1..=MAX_EVENTS {
             for _ in 0..run.cases(8) {
                 let mut log = Log::fresh(&mut run, n);
                 let mut refusals = 0;
@@ -95,7 +95,7 @@ fn generated_logs() {
                 if log.summary.rows == MAX_ROWS {
                     run.note("256 rows");
                 }
-                if log.summary.events == MAX_EVENTS {
+                if log.summary.events == MAX_LOG_EVENTS {
                     run.note("1,024 events");
                 }
             }
@@ -174,7 +174,7 @@ fn sample_j() {
     log.take(&mut run, &[0; 4]).expect("1,024 events");
     assert_eq!(log.take(&mut run, &[0]), refusal(8, 0), "{run}");
     log.take(&mut run, &[]).expect("no further event");
-    assert_eq!(log.summary.events, MAX_EVENTS, "{run}");
+    assert_eq!(log.summary.events, MAX_LOG_EVENTS, "{run}");
     log.check(&run);
     run.finish(&[(0, 7), (8, 3)]);
 }
@@ -184,7 +184,7 @@ fn sample_j() {
 fn rows_up_to_the_limit() {
     let mut run = Run::start("rows_up_to_the_limit");
     for rows in 1..=MAX_ROWS {
-        let n = run.rng.within(2..=COUNTS);
+        let n = run.rng.within(2..=MAX_EVENTS);
         let (low, high) = run.rng.two_below(n);
         let mut log = Log::fresh(&mut run, n);
         log.take(&mut run, &vec![low as u8; rows - 1])
@@ -211,7 +211,7 @@ fn rows_up_to_the_limit() {
 #[test]
 fn events_up_to_the_limit() {
     let mut run = Run::start("events_up_to_the_limit");
-    for events in 0..=MAX_EVENTS {
+    for events in 0..=MAX_LOG_EVENTS {
         let mut log = Log::fresh(&mut run, 2);
         // Words of ones, each no longer than a table has rows for.
         for start in (0..events).step_by(200) {
@@ -220,7 +220,7 @@ fn events_up_to_the_limit() {
         }
         assert_eq!(log.summary.events, events, "{run}");
 
-        let left = MAX_EVENTS - events;
+        let left = MAX_LOG_EVENTS - events;
         let longer = vec![1; left + 1];
         assert_eq!(log.take(&mut run, &longer), refusal(8, 0), "{run}");
         // A word has one row more than events.
@@ -228,7 +228,7 @@ fn events_up_to_the_limit() {
             Ok(Summary {
                 n: 2,
                 rows: log.summary.rows.max(left + 1),
-                events: MAX_EVENTS,
+                events: MAX_LOG_EVENTS,
             })
         } else {
             refusal(9, 0)
@@ -258,7 +258,7 @@ fn sorted_rows(run: &mut Run, n: usize, words: &[Vec<u8>]) -> Vec<Vec<u16>> {
 fn order_of_words() {
     let mut run = Run::start("order_of_words");
     for _ in 0..run.cases(100) {
-        let n = run.rng.within(1..=COUNTS);
+        let n = run.rng.within(1..=MAX_EVENTS);
         let count = run.rng.within(2..=8);
         let words: Vec<Vec<u8>> = (0..count)
             .map(|_| random_word(&mut run.rng, n, 0..=20))

@@ -5,7 +5,7 @@ use differential::faults::BlockFault;
 use differential::files::build;
 use differential::limits::{LARGEST, MOST_WORDS};
 use differential::nets::small_certified;
-use differential::programs::{command, errors_when_full, path, run, run_in_pieces, MAX_FILE};
+use differential::programs::{command, errors_when_full, path, run, run_in_pieces, MAX_FILE_SIZE};
 use differential::rng::Rng;
 use differential::run::{refusal, Run};
 use differential::{samples, vectors};
@@ -58,11 +58,11 @@ fn lengths() {
         (511, "refused 1 0"),
         (512, "refused 2 0"),
         (513, "refused 1 0"),
-        (MAX_FILE - 512, "refused 2 0"),
-        (MAX_FILE - 1, "refused 1 0"),
-        (MAX_FILE, "refused 2 0"),
-        (MAX_FILE + 1, "refused 1 0"),
-        (MAX_FILE + 512, "refused 1 0"),
+        (MAX_FILE_SIZE - 512, "refused 2 0"),
+        (MAX_FILE_SIZE - 1, "refused 1 0"),
+        (MAX_FILE_SIZE, "refused 2 0"),
+        (MAX_FILE_SIZE + 1, "refused 1 0"),
+        (MAX_FILE_SIZE + 512, "refused 1 0"),
         (1_000_000, "refused 1 0"),
     ] {
         expect(&rng.bytes(length), line);
@@ -73,11 +73,11 @@ fn lengths() {
 #[test]
 fn longer_than_the_longest_file() {
     let file = build(&LARGEST.certified(&mut Rng::new(1)).bundle.bytes());
-    assert_eq!(file.len(), MAX_FILE);
+    assert_eq!(file.len(), MAX_FILE_SIZE);
     expect(&file, "accepted 256 255 2565 252");
     expect(&[file.as_slice(), &[0]].concat(), "refused 1 0");
     expect(&[file.as_slice(), &[0; 512]].concat(), "refused 1 0");
-    expect(&file[..MAX_FILE - 1], "refused 1 0");
+    expect(&file[..MAX_FILE_SIZE - 1], "refused 1 0");
 }
 
 /// A read that fails is not the end of the file: a directory opens, but cannot be read.
@@ -114,7 +114,7 @@ fn pieces() {
     for piece in [1, 7, 512, 4_096, 65_535] {
         assert_eq!(printed(&largest, piece), "accepted 256 255 2565 252\n");
     }
-    assert_eq!(printed(&vec![0; MAX_FILE + 1], 1), "refused 1 0\n");
+    assert_eq!(printed(&vec![0; MAX_FILE_SIZE + 1], 1), "refused 1 0\n");
 }
 
 #[test]

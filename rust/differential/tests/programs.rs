@@ -2,11 +2,13 @@
 
 use differential::bundles::{SAMPLE_A, SAMPLE_H};
 use differential::faults::{BlockFault, LengthFault};
-use differential::files::{build, random_bundle, Filling, MAX_BUNDLE};
-use differential::programs::{command, errors_when_full, path, run, run_in_pieces, Done, MAX_FILE};
+use differential::files::{build, random_bundle, Filling, MAX_BUNDLE_SIZE};
+use differential::programs::{
+    command, errors_when_full, path, run, run_in_pieces, Done, MAX_FILE_SIZE,
+};
 use differential::rng::Rng;
 use differential::run::{refusal, Outcome, Run};
-use differential::screening::{any_net, Kind, MAX_WORD};
+use differential::screening::{any_net, Kind, MAX_WORD_EVENTS};
 use differential::{samples, vectors};
 use reference::Screened;
 use std::ffi::OsStr;
@@ -91,8 +93,8 @@ fn seal_then_unseal() {
         505,
         1_008,
         1_009,
-        MAX_BUNDLE - 1,
-        MAX_BUNDLE,
+        MAX_BUNDLE_SIZE - 1,
+        MAX_BUNDLE_SIZE,
     ] {
         for filling in Filling::ALL {
             let bundle = filling.bundle(&mut rng, length);
@@ -130,10 +132,16 @@ fn a_bundle_that_reads_like_a_refusal() {
 #[test]
 fn lengths_of_bundles() {
     let mut rng = Rng::new(2);
-    for length in [0, MAX_BUNDLE + 1, MAX_BUNDLE + 512, MAX_FILE, 1_000_000] {
+    for length in [
+        0,
+        MAX_BUNDLE_SIZE + 1,
+        MAX_BUNDLE_SIZE + 512,
+        MAX_FILE_SIZE,
+        1_000_000,
+    ] {
         assert_eq!(seal(&rng.bytes(length)), refused(4, 0), "{length}");
     }
-    let longest = rng.bytes(MAX_BUNDLE);
+    let longest = rng.bytes(MAX_BUNDLE_SIZE);
     assert_eq!(seal(&longest), result(&build(&longest)));
 }
 
@@ -147,17 +155,17 @@ fn lengths_of_files() {
         (511, 1),
         (512, 2),
         (513, 1),
-        (MAX_FILE - 512, 2),
-        (MAX_FILE - 1, 1),
-        (MAX_FILE, 2),
-        (MAX_FILE + 1, 1),
-        (MAX_FILE + 512, 1),
+        (MAX_FILE_SIZE - 512, 2),
+        (MAX_FILE_SIZE - 1, 1),
+        (MAX_FILE_SIZE, 2),
+        (MAX_FILE_SIZE + 1, 1),
+        (MAX_FILE_SIZE + 512, 1),
         (1_000_000, 1),
     ] {
         assert_eq!(unseal(&rng.bytes(length)), refused(number, 0), "{length}");
     }
-    let file = build(&rng.bytes(MAX_BUNDLE));
-    assert_eq!(file.len(), MAX_FILE);
+    let file = build(&rng.bytes(MAX_BUNDLE_SIZE));
+    assert_eq!(file.len(), MAX_FILE_SIZE);
     for more in [1, 512] {
         let longer = [file.as_slice(), &vec![0; more]].concat();
         assert_eq!(unseal(&longer), refused(1, 0), "{more}");
@@ -179,7 +187,7 @@ fn damaged_files() {
 #[test]
 fn generated_files() {
     let mut run = Run::start("generated_files_unsealed");
-    let mut output = vec![0; MAX_FILE];
+    let mut output = vec![0; MAX_FILE_SIZE];
     for _ in 0..run.cases(100) {
         let bundle = random_bundle(&mut run.rng, 1);
         let sealed = reference::seal(&bundle, &mut output);
@@ -218,7 +226,7 @@ fn pieces() {
         let unsealed = run_in_pieces("unseal", &NO_ARGUMENTS, &file, piece);
         assert_eq!(unsealed, result(&bundle), "{piece}");
     }
-    let long = vec![0; MAX_FILE + 1];
+    let long = vec![0; MAX_FILE_SIZE + 1];
     assert_eq!(
         run_in_pieces("seal", &NO_ARGUMENTS, &long, 100),
         refused(4, 0)
@@ -333,7 +341,7 @@ fn screen_refusals() {
     };
     screened("empty", &[], &none, "refused 1 0");
     screened("half", &[0; 513], &[0], "refused 1 0");
-    let longest = build(&Rng::new(5).bytes(MAX_BUNDLE));
+    let longest = build(&Rng::new(5).bytes(MAX_BUNDLE_SIZE));
     screened(
         "long",
         &[longest.as_slice(), &[0]].concat(),
@@ -362,17 +370,21 @@ fn screen_refusals() {
 #[test]
 fn longest_words() {
     let free = sample("f.sealed");
-    expect_screened(&free, &vec![0; MAX_WORD], "permitted");
-    expect_screened(&free, &vec![0; MAX_WORD + 1], "refused 14 65535");
-    expect_screened(&free, &vec![0; MAX_WORD + 10_000], "refused 14 65535");
+    expect_screened(&free, &vec![0; MAX_WORD_EVENTS], "permitted");
+    expect_screened(&free, &vec![0; MAX_WORD_EVENTS + 1], "refused 14 65535");
+    expect_screened(
+        &free,
+        &vec![0; MAX_WORD_EVENTS + 10_000],
+        "refused 14 65535",
+    );
     let tight = sample("a.sealed");
-    expect_screened(&tight, &vec![0; MAX_WORD], "stopped 2 1");
+    expect_screened(&tight, &vec![0; MAX_WORD_EVENTS], "stopped 2 1");
     // 14 comes before 15; opening comes before both.
-    expect_screened(&tight, &vec![9; MAX_WORD + 1], "refused 14 65535");
-    expect_screened(&tight, &vec![9; MAX_WORD], "refused 15 0");
+    expect_screened(&tight, &vec![9; MAX_WORD_EVENTS + 1], "refused 14 65535");
+    expect_screened(&tight, &vec![9; MAX_WORD_EVENTS], "refused 15 0");
     expect_screened(
         &sample("damaged.sealed"),
-        &vec![0; MAX_WORD + 1],
+        &vec![0; MAX_WORD_EVENTS + 1],
         "refused 2 0",
     );
 }
@@ -461,7 +473,7 @@ fn wrong_files() {
 
 /// What `screen` prints for a file, by the reference.
 fn reference_line(file: &[u8], word: &[u8]) -> (Outcome<Screened>, String) {
-    let mut bundle = vec![0; MAX_BUNDLE];
+    let mut bundle = vec![0; MAX_BUNDLE_SIZE];
     let screened = reference::open(file, &mut bundle)
         .and_then(|length| reference::screen(&bundle[..length], word));
     (screened, vectors::screened_line(screened))

@@ -1,6 +1,6 @@
 //! Sealing then opening, and opening then sealing.
 
-use differential::files::{build, random_bundle, Filling, MAX_BUNDLE};
+use differential::files::{build, random_bundle, Filling, MAX_BUNDLE_SIZE};
 use differential::run::Run;
 
 #[test]
@@ -8,7 +8,7 @@ fn opening_a_sealed_bundle_gives_the_bundle() {
     let mut run = Run::start("opening_a_sealed_bundle_gives_the_bundle");
     for _ in 0..run.cases(500) {
         let filling = run.rng.choose(&Filling::ALL);
-        let length = run.rng.within(1..=MAX_BUNDLE);
+        let length = run.rng.within(1..=MAX_BUNDLE_SIZE);
         let bundle = filling.bundle(&mut run.rng, length);
 
         let sealed = run.seal(&bundle, 65_536);
@@ -26,7 +26,7 @@ fn sealing_an_opened_file_gives_the_file() {
     for _ in 0..run.cases(1_000) {
         let file = build(&random_bundle(&mut run.rng, 1));
 
-        let opened = run.open(&file, MAX_BUNDLE);
+        let opened = run.open(&file, MAX_BUNDLE_SIZE);
         let length = opened.outcome.expect("a sound file");
         let sealed = run.seal(&opened.output[..length], file.len());
         assert_eq!(sealed.outcome, Ok(file.len()), "{run}");

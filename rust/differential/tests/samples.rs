@@ -1,7 +1,7 @@
 //! The files in `samples/` are what the reference makes, and answers as they are
 //! described.
 
-use differential::files::{BLOCK, MAX_BUNDLE};
+use differential::files::{BLOCK, MAX_BUNDLE_SIZE};
 use differential::logs::TABLE;
 use differential::samples::{all, directory, Sample};
 use differential::vectors::line;
@@ -9,7 +9,7 @@ use std::fs;
 
 /// The line that the program prints for a file, by the reference.
 fn reference_line(file: &[u8]) -> String {
-    let mut bundle = vec![0; MAX_BUNDLE];
+    let mut bundle = vec![0; MAX_BUNDLE_SIZE];
     let mut table = vec![0; TABLE];
     line(
         reference::open(file, &mut bundle)
@@ -46,7 +46,7 @@ fn files_are_answered_as_described() {
 #[test]
 fn files_are_sealed_bundles() {
     for Sample { name, file, .. } in all() {
-        let mut bundle = vec![0; MAX_BUNDLE];
+        let mut bundle = vec![0; MAX_BUNDLE_SIZE];
         let opened = reference::open(&file, &mut bundle);
         assert_eq!(opened.is_err(), name == "damaged.sealed", "{name}");
         if let Ok(length) = opened {

@@ -1,7 +1,7 @@
 //! Screening: words on nets of bundles that are accepted, and of others.
 
 use differential::bundles::{Bundle, Certificate, SAMPLE_A, SAMPLE_E, SAMPLE_F};
-use differential::files::MAX_BUNDLE;
+use differential::files::MAX_BUNDLE_SIZE;
 use differential::judging::judge;
 use differential::nets::{small_certified, Certified};
 use differential::places::{first_refused, Place};
@@ -202,7 +202,7 @@ fn bytes_behind_the_last_place() {
         let kind = run.rng.choose(&Kind::ALL);
         let word = kind.word(&mut run.rng, &bundle);
         let expected = screen(&mut run, head, &word);
-        let left = MAX_BUNDLE - head.len();
+        let left = MAX_BUNDLE_SIZE - head.len();
         let any = run.rng.within(2..=left - 1);
         for behind in [1, 2, any, left] {
             for noise in [vec![0; behind], vec![255; behind], run.rng.bytes(behind)] {

@@ -3,7 +3,7 @@
 
 use differential::bundle_faults::{altered, refusal_of_cut, BundleFault};
 use differential::bundles::{Bundle, Field, Place, MAX_PLACES, SAMPLE_A, SAMPLE_E};
-use differential::logs::{random_word, MAX_EVENTS, TABLE};
+use differential::logs::{random_word, MAX_LOG_EVENTS, TABLE};
 use differential::nets::{small_certified, Certified};
 use differential::run::{refusal, Run};
 use differential::screening::{any_net, screen, Kind};
@@ -192,7 +192,7 @@ fn events_up_to_the_limit() {
     let mut run = Run::start("screen_faults::events_up_to_the_limit");
     for _ in 0..run.cases(200) {
         let (net, _) = any_net(&mut run.rng);
-        let events = MAX_EVENTS - run.rng.choose(&[0, 0, 1, 2, 20]);
+        let events = MAX_LOG_EVENTS - run.rng.choose(&[0, 0, 1, 2, 20]);
         let words = words_of(&mut run, net.n, events);
         let most = Bundle { words, ..net };
         let word = any_word(&mut run, &most);
@@ -205,7 +205,7 @@ fn events_up_to_the_limit() {
         }
 
         // One event too many, in a word that is there, is cut or has a wrong event.
-        let left = MAX_EVENTS - events;
+        let left = MAX_LOG_EVENTS - events;
         let mut longer = most.clone();
         let mut last = vec![0; left + run.rng.choose(&[1, 1, 2, 200])];
         let position = run.rng.below(last.len());

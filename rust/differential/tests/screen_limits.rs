@@ -1,11 +1,11 @@
 //! Screening: the longest words, the largest nets and the largest numbers.
 
 use differential::bundles::{Bundle, Place, MAX_PLACES};
-use differential::files::MAX_BUNDLE;
+use differential::files::MAX_BUNDLE_SIZE;
 use differential::limits::{LARGEST, MOST_WORDS};
-use differential::logs::{random_word, COUNTS};
+use differential::logs::{random_word, MAX_EVENTS};
 use differential::run::{refusal, Run};
-use differential::screening::{screen, stopped, MAX_WORD};
+use differential::screening::{screen, stopped, MAX_WORD_EVENTS};
 use reference::Screened;
 
 /// A bundle without words and certificates.
@@ -32,19 +32,19 @@ fn over_one_event(m: u16, puts: u16, takes: u16) -> Place {
 #[test]
 fn positions_of_the_longest_word() {
     let mut run = Run::start("positions_of_the_longest_word");
-    let longest = vec![0; MAX_WORD];
+    let longest = vec![0; MAX_WORD_EVENTS];
     for m in [
         0, 1, 2, 254, 255, 256, 257, 32_767, 32_768, 65_279, 65_280, 65_533, 65_534, 65_535,
     ] {
         let bytes = net(1, vec![over_one_event(m, 0, 1)]).bytes();
         let outcome = screen(&mut run, &bytes, &longest);
         let expected = match usize::from(m) {
-            MAX_WORD => Ok(Screened::Permitted),
+            MAX_WORD_EVENTS => Ok(Screened::Permitted),
             position => stopped(position, 0),
         };
         assert_eq!(outcome, expected, "{run}");
-        let too_long = screen(&mut run, &bytes, &vec![0; MAX_WORD + 1]);
-        assert_eq!(too_long, refusal(14, MAX_WORD), "{run}");
+        let too_long = screen(&mut run, &bytes, &vec![0; MAX_WORD_EVENTS + 1]);
+        assert_eq!(too_long, refusal(14, MAX_WORD_EVENTS), "{run}");
     }
     run.finish_with_classes(&[(0, 14), (14, 14)], &[("permitted", 1), ("stopped", 13)]);
 }
@@ -64,8 +64,8 @@ fn wrong_events_in_the_longest_word() {
         let bytes = net(n, vec![refusing]).bytes();
         for position in [0, 1, 255, 256, 65_533, 65_534] {
             for behind in [0, 1, 300] {
-                let mut word = random_word(&mut run.rng, n, MAX_WORD..=MAX_WORD);
-                let end = (position + behind).min(MAX_WORD - 1);
+                let mut word = random_word(&mut run.rng, n, MAX_WORD_EVENTS..=MAX_WORD_EVENTS);
+                let end = (position + behind).min(MAX_WORD_EVENTS - 1);
                 word[end] = 255;
                 word[position] = run.rng.choose(&[n as u8, 13, 128, 255]);
                 let outcome = screen(&mut run, &bytes, &word);
@@ -96,7 +96,7 @@ fn largest_numbers() {
         (1, largest, 1, permitted),
     ] {
         let bytes = net(1, vec![over_one_event(m, puts, takes)]).bytes();
-        let outcome = screen(&mut run, &bytes, &vec![0; MAX_WORD]);
+        let outcome = screen(&mut run, &bytes, &vec![0; MAX_WORD_EVENTS]);
         assert_eq!(outcome, expected, "{m} {puts} {takes}, {run}");
     }
 
@@ -127,12 +127,12 @@ fn largest_numbers() {
 #[test]
 fn largest_net() {
     let mut run = Run::start("largest_net");
-    let word = random_word(&mut run.rng, COUNTS, MAX_WORD..=MAX_WORD);
+    let word = random_word(&mut run.rng, MAX_EVENTS, MAX_WORD_EVENTS..=MAX_WORD_EVENTS);
     for _ in 0..run.cases(6) {
         // Each event puts in at least as many tokens as it takes out.
         let mut places = Vec::new();
         for _ in 0..MAX_PLACES {
-            let outs: Vec<u16> = (0..COUNTS)
+            let outs: Vec<u16> = (0..MAX_EVENTS)
                 .map(|_| run.rng.within(0..=30_000) as u16)
                 .collect();
             let more = |out: &u16| out + run.rng.within(0..=30_000) as u16;
@@ -140,7 +140,7 @@ fn largest_net() {
             let m = 30_000;
             places.push(Place { m, ins, outs });
         }
-        let outcome = run.screen(&net(COUNTS, places.clone()).bytes(), &word);
+        let outcome = run.screen(&net(MAX_EVENTS, places.clone()).bytes(), &word);
         assert_eq!(outcome, Ok(Screened::Permitted), "{run}");
 
         // One place has tokens only up to a position, and all places behind it up to
@@ -151,11 +151,11 @@ fn largest_net() {
             let ends = position + number - place;
             *other = Place {
                 m: ends as u16,
-                ins: vec![0; COUNTS],
-                outs: vec![1; COUNTS],
+                ins: vec![0; MAX_EVENTS],
+                outs: vec![1; MAX_EVENTS],
             };
         }
-        let bytes = net(COUNTS, places).bytes();
+        let bytes = net(MAX_EVENTS, places).bytes();
         assert_eq!(run.screen(&bytes, &word), stopped(position, place), "{run}");
     }
     run.finish_with_classes(&[(0, 12)], &[("permitted", 6), ("stopped", 6)]);
@@ -169,12 +169,12 @@ fn largest_bundles() {
     for size in [LARGEST, MOST_WORDS] {
         let bundle = size.certified(&mut run.rng).bundle;
         let bytes = bundle.bytes();
-        assert_eq!(bytes.len(), MAX_BUNDLE);
+        assert_eq!(bytes.len(), MAX_BUNDLE_SIZE);
         for word in &bundle.words {
             let outcome = run.screen(&bytes, word);
             assert_eq!(outcome, Ok(Screened::Permitted), "{word:?}, {run}");
         }
-        let outcome = screen(&mut run, &bytes, &vec![0; MAX_WORD]);
+        let outcome = screen(&mut run, &bytes, &vec![0; MAX_WORD_EVENTS]);
         let position = outcome.map(|screened| match screened {
             Screened::Permitted => None,
             Screened::Stopped { position, .. } => Some(position),

@@ -2,10 +2,10 @@
 
 use differential::bundle_faults::{refusal_of_cut, write_value};
 use differential::bundles::{Field, Layout, SAMPLE_A, SAMPLE_E, SAMPLE_H};
-use differential::files::MAX_BUNDLE;
+use differential::files::MAX_BUNDLE_SIZE;
 use differential::limits::Size;
 use differential::run::{refusal, Outcome, Run};
-use differential::screening::{screen, MAX_WORD};
+use differential::screening::{screen, MAX_WORD_EVENTS};
 use reference::{Refusal, Screened};
 use std::ops::Range;
 
@@ -149,12 +149,12 @@ fn events_come_before_the_replay() {
 #[test]
 fn lengths_come_first() {
     let mut run = Run::start("screen_order::lengths_come_first");
-    let too_long = [SAMPLE_A.as_slice(), &[0; MAX_BUNDLE]].concat();
+    let too_long = [SAMPLE_A.as_slice(), &[0; MAX_BUNDLE_SIZE]].concat();
     let six = |spot| refusal(6, spot);
     // The answers to the word 1 0 of each bundle.
     let bundles: [(&[u8], Outcome<Screened>); 9] = [
         (&[], refusal(4, 0)),
-        (&too_long[..MAX_BUNDLE + 1], refusal(4, 0)),
+        (&too_long[..MAX_BUNDLE_SIZE + 1], refusal(4, 0)),
         (&too_long, refusal(4, 0)),
         (&SAMPLE_A[..1], six(1)),
         (&SAMPLE_A[..28], six(27)),
@@ -168,14 +168,19 @@ fn lengths_come_first() {
             }),
         ),
         (
-            &too_long[..MAX_BUNDLE],
+            &too_long[..MAX_BUNDLE_SIZE],
             Ok(Screened::Stopped {
                 position: 1,
                 place: 0,
             }),
         ),
     ];
-    for length in [MAX_WORD + 1, MAX_WORD + 2, 2 * MAX_WORD + 1, 1 << 17] {
+    for length in [
+        MAX_WORD_EVENTS + 1,
+        MAX_WORD_EVENTS + 2,
+        2 * MAX_WORD_EVENTS + 1,
+        1 << 17,
+    ] {
         for (bundle, _) in bundles {
             for event in [0, 1, 255] {
                 let outcome = screen(&mut run, bundle, &vec![event; length]);

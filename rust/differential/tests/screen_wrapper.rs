@@ -2,7 +2,6 @@
 
 use differential::bundle_faults::altered;
 use differential::bundles::{Field, SAMPLE_A};
-use differential::files::MAX_BUNDLE;
 use differential::nets::small_certified;
 use differential::run::{Outcome, Run};
 use differential::screening::{any_net, Kind};
@@ -35,7 +34,7 @@ fn any_call(run: &mut Run) -> (Vec<u8>, Vec<u8>) {
     }
     let bytes = match run.rng.below(10) {
         0 => {
-            let length = run.rng.choose(&[0, MAX_BUNDLE + 1]);
+            let length = run.rng.choose(&[0, MAX_BUNDLE_SIZE + 1]);
             run.rng.bytes(length)
         }
         1..=3 => altered(&mut run.rng, &bundle),

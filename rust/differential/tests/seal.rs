@@ -1,6 +1,6 @@
 //! Sealing: bundles of every kind of length.
 
-use differential::files::{build, Filling, CONTENTS, MAX_BLOCKS, MAX_BUNDLE};
+use differential::files::{build, Filling, CONTENTS, MAX_BLOCKS, MAX_BUNDLE_SIZE};
 use differential::run::{output_lengths, refusal, Run};
 
 /// Seals a bundle with outputs of several lengths.
@@ -8,7 +8,7 @@ fn seal(run: &mut Run, bundle: &[u8]) {
     let file = build(bundle);
     for output_len in output_lengths(&mut run.rng, file.len()) {
         let done = run.seal(bundle, output_len);
-        if bundle.is_empty() || bundle.len() > MAX_BUNDLE {
+        if bundle.is_empty() || bundle.len() > MAX_BUNDLE_SIZE {
             assert_eq!(done.outcome, refusal(4, 0), "{run}");
         } else if output_len < file.len() {
             assert_eq!(done.outcome, refusal(3, file.len()), "{run}");
@@ -56,8 +56,8 @@ fn random_lengths() {
     let mut run = Run::start("random_lengths");
     for _ in 0..run.cases(200) {
         let one_block = run.rng.within(1..=CONTENTS);
-        let any = run.rng.within(1..=MAX_BUNDLE);
-        let too_long = run.rng.within(MAX_BUNDLE + 1..=3 * MAX_BUNDLE);
+        let any = run.rng.within(1..=MAX_BUNDLE_SIZE);
+        let too_long = run.rng.within(MAX_BUNDLE_SIZE + 1..=3 * MAX_BUNDLE_SIZE);
         for length in [one_block, any, too_long] {
             let filling = run.rng.choose(&Filling::ALL);
             let bundle = filling.bundle(&mut run.rng, length);

@@ -2,8 +2,8 @@
 //! of any length.
 
 use differential::logs::{
-    counts_at, counts_of, mask_at, random_word, take_step_by_step, Contents, COUNTS, MAX_EVENTS,
-    MAX_ROWS, ROW, TABLE, WRONG_EVENTS, WRONG_N, WRONG_ROWS,
+    counts_at, counts_of, mask_at, random_word, take_step_by_step, Contents, MAX_EVENTS,
+    MAX_LOG_EVENTS, MAX_ROWS, ROW, TABLE, WRONG_EVENTS, WRONG_N, WRONG_ROWS,
 };
 use differential::run::{refusal, Outcome, Run};
 use reference::Summary;
@@ -31,7 +31,7 @@ fn random_summary(run: &mut Run, n: usize, length: usize) -> Summary {
     Summary {
         n,
         rows: run.rng.choose(&[any, any, nearly_full]),
-        events: run.rng.within(0..=MAX_EVENTS - length),
+        events: run.rng.within(0..=MAX_LOG_EVENTS - length),
     }
 }
 
@@ -65,7 +65,7 @@ fn note_cases(run: &mut Run, summary: Summary, word: &[u8], table: &[u16]) {
                 run.note("a new row where a mask was");
             }
             appended += 1;
-        } else if mask_at(table, lowest) >= 1 << COUNTS {
+        } else if mask_at(table, lowest) >= 1 << MAX_EVENTS {
             run.note("a mask with bits from 12 on");
         }
     }
@@ -77,7 +77,7 @@ fn tables_of_any_contents() {
     let mut run = Run::start("tables_of_any_contents");
     for contents in Contents::ALL {
         for _ in 0..run.cases(1_500) {
-            let n = run.rng.within(1..=COUNTS);
+            let n = run.rng.within(1..=MAX_EVENTS);
             let longest = run.rng.choose(&[3, 8, 30, 150]);
             let word = random_word(&mut run.rng, n, 0..=longest);
             let length = TABLE + run.rng.choose(&[0, 0, 1, 500]);
@@ -191,7 +191,7 @@ fn rows_by_hand() {
 fn wrong_summaries() {
     let mut run = Run::start("wrong_summaries");
     for _ in 0..run.cases(20) {
-        let n = run.rng.within(1..=COUNTS);
+        let n = run.rng.within(1..=MAX_EVENTS);
         let right = random_summary(&mut run, n, 0);
         let wrong_n = WRONG_N.map(|n| Summary { n, ..right });
         let wrong_rows = WRONG_ROWS.map(|rows| Summary { rows, ..right });
@@ -215,12 +215,12 @@ fn wrong_summaries() {
 #[test]
 fn right_summaries() {
     let mut run = Run::start("right_summaries");
-    for n in 1..=COUNTS {
+    for n in 1..=MAX_EVENTS {
         for rows in [1, 2, 255, 256] {
             for events in [0, 1, 1_023, 1_024] {
                 // Row 0 is that of the empty prefix.
                 let mut table: Vec<u16> = run.rng.items(TABLE);
-                table[..COUNTS].fill(0);
+                table[..MAX_EVENTS].fill(0);
                 let summary = Summary { n, rows, events };
                 let after = expect(&mut run, summary, &[], &table, Ok(summary));
                 assert!(after == table, "the table changed: {run}");
@@ -246,7 +246,7 @@ fn table_lengths() {
             65_536,
             65_536 + 3_327,
         ] {
-            let n = run.rng.within(1..=COUNTS);
+            let n = run.rng.within(1..=MAX_EVENTS);
             let word = random_word(&mut run.rng, n, 0..=10);
             let mut table: Vec<u16> = run.rng.items(length);
             if length < TABLE {
@@ -279,19 +279,19 @@ fn long_words() {
             256, 257, 1_023, 1_024, 1_025, 1_026, 2_000, 65_535, 65_536, 65_539, 66_560, 131_072,
         ] {
             let summary = Summary {
-                n: run.rng.within(1..=COUNTS),
+                n: run.rng.within(1..=MAX_EVENTS),
                 rows: 1,
                 events: 0,
             };
             let mut word = random_word(&mut run.rng, summary.n, length..=length);
-            let expected = refusal(if length > MAX_EVENTS { 8 } else { 9 }, 0);
+            let expected = refusal(if length > MAX_LOG_EVENTS { 8 } else { 9 }, 0);
             expect(&mut run, summary, &word, &table, expected);
 
             // Two wrong events: the first is named, if the length is allowed.
             let (first, second) = run.rng.two_below(length);
             word[first] = run.rng.within(summary.n..=255) as u8;
             word[second] = run.rng.within(summary.n..=255) as u8;
-            let expected = if length > MAX_EVENTS {
+            let expected = if length > MAX_LOG_EVENTS {
                 refusal(8, 0)
             } else {
                 refusal(7, first)
@@ -301,7 +301,7 @@ fn long_words() {
             // With more events before, fewer are left.
             let events = run
                 .rng
-                .within(MAX_EVENTS.saturating_sub(length) + 1..=MAX_EVENTS);
+                .within(MAX_LOG_EVENTS.saturating_sub(length) + 1..=MAX_LOG_EVENTS);
             let summary = Summary { events, ..summary };
             expect(&mut run, summary, &word, &table, refusal(8, 0));
         }
@@ -322,7 +322,7 @@ fn order_of_refusals() {
                 .any(|(&o, i)| o == number && set >> i & 1 == 1)
         };
         for _ in 0..run.cases(100) {
-            let n = run.rng.within(1..=COUNTS);
+            let n = run.rng.within(1..=MAX_EVENTS);
             let mut word = random_word(&mut run.rng, n, 1..=200);
             // No row has the counts of a prefix, so each needs a new one.
             let mut table = vec![run.rng.within(201..=65_535) as u16; TABLE];
@@ -335,9 +335,10 @@ fn order_of_refusals() {
                     run.rng.within(1..=room)
                 },
                 events: if has(8) {
-                    run.rng.within(MAX_EVENTS - word.len() + 1..=MAX_EVENTS)
+                    run.rng
+                        .within(MAX_LOG_EVENTS - word.len() + 1..=MAX_LOG_EVENTS)
                 } else {
-                    run.rng.within(0..=MAX_EVENTS - word.len())
+                    run.rng.within(0..=MAX_LOG_EVENTS - word.len())
                 },
             };
             let first_wrong = run.rng.below(word.len());

@@ -1,7 +1,7 @@
 //! The cases of `tests/data/base.txt`: opening and then judging, and screening, on
 //! both sides.
 
-use differential::files::MAX_BUNDLE;
+use differential::files::MAX_BUNDLE_SIZE;
 use differential::judging::judge;
 use differential::run::Run;
 use differential::screening::screen;
@@ -16,7 +16,7 @@ fn base() {
     let mut run = Run::start("vectors::base");
     let cases = cases().judge;
     for case in &cases {
-        let opened = run.open(&case.file, MAX_BUNDLE);
+        let opened = run.open(&case.file, MAX_BUNDLE_SIZE);
         let answer = opened
             .outcome
             .and_then(|length| judge(&mut run, &opened.output[..length]));

@@ -1,9 +1,10 @@
 //! The safe calls: results and errors, against the reference.
 
 use differential::faults::{BlockFault, LengthFault};
-use differential::files::{build, random_bundle, MAX_BUNDLE};
+use differential::files::{build, random_bundle, MAX_BUNDLE_SIZE};
 use differential::logs::{
-    random_word, Contents, COUNTS, MAX_EVENTS, MAX_ROWS, TABLE, WRONG_EVENTS, WRONG_N, WRONG_ROWS,
+    random_word, Contents, MAX_EVENTS, MAX_LOG_EVENTS, MAX_ROWS, TABLE, WRONG_EVENTS, WRONG_N,
+    WRONG_ROWS,
 };
 use differential::run::{output_lengths, Outcome, Run};
 use hovmekhar::{Refusal, Summary, TABLE_SIZE};
@@ -35,8 +36,10 @@ fn any_file(run: &mut Run) -> Vec<u8> {
 fn any_bundle(run: &mut Run) -> Vec<u8> {
     match run.rng.below(4) {
         0 => {
-            let too_long = run.rng.within(MAX_BUNDLE + 1..=MAX_BUNDLE + 1_000);
-            let length = run.rng.choose(&[0, MAX_BUNDLE + 1, too_long]);
+            let too_long = run
+                .rng
+                .within(MAX_BUNDLE_SIZE + 1..=MAX_BUNDLE_SIZE + 1_000);
+            let length = run.rng.choose(&[0, MAX_BUNDLE_SIZE + 1, too_long]);
             run.rng.bytes(length)
         }
         _ => random_bundle(&mut run.rng, 1),
@@ -134,8 +137,8 @@ fn any_table(run: &mut Run, n: usize, word: &[u8]) -> Vec<u16> {
 fn fresh_agrees() {
     let mut run = Run::start("fresh_agrees");
     for _ in 0..run.cases(1_000) {
-        let n = mostly_within(&mut run, 1..=COUNTS, &WRONG_N);
-        let mut table = any_table(&mut run, COUNTS, &[]);
+        let n = mostly_within(&mut run, 1..=MAX_EVENTS, &WRONG_N);
+        let mut table = any_table(&mut run, MAX_EVENTS, &[]);
         let fresh = run.fresh(n, &table);
 
         let result = Summary::fresh(n, &mut table);
@@ -150,7 +153,7 @@ fn fresh_agrees() {
 fn take_agrees() {
     let mut run = Run::start("take_agrees");
     for _ in 0..run.cases(2_000) {
-        let n = run.rng.within(1..=COUNTS);
+        let n = run.rng.within(1..=MAX_EVENTS);
         let length = run.rng.choose(&[5, 20, 200]);
         let mut word = random_word(&mut run.rng, n, 0..=length);
         let mut table = any_table(&mut run, n, &word);
@@ -160,7 +163,7 @@ fn take_agrees() {
         let summary = Summary {
             n: mostly_within(&mut run, n..=n, &WRONG_N),
             rows: mostly_within(&mut run, 1..=MAX_ROWS, &WRONG_ROWS),
-            events: mostly_within(&mut run, 0..=MAX_EVENTS, &WRONG_EVENTS),
+            events: mostly_within(&mut run, 0..=MAX_LOG_EVENTS, &WRONG_EVENTS),
         };
         let taken = run.take(reference_summary(summary), &word, &table);
 
@@ -212,13 +215,13 @@ fn refusals_are_errors() -> Result<(), Box<dyn Error>> {
     for (result, number, spot) in [
         (
             Summary::fresh(3, &mut table[1..]),
-            Refusal::TABLE_SHORT,
+            Refusal::NUMBERS_SHORT,
             3_328,
         ),
-        (Summary::fresh(0, &mut table), Refusal::SUMMARY, 0),
+        (Summary::fresh(0, &mut table), Refusal::STATE_RANGE, 0),
         (
             summary.take(&[0], &mut table[1..]),
-            Refusal::TABLE_SHORT,
+            Refusal::NUMBERS_SHORT,
             3_328,
         ),
         (summary.take(&[0, 2, 3], &mut table), Refusal::VALUE, 2),
@@ -226,7 +229,7 @@ fn refusals_are_errors() -> Result<(), Box<dyn Error>> {
         (summary.take(&[0; 256], &mut table), Refusal::ROWS, 0),
         (
             Summary { rows: 0, ..summary }.take(&[0], &mut table),
-            Refusal::SUMMARY,
+            Refusal::STATE_RANGE,
             0,
         ),
     ] {

@@ -3,7 +3,7 @@
 //! Run with `cargo run --example gate -- FILE EVENT...`. Opens the sealed file,
 //! judges its bundle, and screens the word of the events.
 
-use hovmekhar::{Counts, Screened};
+use hovmekhar::{Screened, Tally};
 use std::error::Error;
 use std::process::ExitCode;
 use std::{env, fs};
@@ -29,7 +29,7 @@ fn show(path: &str, events: impl Iterator<Item = String>) -> Result<(), Box<dyn 
 
     // A refusal has a number, a spot and a sentence, and is an error like others.
     let bundle = hovmekhar::open_vec(&fs::read(path)?)?;
-    let Counts {
+    let Tally {
         rows,
         allowed,
         by_place,

@@ -48,6 +48,16 @@ unsafe extern "C" {
         answer: *mut u64,
     ) -> u32;
 
+    fn hov_judge_file(
+        file: *const u8,
+        file_len: usize,
+        output: *mut u8,
+        output_len: usize,
+        table: *mut u16,
+        table_len: usize,
+        answer: *mut u64,
+    ) -> u32;
+
     fn hov_screen(
         bundle: *const u8,
         bundle_len: usize,
@@ -129,6 +139,23 @@ pub fn judge(bundle: &[u8], table: &mut [u16], answer: &mut Answer) -> u32 {
         hov_judge(
             bundle.as_ptr(),
             bundle.len(),
+            table.as_mut_ptr(),
+            table.len(),
+            answer.as_mut_ptr(),
+        )
+    }
+}
+
+/// Calls `hov_judge_file`.
+pub fn judge_file(file: &[u8], output: &mut [u8], table: &mut [u16], answer: &mut Answer) -> u32 {
+    // SAFETY: As for `hov_open`, with the table as a further exclusive slice. Its
+    // length is in numbers, and any contents of it are allowed.
+    unsafe {
+        hov_judge_file(
+            file.as_ptr(),
+            file.len(),
+            output.as_mut_ptr(),
+            output.len(),
             table.as_mut_ptr(),
             table.len(),
             answer.as_mut_ptr(),

@@ -1,11 +1,17 @@
 //! Judging.
 
 use crate::ffi::{self, Answer};
-use crate::{Refusal, ROW_SIZE, TABLE_SIZE};
+use crate::{Refusal, MAX_BUNDLE_SIZE, ROW_SIZE, TABLE_SIZE};
+
+/// The largest number of places in a net.
+pub const MAX_PLACES: usize = 64;
+
+/// The largest number of terms in a certificate of kind 1.
+pub const MAX_TERMS: usize = 64;
 
 /// The counts of an accepted bundle.
 #[derive(Clone, Copy, Debug, PartialEq, Eq)]
-pub struct Counts {
+pub struct Tally {
     /// The rows of the log.
     pub rows: usize,
     /// The allowed steps of the log: the bits that are set in the masks of its
@@ -29,17 +35,17 @@ pub struct Counts {
 ///
 /// # Errors
 ///
-/// [`Refusal::BUNDLE_LENGTH`], else [`Refusal::TABLE_SHORT`]; `table` is then as
+/// [`Refusal::BUNDLE_LENGTH`], else [`Refusal::NUMBERS_SHORT`]; `table` is then as
 /// it was.
 ///
 /// Else the first of these that applies in the order of the bundle; the first
 /// [`TABLE_SIZE`] numbers of `table` are then zero and the rest is as it was:
 /// [`Refusal::BUNDLE_END`], [`Refusal::VALUE`], [`Refusal::EVENTS`],
-/// [`Refusal::ROWS`], [`Refusal::PLACE_FIT`], [`Refusal::PLACE_PERMITS`],
+/// [`Refusal::ROWS`], [`Refusal::PLACE_MISFIT`], [`Refusal::PLACE_PERMITS`],
 /// [`Refusal::WEIGHTS`], [`Refusal::BYTES_FOLLOW`].
 ///
 /// ```
-/// use hovmekhar::{Counts, ROW_SIZE, TABLE_SIZE};
+/// use hovmekhar::{Tally, ROW_SIZE, TABLE_SIZE};
 ///
 /// let bundle = [
 ///     // Two events and the words 1 and 0 0 1.
@@ -61,7 +67,7 @@ pub struct Counts {
 /// let counts = hovmekhar::judge(&bundle, &mut table)?;
 /// assert_eq!(
 ///     counts,
-///     Counts { rows: 5, allowed: 4, by_place: 5, by_weights: 1 }
+///     Tally { rows: 5, allowed: 4, by_place: 5, by_weights: 1 }
 /// );
 ///
 /// // Row 3 counts two events 0, and event 1 follows. Behind row 4 are zeros.
@@ -81,18 +87,10 @@ pub struct Counts {
 /// assert_eq!(refusal, Refusal { number: Refusal::WEIGHTS, spot: 0 });
 /// assert_eq!(table[TABLE_SIZE - 1..], [0, 9]);
 /// ```
-pub fn judge(bundle: &[u8], table: &mut [u16]) -> Result<Counts, Refusal> {
+pub fn judge(bundle: &[u8], table: &mut [u16]) -> Result<Tally, Refusal> {
     let mut answer = Answer::default();
     let number = ffi::judge(bundle, table, &mut answer);
-    Refusal::check(number, answer)?;
-    // `usize` has 64 bits here, so the conversions keep the values.
-    let [rows, allowed, by_place, by_weights] = answer.map(|number| number as usize);
-    Ok(Counts {
-        rows,
-        allowed,
-        by_place,
-        by_weights,
-    })
+    counts_or_refusal(number, answer)
 }
 
 /// Judges a bundle, and returns the counts and the rows of its log, with
@@ -100,7 +98,7 @@ pub fn judge(bundle: &[u8], table: &mut [u16]) -> Result<Counts, Refusal> {
 ///
 /// # Errors
 ///
-/// As for [`judge`], without [`Refusal::TABLE_SHORT`].
+/// As for [`judge`], without [`Refusal::NUMBERS_SHORT`].
 ///
 /// ```
 /// // One event and no word. The place has no token and the event takes one.
@@ -109,9 +107,71 @@ pub fn judge(bundle: &[u8], table: &mut [u16]) -> Result<Counts, Refusal> {
 /// assert_eq!(rows, [0; hovmekhar::ROW_SIZE]);
 /// # Ok::<(), hovmekhar::Refusal>(())
 /// ```
-pub fn judge_vec(bundle: &[u8]) -> Result<(Counts, Vec<u16>), Refusal> {
+pub fn judge_vec(bundle: &[u8]) -> Result<(Tally, Vec<u16>), Refusal> {
     let mut table = vec![0; TABLE_SIZE];
     let counts = judge(bundle, &mut table)?;
     table.truncate(counts.rows * ROW_SIZE);
     Ok((counts, table))
+}
+
+/// Opens a sealed file and judges its bundle, which is then in front of `output`;
+/// the rest of `output` stays as it was. The table is as [`judge`] leaves it.
+///
+/// An output of [`MAX_BUNDLE_SIZE`] bytes is long enough for every file.
+///
+/// # Errors
+///
+/// As for [`open`](crate::open); `output` and `table` are then as they were. Else
+/// as for [`judge`], with the bundle in front of `output`.
+///
+/// ```
+/// use hovmekhar::{Refusal, MAX_BUNDLE_SIZE, TABLE_SIZE};
+///
+/// // One event and no word. The place has no token and the event takes one.
+/// let bundle = [1, 0, 1, 0, 0, 0, 0, 1, 0, 0, 0];
+/// let mut file = hovmekhar::seal_vec(&bundle)?;
+/// let mut output = [9; MAX_BUNDLE_SIZE];
+/// let mut table = [9; TABLE_SIZE];
+/// let counts = hovmekhar::judge_file(&file, &mut output, &mut table)?;
+/// assert_eq!(counts.by_place, 1);
+/// assert_eq!(output[..bundle.len()], bundle);
+///
+/// file[4] ^= 1;
+/// let refusal = hovmekhar::judge_file(&file, &mut output, &mut table).unwrap_err();
+/// assert_eq!(refusal, Refusal { number: Refusal::BLOCK, spot: 0 });
+/// # Ok::<(), Refusal>(())
+/// ```
+pub fn judge_file(file: &[u8], output: &mut [u8], table: &mut [u16]) -> Result<Tally, Refusal> {
+    let mut answer = Answer::default();
+    let number = ffi::judge_file(file, output, table, &mut answer);
+    counts_or_refusal(number, answer)
+}
+
+/// Judges a sealed file, and returns the counts and the rows of its log, with
+/// [`ROW_SIZE`] numbers for each.
+///
+/// # Errors
+///
+/// As for [`judge_file`], without [`Refusal::OUTPUT_SHORT`] and
+/// [`Refusal::NUMBERS_SHORT`].
+pub fn judge_file_vec(file: &[u8]) -> Result<(Tally, Vec<u16>), Refusal> {
+    let mut bundle = vec![0; MAX_BUNDLE_SIZE];
+    let mut table = vec![0; TABLE_SIZE];
+    let counts = judge_file(file, &mut bundle, &mut table)?;
+    table.truncate(counts.rows * ROW_SIZE);
+    Ok((counts, table))
+}
+
+/// Reads what a call of the library returned: 0 and four counts, or a refusal's
+/// number and spot.
+fn counts_or_refusal(number: u32, answer: Answer) -> Result<Tally, Refusal> {
+    Refusal::check(number, answer)?;
+    // `usize` has 64 bits here, so the conversions keep the values.
+    let [rows, allowed, by_place, by_weights] = answer.map(|number| number as usize);
+    Ok(Tally {
+        rows,
+        allowed,
+        by_place,
+        by_weights,
+    })
 }

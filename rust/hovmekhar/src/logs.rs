@@ -61,7 +61,7 @@ impl Summary {
     /// # Errors
     ///
     /// The first of these that applies; `table` is then as it was:
-    /// [`Refusal::TABLE_SHORT`], [`Refusal::SUMMARY`].
+    /// [`Refusal::NUMBERS_SHORT`], [`Refusal::STATE_RANGE`].
     ///
     /// ```
     /// use hovmekhar::{Refusal, Summary, TABLE_SIZE};
@@ -72,7 +72,7 @@ impl Summary {
     /// assert_eq!(table[TABLE_SIZE - 1..], [0, 9]);
     ///
     /// let refusal = Summary::fresh(13, &mut table).unwrap_err();
-    /// assert_eq!(refusal.number, Refusal::SUMMARY);
+    /// assert_eq!(refusal.number, Refusal::STATE_RANGE);
     /// # Ok::<(), Refusal>(())
     /// ```
     pub fn fresh(n: usize, table: &mut [u16]) -> Result<Summary, Refusal> {
@@ -96,7 +96,7 @@ impl Summary {
     /// # Errors
     ///
     /// The first of these that applies; `table` is then as it was, so the log can
-    /// go on with another word: [`Refusal::TABLE_SHORT`], [`Refusal::SUMMARY`],
+    /// go on with another word: [`Refusal::NUMBERS_SHORT`], [`Refusal::STATE_RANGE`],
     /// [`Refusal::EVENTS`], [`Refusal::VALUE`], [`Refusal::ROWS`].
     ///
     /// ```

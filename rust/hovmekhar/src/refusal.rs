@@ -32,7 +32,7 @@ impl Refusal {
     /// The bundle's length is 0 or above 64,512. Spot: 0.
     pub const BUNDLE_LENGTH: u8 = 4;
     /// The table has fewer than 3,328 numbers. Spot: 3,328.
-    pub const TABLE_SHORT: u8 = 5;
+    pub const NUMBERS_SHORT: u8 = 5;
     /// The bundle ends before or inside a field. Spot: the field's offset.
     pub const BUNDLE_END: u8 = 6;
     /// A value is outside its range, or names a row, event or place that is not
@@ -44,7 +44,7 @@ impl Refusal {
     /// The rows would pass 256. Spot: as for [`Refusal::EVENTS`].
     pub const ROWS: u8 = 9;
     /// A place does not fit. Spot: the lowest such place.
-    pub const PLACE_FIT: u8 = 10;
+    pub const PLACE_MISFIT: u8 = 10;
     /// The place that a certificate lists permits the wrong continuation.
     /// Spot: the certificate's number.
     pub const PLACE_PERMITS: u8 = 11;
@@ -60,7 +60,7 @@ impl Refusal {
     pub const WORD_EVENT: u8 = 15;
     /// A summary's event count is not 1 to 12, its rows are not 1 to 256, or its
     /// events are above 1,024. Spot: 0.
-    pub const SUMMARY: u8 = 16;
+    pub const STATE_RANGE: u8 = 16;
 
     /// Reads what a call of the library returned: 0 for a result, or a refusal's
     /// number, with the spot in the answer.
@@ -91,7 +91,7 @@ impl fmt::Display for Refusal {
             Self::BUNDLE_LENGTH => {
                 write!(f, "the bundle length is 0 or above 64,512 (spot {spot})")
             }
-            Self::TABLE_SHORT => write!(f, "the table is too short, {spot} numbers are needed"),
+            Self::NUMBERS_SHORT => write!(f, "the table is too short, {spot} numbers are needed"),
             Self::BUNDLE_END => write!(
                 f,
                 "the bundle ends before or inside the field at offset {spot}"
@@ -103,7 +103,7 @@ impl fmt::Display for Refusal {
             ),
             Self::EVENTS => write!(f, "the events would pass 1,024 (spot {spot})"),
             Self::ROWS => write!(f, "the rows would pass 256 (spot {spot})"),
-            Self::PLACE_FIT => write!(f, "place {spot} does not fit the log"),
+            Self::PLACE_MISFIT => write!(f, "place {spot} does not fit the log"),
             Self::PLACE_PERMITS => write!(
                 f,
                 "the place listed by certificate {spot} permits the wrong continuation"
@@ -123,7 +123,7 @@ impl fmt::Display for Refusal {
                 f,
                 "the event at position {spot} of the word is not below the event count"
             ),
-            Self::SUMMARY => write!(
+            Self::STATE_RANGE => write!(
                 f,
                 "the event count is not 1 to 12, the rows are not 1 to 256, \
                  or the events are above 1,024 (spot {spot})"

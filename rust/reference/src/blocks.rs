@@ -8,8 +8,8 @@ use std::ops::Range;
 
 const BLOCK: usize = 512;
 const CONTENTS: usize = 504;
-const MAX_FILE: usize = 128 * BLOCK;
-pub(crate) const MAX_BUNDLE: usize = 128 * CONTENTS;
+const MAX_FILE_SIZE: usize = 128 * BLOCK;
+pub(crate) const MAX_BUNDLE_SIZE: usize = 128 * CONTENTS;
 
 const NUMBER: Range<usize> = 0..2;
 const USED: Range<usize> = 2..4;
@@ -31,7 +31,7 @@ const MODULUS: u32 = 65_521;
 /// 1 when the file's length is wrong, 2 with the lowest block that breaks a
 /// rule, 3 with the length needed when `output` is shorter than the bundle.
 pub fn open(file: &[u8], output: &mut [u8]) -> Result<usize, Refusal> {
-    if file.is_empty() || file.len() % BLOCK != 0 || file.len() > MAX_FILE {
+    if file.is_empty() || file.len() % BLOCK != 0 || file.len() > MAX_FILE_SIZE {
         return Err(Refusal { number: 1, spot: 0 });
     }
 
@@ -68,7 +68,7 @@ pub fn open(file: &[u8], output: &mut [u8]) -> Result<usize, Refusal> {
 /// 4 when the bundle's length is wrong, 3 with the length needed when `output`
 /// is shorter than the file.
 pub fn seal(bundle: &[u8], output: &mut [u8]) -> Result<usize, Refusal> {
-    if bundle.is_empty() || bundle.len() > MAX_BUNDLE {
+    if bundle.is_empty() || bundle.len() > MAX_BUNDLE_SIZE {
         return Err(Refusal { number: 4, spot: 0 });
     }
 

@@ -3,17 +3,17 @@
 //! A bundle holds a log, places, and a certificate for each wrong continuation,
 //! in this order. It is read once, field by field.
 
-use crate::blocks::MAX_BUNDLE;
+use crate::blocks::{open, MAX_BUNDLE_SIZE};
 use crate::places::Place;
 use crate::reader::Reader;
-use crate::tables::{front, MASK, MAX_EVENTS, MAX_N, MAX_ROWS, ROW};
+use crate::tables::{front, MASK, MAX_EVENTS, MAX_LOG_EVENTS, MAX_ROWS, ROW};
 use crate::Refusal;
 
 const MAX_TERMS: u8 = 64;
 
 /// The counts of an accepted bundle.
 #[derive(Clone, Copy, Debug, PartialEq, Eq)]
-pub struct Counts {
+pub struct Tally {
     /// The rows of the log.
     pub rows: usize,
     /// The allowed steps of the log.
@@ -37,8 +37,8 @@ pub struct Counts {
 /// and 9 with the offset of a word's length, 10 with the number of a place, after
 /// all places are read, and 11 and 12 with the number of a certificate, after it
 /// is read.
-pub fn judge(bundle: &[u8], table: &mut [u16]) -> Result<Counts, Refusal> {
-    if bundle.is_empty() || bundle.len() > MAX_BUNDLE {
+pub fn judge(bundle: &[u8], table: &mut [u16]) -> Result<Tally, Refusal> {
+    if bundle.is_empty() || bundle.len() > MAX_BUNDLE_SIZE {
         return Err(Refusal { number: 4, spot: 0 });
     }
     let table = front(table)?;
@@ -50,8 +50,19 @@ pub fn judge(bundle: &[u8], table: &mut [u16]) -> Result<Counts, Refusal> {
     verdict
 }
 
-fn read(mut reader: Reader, table: &mut [u16]) -> Result<Counts, Refusal> {
-    let n = reader.byte(1..=MAX_N as u8)?;
+/// Opens a sealed file and judges its bundle, which is then in front of `output`.
+///
+/// # Errors
+///
+/// As for [`open`]; `output` and `table` are then as they were. Else as for
+/// [`judge`], with the bundle in front of `output`.
+pub fn judge_file(file: &[u8], output: &mut [u8], table: &mut [u16]) -> Result<Tally, Refusal> {
+    let length = open(file, output)?;
+    judge(&output[..length], table)
+}
+
+fn read(mut reader: Reader, table: &mut [u16]) -> Result<Tally, Refusal> {
+    let n = reader.byte(1..=MAX_EVENTS as u8)?;
     let log = Log::read(&mut reader, n, table)?;
     let net = Net::read(&mut reader, n, &log)?;
 
@@ -85,7 +96,7 @@ fn read(mut reader: Reader, table: &mut [u16]) -> Result<Counts, Refusal> {
         }
     }
     reader.finish()?;
-    Ok(Counts {
+    Ok(Tally {
         rows: log.rows(),
         allowed: log.allowed.len(),
         by_place,
@@ -119,7 +130,7 @@ impl<'t> Log<'t> {
     fn read(reader: &mut Reader, n: u8, table: &'t mut [u16]) -> Result<Self, Refusal> {
         let mut log = Self {
             table,
-            allowed: Vec::with_capacity(MAX_EVENTS),
+            allowed: Vec::with_capacity(MAX_LOG_EVENTS),
             origins: Vec::with_capacity(MAX_ROWS),
             last_of_length: [0; 256],
             before: Vec::with_capacity(MAX_ROWS),
@@ -138,7 +149,7 @@ impl<'t> Log<'t> {
     /// Takes a word, or a part of it where the rows would pass 256.
     fn take(&mut self, word: &[u8]) -> bool {
         let mut row = 0;
-        let mut counts = [0; MAX_N];
+        let mut counts = [0; MAX_EVENTS];
         for (length, &event) in (1..).zip(word) {
             let event = usize::from(event);
             let step = Step { row, event };
@@ -161,7 +172,7 @@ impl<'t> Log<'t> {
     }
 
     /// The row with these counts, which are those of a prefix of this length.
-    fn find(&self, length: usize, counts: &[u16; MAX_N]) -> Option<usize> {
+    fn find(&self, length: usize, counts: &[u16; MAX_EVENTS]) -> Option<usize> {
         let mut row = usize::from(self.last_of_length[length]);
         while row != 0 && self.counts(row) != counts {
             row = self.before[row].into();
@@ -169,7 +180,7 @@ impl<'t> Log<'t> {
         (row != 0).then_some(row)
     }
 
-    fn append(&mut self, length: usize, counts: &[u16; MAX_N], origin: Step) -> usize {
+    fn append(&mut self, length: usize, counts: &[u16; MAX_EVENTS], origin: Step) -> usize {
         let row = self.rows();
         self.table[row * ROW..][..MASK].copy_from_slice(counts);
         self.origins.push(origin);
@@ -183,7 +194,7 @@ impl<'t> Log<'t> {
         self.before.len()
     }
 
-    fn counts(&self, row: usize) -> &[u16; MAX_N] {
+    fn counts(&self, row: usize) -> &[u16; MAX_EVENTS] {
         self.table[row * ROW..]
             .first_chunk()
             .expect("a row has twelve counts")
@@ -262,9 +273,9 @@ struct Weights {
     /// The sum of g.
     total: u32,
     /// For each event i the sum of g × u(i).
-    before: [u32; MAX_N],
+    before: [u32; MAX_EVENTS],
     /// For each event i the sum of g over the terms with f = i.
-    of_event: [u32; MAX_N],
+    of_event: [u32; MAX_EVENTS],
 }
 
 impl Weights {
@@ -275,8 +286,8 @@ impl Weights {
             k: reader.number(1..)?.into(),
             all_allowed: true,
             total: 0,
-            before: [0; MAX_N],
-            of_event: [0; MAX_N],
+            before: [0; MAX_EVENTS],
+            of_event: [0; MAX_EVENTS],
         };
         for _ in 0..reader.byte(..=MAX_TERMS)? {
             // There are at most 256 rows.

@@ -1,7 +1,7 @@
 //! The places of a bundle.
 
 use crate::reader::Reader;
-use crate::tables::MAX_N;
+use crate::tables::MAX_EVENTS;
 use crate::Refusal;
 use std::ops::SubAssign;
 
@@ -11,8 +11,8 @@ const MAX_PLACES: u8 = 64;
 pub struct Place<T> {
     pub initial: T,
     /// For each event in - out.
-    pub change: [T; MAX_N],
-    pub out: [T; MAX_N],
+    pub change: [T; MAX_EVENTS],
+    pub out: [T; MAX_EVENTS],
 }
 
 impl<T: Copy + Default + From<u16> + SubAssign> Place<T> {
@@ -29,8 +29,8 @@ impl<T: Copy + Default + From<u16> + SubAssign> Place<T> {
     fn read(reader: &mut Reader, n: u8) -> Result<Self, Refusal> {
         let mut place = Self {
             initial: reader.number(..)?.into(),
-            change: [T::default(); MAX_N],
-            out: [T::default(); MAX_N],
+            change: [T::default(); MAX_EVENTS],
+            out: [T::default(); MAX_EVENTS],
         };
         for event in 0..usize::from(n) {
             place.change[event] = reader.number(..)?.into();

@@ -1,6 +1,6 @@
 //! Reading a bundle field by field.
 
-use crate::tables::MAX_EVENTS;
+use crate::tables::MAX_LOG_EVENTS;
 use crate::Refusal;
 use std::ops::RangeBounds;
 
@@ -89,7 +89,7 @@ impl<'b> Reader<'b> {
             let spot = self.offset;
             let length = self.byte(..)?.into();
             events += length;
-            if events > MAX_EVENTS {
+            if events > MAX_LOG_EVENTS {
                 return Err(Refusal { number: 8, spot });
             }
             take(self.events(length, n)?, spot)?;

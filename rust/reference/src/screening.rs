@@ -2,13 +2,13 @@
 //!
 //! A bundle is read up to its last place; then each place replays the word.
 
-use crate::blocks::MAX_BUNDLE;
+use crate::blocks::MAX_BUNDLE_SIZE;
 use crate::places::Place;
 use crate::reader::Reader;
-use crate::tables::MAX_N;
+use crate::tables::MAX_EVENTS;
 use crate::Refusal;
 
-const MAX_WORD: usize = 65_535;
+const MAX_WORD_EVENTS: usize = 65_535;
 
 /// What the places of a bundle say to a word.
 #[derive(Clone, Copy, Debug, PartialEq, Eq)]
@@ -33,18 +33,18 @@ pub enum Screened {
 /// of a field, 8 with the offset of a word's length. Else 15 with the first
 /// position of `word` whose event is not below the event count.
 pub fn screen(bundle: &[u8], word: &[u8]) -> Result<Screened, Refusal> {
-    if word.len() > MAX_WORD {
+    if word.len() > MAX_WORD_EVENTS {
         return Err(Refusal {
             number: 14,
-            spot: MAX_WORD,
+            spot: MAX_WORD_EVENTS,
         });
     }
-    if bundle.is_empty() || bundle.len() > MAX_BUNDLE {
+    if bundle.is_empty() || bundle.len() > MAX_BUNDLE_SIZE {
         return Err(Refusal { number: 4, spot: 0 });
     }
 
     let mut reader = Reader::new(bundle);
-    let n = reader.byte(1..=MAX_N as u8)?;
+    let n = reader.byte(1..=MAX_EVENTS as u8)?;
     // The words have to be sound, but are not needed.
     reader.words(n, |_, _| Ok(()))?;
     let places = Place::read_all(&mut reader, n)?;

@@ -7,19 +7,19 @@ use crate::Refusal;
 use std::collections::HashMap;
 use std::iter;
 
-pub(crate) const MAX_N: usize = 12;
-pub(crate) const MASK: usize = MAX_N;
-pub(crate) const ROW: usize = MAX_N + 1;
+pub(crate) const MAX_EVENTS: usize = 12;
+pub(crate) const MASK: usize = MAX_EVENTS;
+pub(crate) const ROW: usize = MAX_EVENTS + 1;
 pub(crate) const MAX_ROWS: usize = 256;
 const TABLE: usize = MAX_ROWS * ROW;
-pub(crate) const MAX_EVENTS: usize = 1_024;
+pub(crate) const MAX_LOG_EVENTS: usize = 1_024;
 
 /// How long a word is when it is worth a map of all rows. For a shorter one it is
 /// faster to compare each prefix with the rows.
 const WORTH_A_MAP: usize = 48;
 
 /// How often each event occurs in a prefix.
-type Counts = [u16; MAX_N];
+type Counts = [u16; MAX_EVENTS];
 
 /// How far a log table is filled.
 #[derive(Clone, Copy, Debug, PartialEq, Eq)]
@@ -67,7 +67,7 @@ pub fn take(summary: Summary, word: &[u8], table: &mut [u16]) -> Result<Summary,
     let table = front(table)?;
     check(summary)?;
     let Summary { n, rows, events } = summary;
-    if word.len() > MAX_EVENTS - events {
+    if word.len() > MAX_LOG_EVENTS - events {
         return Err(Refusal { number: 8, spot: 0 });
     }
     if let Some(spot) = word.iter().position(|&event| usize::from(event) >= n) {
@@ -130,7 +130,7 @@ fn rows_used(word: &[u8], present: &[u16]) -> (Vec<usize>, usize) {
 
 /// The counts of each prefix of a word, shortest first.
 fn prefixes(word: &[u8]) -> impl Iterator<Item = Counts> + '_ {
-    let mut counts = [0; MAX_N];
+    let mut counts = [0; MAX_EVENTS];
     iter::once(counts).chain(word.iter().map(move |&event| {
         counts[usize::from(event)] += 1;
         counts
@@ -147,7 +147,7 @@ pub(crate) fn front(table: &mut [u16]) -> Result<&mut [u16], Refusal> {
 
 fn check(summary: Summary) -> Result<(), Refusal> {
     let Summary { n, rows, events } = summary;
-    if (1..=MAX_N).contains(&n) && (1..=MAX_ROWS).contains(&rows) && events <= MAX_EVENTS {
+    if (1..=MAX_EVENTS).contains(&n) && (1..=MAX_ROWS).contains(&rows) && events <= MAX_LOG_EVENTS {
         Ok(())
     } else {
         Err(Refusal {

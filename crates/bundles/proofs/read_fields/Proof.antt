@@ -5,8 +5,8 @@ use borrow.Author.Needs.{needs}
 use denote.Ref.{now}
 use Rattle.limits.specs.Limits.{MAX-EVENTS}
 use Rattle.bundles.specs.Reading.{got, byte}
-use Rattle.bundles.specs.FieldSteps.{readOf, between, between-true, byte-got}
-use Rattle.bundles.specs.HeadSteps.{headRead, head-failed, head-got}
+use Rattle.bundles.specs.FieldReading.{readOf, between, between-true, byte-got}
+use Rattle.bundles.specs.HeadReading.{headRead, head-failed, head-got}
 use Rattle.bundles.proofs.read_fields.Statement.{statement}
 use Rattle.bundles.proofs.read_fields.Tie as tie
 

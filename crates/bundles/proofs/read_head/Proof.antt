@@ -2,7 +2,7 @@
 use mathlib.Core.Path.{sym, ap, _∙_}
 use borrow.Author.Needs.{needs}
 use borrow.Author.Tests.{not-true, not-false}
-use Rattle.bundles.specs.HeadSteps.{headRead, size-wrong, size-right}
+use Rattle.bundles.specs.HeadReading.{headRead, size-wrong, size-right}
 use Rattle.bundles.proofs.read_head.Statement.{statement}
 use Rattle.bundles.proofs.read_head.Tie as tie
 

@@ -2,12 +2,12 @@
 use mathlib.Core.Path.{_≡_, sym, ap, _∙_}
 use borrow.Author.Needs.{needs}
 use denote.Ref.{now}
-use Rattle.bundles.specs.Reading.{got, byte}
 use Rattle.nets.specs.Nets.{eventCount}
+use Rattle.bundles.specs.Reading.{got, byte}
 use Rattle.bundles.specs.Readers.{anything}
-use Rattle.bundles.specs.FieldSteps.{readOf}
-use Rattle.bundles.specs.WordSteps.{mapRead-got, mapRead-failed}
-use Rattle.bundles.specs.HeadSteps.{headRead, withPlaces, after-failed, words-failed, words-got}
+use Rattle.bundles.specs.FieldReading.{readOf}
+use Rattle.bundles.specs.WordReading.{mapRead-got, mapRead-failed}
+use Rattle.bundles.specs.HeadReading.{headRead, withPlaces, after-failed, words-failed, words-got}
 use Rattle.bundles.proofs.read_head_after.Statement.{statement}
 use Rattle.bundles.proofs.read_head_after.Tie as tie
 

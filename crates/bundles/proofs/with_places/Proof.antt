@@ -1,7 +1,7 @@
 -- `bundles::with_places` meets its contract.
 use mathlib.Core.Path.{sym, ap}
 use borrow.Author.Needs.{needs}
-use Rattle.bundles.specs.HeadSteps.{withPlaces}
+use Rattle.bundles.specs.HeadReading.{withPlaces}
 use Rattle.bundles.proofs.with_places.Statement.{statement}
 use Rattle.bundles.proofs.with_places.Tie as tie
 

@@ -12,8 +12,8 @@ use Rattle.refusals.specs.Laws.{answer-within}
 use Rattle.refusals.specs.declared.Written.the-variants as writing
 use Rattle.block.specs.File.{opened}
 use Rattle.verdicts.specs.Judging.{tableAfter}
-use Rattle.demands.specs.declared.Ran.the-variants.{Opened}
 use Rattle.demands.specs.Files.{answersOf, ran-refused, ran-opened}
+use Rattle.demands.specs.declared.Ran.the-variants.{Opened}
 use Rattle.demands.proofs.run.Statement.{statement}
 use Rattle.demands.proofs.run.Tie as tie
 

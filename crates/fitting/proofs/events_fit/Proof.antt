@@ -10,12 +10,12 @@ use mir.Facts.{toZ-ofZ}
 use Rattle.limits.specs.Limits.{MAX-EVENTS}
 use Rattle.nets.specs.Machine.{Held}
 use Rattle.fitting.specs.Fitting.{eventsFit}
-use Rattle.fitting.specs.FittingLaws.{EventsBelow, events-start, events-next, events-end}
+use Rattle.fitting.specs.FittingLaws.{EventsPassed, events-start, events-next, events-end}
 use Rattle.fitting.proofs.events_fit.Statement.{statement}
 use Rattle.fitting.proofs.events_fit.Tie as tie
 
 abbrev Inv-loop : tie.InvT-loop
-Inv-loop tokens mask consumed fit₀ e₀ fit e = (e ≤ MAX-EVENTS) × EventsBelow (toZ w64 tokens) consumed mask fit e
+Inv-loop tokens mask consumed fit₀ e₀ fit e = (e ≤ MAX-EVENTS) × EventsPassed (toZ w64 tokens) consumed mask fit e
 
 abbrev μ-loop : tie.MeasureT-loop
 μ-loop tokens mask consumed fit₀ e₀ fit e = MAX-EVENTS - e

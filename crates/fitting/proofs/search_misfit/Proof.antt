@@ -8,9 +8,9 @@ use native.Mathlib.Omega.{arith}
 use borrow.Author.Needs.{needs}
 use borrow.Author.Tests.{not-true, not-false}
 use lib.ListN.{length, drop}
-use Rattle.bundles.specs.HeadSteps.{net-size}
 use Rattle.laws.specs.Scans.{firstFailing, failing-here, failing-again, failing-end}
 use Rattle.nets.specs.Nets.{Place, fits}
+use Rattle.bundles.specs.HeadReading.{net-size}
 use Rattle.bundles.specs.Readers.{eventsIn, logIn, netIn}
 use Rattle.fitting.specs.Fitting.{misfitIn, noPlace, placeIn}
 use Rattle.fitting.specs.FittingLaws.{fits-held}

@@ -2,15 +2,16 @@
 use mathlib.Core.Path.{_≡_, refl, sym, ap, _∙_}
 use borrow.Author.Needs.{needs}
 use denote.Ref.{now}
+use Rattle.limits.specs.Limits.{MAX-EVENTS}
 use Rattle.bundles.specs.Readers.{rowsInLimit}
 use Rattle.bundles.specs.Reading.{got, byte}
-use Rattle.bundles.specs.FieldSteps.{readOf, between}
-use Rattle.bundles.specs.HeadSteps.{head-failed}
+use Rattle.bundles.specs.FieldReading.{readOf, between}
+use Rattle.bundles.specs.HeadReading.{head-failed}
 use Rattle.heads.proofs.take_head.Statement.{statement}
 use Rattle.heads.proofs.take_head.Tie as tie
 
 -- the event count
-counted : (c : tie.After-n) → byte (between 1 12) (now (c .before .before .before .before .before .args .bundle)) 0 ≡ got (c .n .given .0 .0) (c .n .given .0 .1 .0)
+counted : (c : tie.After-n) → byte (between 1 MAX-EVENTS) (now (c .before .before .before .before .before .args .bundle)) 0 ≡ got (c .n .given .0 .0) (c .n .given .0 .1 .0)
 unfolding readOf
 counted c = sym (c .before .before .byte-between .ensures) ∙ ap readOf (c .n .given .1)
 

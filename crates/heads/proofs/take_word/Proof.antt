@@ -8,8 +8,8 @@ use lib.ListN.{length, length-take}
 use Rattle.limits.specs.Limits.{MAX-EVENTS, MAX-LOG-EVENTS}
 use Rattle.nets.specs.Events.{EventsBelow}
 use Rattle.logs.specs.IndexLaws.{index-taken}
-use Rattle.bundles.specs.FieldSteps.{readOf}
-use Rattle.bundles.specs.WordSteps.{eventsAt}
+use Rattle.bundles.specs.FieldReading.{readOf}
+use Rattle.bundles.specs.WordReading.{eventsAt}
 use Rattle.heads.specs.Taken.{WordRead, word-read, word-refused, no-room, word-taken}
 use Rattle.heads.proofs.take_word.Statement.{statement}
 use Rattle.heads.proofs.take_word.Tie as tie

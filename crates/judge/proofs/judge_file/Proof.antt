@@ -5,11 +5,12 @@ use Prim.Native.Nat.{ℕ}
 use borrow.Author.Needs.{needs}
 use denote.Ref.{now}
 use lib.Seq.{length-take-le}
+use Rattle.limits.specs.Limits.{MAX-BUNDLE-SIZE}
 use Rattle.refusals.specs.Results.{Result, bind}
 use Rattle.block.specs.Rooms.{open-fitted}
 use Rattle.block.specs.Whole.{open-whole}
 use Rattle.logs.specs.Answers.{TABLE}
-use Rattle.verdicts.specs.Judging.{judged, verdictOn}
+use Rattle.verdicts.specs.Judging.{judged, verdictOf}
 use Rattle.judging.specs.Files.{fileJudged, fileVerdict}
 use Rattle.judge.specs.Files.{inputVerdict}
 use Rattle.judge.proofs.judge_file.Statement.{statement}
@@ -22,8 +23,8 @@ returns : tie.Need-returns
 unfolding fileVerdict fileJudged inputVerdict
 returns c input came =
     let start = c .before .before .before .before .before .before .before in
-    let same = open-fitted _ 64512 (search needs) ∙ open-whole input (now (start .args .buffer)) (start .args .n) came (start .pre .1) in
-    c .before .before .judge-file .ensures .0 ∙ ap (λ (m : Result (List ℕ)). verdictOn (bind m (λ b. judged TABLE b 0))) same
+    let same = open-fitted _ MAX-BUNDLE-SIZE (search needs) ∙ open-whole input (now (start .args .buffer)) (start .args .n) came (start .pre .1) in
+    c .before .before .judge-file .ensures .0 ∙ ap (λ (m : Result (List ℕ)). verdictOf (bind m (λ b. judged TABLE b 0))) same
 
 pub judge-file-spec : {M : Type 1} → statement M
 judge-file-spec = tie.close (tie.spec slice-aggregate-judge-file (λ c. search needs) (λ c. search needs) (λ c κs. search needs) returns)

@@ -4,7 +4,7 @@ use borrow.Author.Needs.{needs}
 use borrow.Author.Tests.{le-leb, lt-leb}
 use denote.Ref.{now}
 use lib.ListN.{length}
-use Rattle.judging.specs.Steps.{endedAs}
+use Rattle.judging.specs.JudgeLaws.{endedAs}
 use Rattle.judging.proofs.ended.Statement.{statement}
 use Rattle.judging.proofs.ended.Tie as tie
 

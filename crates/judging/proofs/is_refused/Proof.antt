@@ -1,7 +1,7 @@
 -- `judging::is_refused` meets its contract.
 use mathlib.Core.Path.{refl}
 use borrow.Author.Needs.{needs}
-use Rattle.judging.specs.Steps.{isRefused}
+use Rattle.judging.specs.JudgeLaws.{isRefused}
 use Rattle.judging.proofs.is_refused.Statement.{statement}
 use Rattle.judging.proofs.is_refused.Tie as tie
 

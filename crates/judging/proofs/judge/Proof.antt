@@ -12,8 +12,8 @@ use Rattle.limits.specs.Limits.{rightSize}
 use Rattle.logs.specs.Rows.{rowsOf, cleared}
 use Rattle.logs.specs.Answers.{TABLE}
 use Rattle.logs.specs.LogTable.{cleared-table, cleared-length}
-use Rattle.verdicts.specs.Judging.{judging, verdictOn, verdict, tableOn, tableAfter}
-use Rattle.judging.specs.Steps.{TableLeft, isRefused, table-kept, table-cleared, answer-4, answer-5, answer-rest}
+use Rattle.verdicts.specs.Judging.{judging, verdictOf, verdict, tableOn, tableAfter}
+use Rattle.judging.specs.JudgeLaws.{TableLeft, isRefused, table-kept, table-cleared, answer-4, answer-5, answer-rest}
 use Rattle.judging.proofs.judge.Statement.{statement}
 use Rattle.judging.proofs.judge.Tie as tie
 
@@ -41,7 +41,7 @@ judge-fields-requires c κs =
 
 -- past both tests the verdict is that on the fields
 judged : (c : tie.After-is-refused) → let call = c .before .before .before in let start = call .before .before .before .before .before .before .before .before .before .before .before in
-    (verdict (length (now (start .args .table))) (now (start .args .bundle)) ≡ verdictOn (judging (now (start .args .bundle)) 0)) × (tableAfter (now (start .args .bundle)) (now (start .args .table)) ≡ tableOn (judging (now (start .args .bundle)) 0) (now (start .args .table)))
+    (verdict (length (now (start .args .table))) (now (start .args .bundle)) ≡ verdictOf (judging (now (start .args .bundle)) 0)) × (tableAfter (now (start .args .bundle)) (now (start .args .table)) ≡ tableOn (judging (now (start .args .bundle)) 0) (now (start .args .table)))
 judged c =
     let long = c .before .before .before .before .before .before .before .before .before in
     answer-rest _ _ (fits (long .before)) (long .if2 .left)

@@ -1,7 +1,7 @@
 -- `judging::judge_net` meets its contract: the places are tested, then the certificates decide.
 use mathlib.Core.Path.{sym, _∙_}
 use borrow.Author.Needs.{needs}
-use Rattle.judging.specs.Steps.{net-unfit, net-fits}
+use Rattle.judging.specs.JudgeLaws.{net-unfit, net-fits}
 use Rattle.judging.proofs.judge_net.Statement.{statement}
 use Rattle.judging.proofs.judge_net.Tie as tie
 

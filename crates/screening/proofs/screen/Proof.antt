@@ -1,7 +1,7 @@
 -- `screening::screen` meets its contract: its tests are those of `screened`, in the same order.
 use mathlib.Core.Path.{sym, _∙_}
 use borrow.Author.Needs.{needs}
-use Rattle.screening.specs.Steps.{word-long, word-short, head-refused}
+use Rattle.screening.specs.ScreenLaws.{word-long, word-short, head-refused}
 use Rattle.screening.proofs.screen.Statement.{statement}
 use Rattle.screening.proofs.screen.Tie as tie
 

@@ -5,7 +5,7 @@ use borrow.Author.Needs.{needs}
 use denote.Ref.{now}
 use Rattle.bundles.specs.Readers.{eventsIn, netIn}
 use Rattle.screening.specs.Positions.{Best, best-start}
-use Rattle.screening.specs.Steps.{search-stopped, search-permitted}
+use Rattle.screening.specs.ScreenLaws.{search-stopped, search-permitted}
 use Rattle.screening.proofs.screen_places.Statement.{statement}
 use Rattle.screening.proofs.screen_places.Tie as tie
 

@@ -7,8 +7,8 @@ use lib.ListN.{length}
 use Rattle.nets.specs.Events.{firstBad, none-bad}
 use Rattle.bundles.specs.Reading.{got}
 use Rattle.bundles.specs.Readers.{bundleHead, headOf}
-use Rattle.bundles.specs.HeadSteps.{HeadAt, head-kept}
-use Rattle.screening.specs.Steps.{event-wrong, events-right}
+use Rattle.bundles.specs.HeadReading.{HeadAt, head-kept}
+use Rattle.screening.specs.ScreenLaws.{event-wrong, events-right}
 use Rattle.screening.proofs.screen_word.Statement.{statement}
 use Rattle.screening.proofs.screen_word.Tie as tie
 

@@ -9,7 +9,7 @@ use borrow.Author.Needs.{needs}
 use lib.ListN.{length, take}
 use Rattle.limits.specs.Limits.{MAX-PLACES}
 use Rattle.nets.specs.Nets.{Net}
-use Rattle.bundles.specs.PlaceSteps.{placeSize, placeOn}
+use Rattle.bundles.specs.PlaceReading.{placeSize, placeOn}
 use Rattle.screening.specs.Positions.{Best}
 use Rattle.screening.specs.Replay.{reach}
 use Rattle.screening.specs.Searching.{netAt, net-start, firstOf, found-place, pair-second-at, pair-next-at, pair-inside, pair-stays, pair-earlier}

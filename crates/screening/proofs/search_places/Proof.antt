@@ -4,7 +4,7 @@ use Prim.Native.Nat.{_+_, _*_, _/_, _≤_}
 use native.Mathlib.Omega.{arith}
 use borrow.Author.Needs.{needs}
 use lib.ListN.{length}
-use Rattle.bundles.specs.PlaceSteps.{placeSize, place-inside}
+use Rattle.bundles.specs.PlaceReading.{placeSize, place-inside}
 use Rattle.screening.specs.Searching.{over-head, search-stays, search-earlier}
 use Rattle.screening.proofs.search_places.Statement.{statement}
 use Rattle.screening.proofs.search_places.Tie as tie

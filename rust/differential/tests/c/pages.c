@@ -136,14 +136,14 @@ static void make_table_calls(const uint8_t *events, size_t word_len)
     uint8_t word[HOV_MAX_ROWS];
     memcpy(word, events, word_len);
 
-    make_fresh(HOV_TABLE_SIZE - 1, HOV_TABLE_SHORT);
-    make_fresh(0, HOV_TABLE_SHORT);
+    make_fresh(HOV_TABLE_SIZE - 1, HOV_NUMBERS_SHORT);
+    make_fresh(0, HOV_NUMBERS_SHORT);
     uint16_t *table = make_fresh(HOV_TABLE_SIZE, 0);
     /* The row of the empty prefix is there already. */
     make_take(1, HOV_MAX_LOG_EVENTS - word_len, word, word_len, HOV_TABLE_SIZE, 0);
     make_take(1, HOV_MAX_LOG_EVENTS - word_len + 1, word, word_len, HOV_TABLE_SIZE, HOV_EVENTS);
-    make_take(1, 0, word, word_len, HOV_TABLE_SIZE - 1, HOV_TABLE_SHORT);
-    make_take(1, 0, word, word_len, 0, HOV_TABLE_SHORT);
+    make_take(1, 0, word, word_len, HOV_TABLE_SIZE - 1, HOV_NUMBERS_SHORT);
+    make_take(1, 0, word, word_len, 0, HOV_NUMBERS_SHORT);
 
     /* No row has the counts of a prefix. */
     memset(table, 255, HOV_TABLE_SIZE * sizeof *table);
@@ -182,8 +182,8 @@ static void make_judge_calls(const uint8_t *bundle, size_t bundle_len)
     make_judge(longer, bundle_len + 1, HOV_TABLE_SIZE, HOV_BYTES_FOLLOW);
     make_judge(longer, sizeof longer, HOV_TABLE_SIZE, HOV_BUNDLE_LENGTH);
     make_judge(bundle, 0, HOV_TABLE_SIZE, HOV_BUNDLE_LENGTH);
-    make_judge(bundle, bundle_len, HOV_TABLE_SIZE - 1, HOV_TABLE_SHORT);
-    make_judge(bundle, bundle_len, 0, HOV_TABLE_SHORT);
+    make_judge(bundle, bundle_len, HOV_TABLE_SIZE - 1, HOV_NUMBERS_SHORT);
+    make_judge(bundle, bundle_len, 0, HOV_NUMBERS_SHORT);
 }
 
 /* Screens a word, which has to return this number. */

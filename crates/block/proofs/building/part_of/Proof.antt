@@ -2,8 +2,8 @@
 use borrow.Author.Needs.{needs}
 use native.Mathlib.Nat.{add-sub-cancel-left}
 use lib.ListN.{length-drop}
-use Rattle.block.specs.File.{partAt}
 use Rattle.laws.specs.Parts.{take-min}
+use Rattle.block.specs.File.{partAt}
 use Rattle.block.proofs.building.part_of.Statement.{statement}
 use Rattle.block.proofs.building.part_of.Tie as tie
 

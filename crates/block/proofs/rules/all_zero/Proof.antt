@@ -4,8 +4,8 @@ use mathlib.Core.Path.{_≡_, refl, sym, _∙_}
 use Prim.Native.Nat.{_-_, _≤_}
 use borrow.Author.Tests.{ne-eqb}
 use lib.ListN.{length, drop, drop-of-length-le}
-use Rattle.block.specs.Block.{isZero}
 use Rattle.laws.specs.Lists.{all, all-next}
+use Rattle.block.specs.Block.{isZero}
 use Rattle.block.proofs.rules.all_zero.Statement.{statement}
 use Rattle.block.proofs.rules.all_zero.Tie as tie
 

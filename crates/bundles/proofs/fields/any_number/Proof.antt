@@ -4,7 +4,7 @@ use native.Mathlib.Omega.{arith}
 use borrow.Author.Needs.{needs}
 use Rattle.bundles.specs.ReadingLaws.{ranged}
 use Rattle.bundles.specs.Readers.{anything}
-use Rattle.bundles.specs.FieldSteps.{readOf, number-missing, number-there}
+use Rattle.bundles.specs.FieldReading.{readOf, number-missing, number-there}
 use Rattle.bundles.proofs.fields.any_number.Statement.{statement}
 use Rattle.bundles.proofs.fields.any_number.Tie as tie
 

@@ -2,7 +2,7 @@
 use mathlib.Core.Path.{sym, ap, _∙_}
 use borrow.Author.Needs.{needs}
 use Rattle.bundles.specs.ReadingLaws.{ranged}
-use Rattle.bundles.specs.FieldSteps.{readOf, between, byte-ranged, byte-refused}
+use Rattle.bundles.specs.FieldReading.{readOf, between, byte-ranged, byte-refused}
 use Rattle.bundles.proofs.fields.byte_between.Statement.{statement}
 use Rattle.bundles.proofs.fields.byte_between.Tie as tie
 

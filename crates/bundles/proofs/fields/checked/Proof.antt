@@ -1,6 +1,6 @@
 -- `bundles::fields::checked` meets its contract.
 use Rattle.bundles.specs.ReadingLaws.{ranged}
-use Rattle.bundles.specs.FieldSteps.{readOf}
+use Rattle.bundles.specs.FieldReading.{readOf}
 use Rattle.bundles.proofs.fields.checked.Statement.{statement}
 use Rattle.bundles.proofs.fields.checked.Tie as tie
 

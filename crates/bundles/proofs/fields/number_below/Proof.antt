@@ -2,7 +2,7 @@
 use mathlib.Core.Path.{sym, ap, _∙_}
 use borrow.Author.Needs.{needs}
 use Rattle.bundles.specs.ReadingLaws.{ranged}
-use Rattle.bundles.specs.FieldSteps.{readOf, below, number-ranged, number-refused}
+use Rattle.bundles.specs.FieldReading.{readOf, below, number-ranged, number-refused}
 use Rattle.bundles.proofs.fields.number_below.Statement.{statement}
 use Rattle.bundles.proofs.fields.number_below.Tie as tie
 

@@ -3,7 +3,7 @@ use mathlib.Core.Path.{sym, ap, _∙_}
 use borrow.Author.Needs.{needs}
 use lib.Dec.{leb}
 use Rattle.bundles.specs.ReadingLaws.{ranged}
-use Rattle.bundles.specs.FieldSteps.{readOf, number-ranged, number-refused}
+use Rattle.bundles.specs.FieldReading.{readOf, number-ranged, number-refused}
 use Rattle.bundles.proofs.fields.number_from.Statement.{statement}
 use Rattle.bundles.proofs.fields.number_from.Tie as tie
 

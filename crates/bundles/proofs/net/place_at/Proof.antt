@@ -1,6 +1,6 @@
 -- `bundles::net::place_at` meets its contract.
 use borrow.Author.Needs.{needs}
-use Rattle.bundles.specs.PlaceSteps.{machinePlace}
+use Rattle.bundles.specs.PlaceReading.{machinePlace}
 use Rattle.bundles.proofs.net.place_at.Statement.{statement}
 use Rattle.bundles.proofs.net.place_at.Tie as tie
 

@@ -8,8 +8,8 @@ use borrow.Author.Tests.{leb-true}
 use denote.Ref.{now}
 use Rattle.limits.specs.Limits.{MAX-PLACES}
 use Rattle.bundles.specs.Reading.{got, byte}
-use Rattle.bundles.specs.FieldSteps.{readOf, upTo, byte-got}
-use Rattle.bundles.specs.PlaceSteps.{placeSize, placesRead, places-failed, places-missing, places-kept}
+use Rattle.bundles.specs.FieldReading.{readOf, upTo, byte-got}
+use Rattle.bundles.specs.PlaceReading.{placeSize, placesRead, places-failed, places-missing, places-kept}
 use Rattle.bundles.proofs.net.read_places.Statement.{statement}
 use Rattle.bundles.proofs.net.read_places.Tie as tie
 

@@ -3,12 +3,12 @@ use mathlib.Core.Path.{_≡_, sym, _∙_}
 use Prim.Native.Nat.{_-_, _≤_}
 use native.Mathlib.Omega.{arith}
 use borrow.Author.Needs.{needs}
-use Rattle.bundles.specs.PlaceSteps.{numbersAt, padded, row-start, row-next}
+use Rattle.bundles.specs.PlaceReading.{numbersAt, widened, row-start, row-next}
 use Rattle.bundles.proofs.net.row_at.Statement.{statement}
 use Rattle.bundles.proofs.net.row_at.Tie as tie
 
 abbrev Inv-loop : tie.InvT-loop
-Inv-loop bundle at n row₀ i₀ row i = (i ≤ n) × (row ≡ padded (numbersAt i bundle at))
+Inv-loop bundle at n row₀ i₀ row i = (i ≤ n) × (row ≡ widened (numbersAt i bundle at))
 
 abbrev μ-loop : tie.MeasureT-loop
 μ-loop bundle at n row₀ i₀ row i = n - i

@@ -2,11 +2,11 @@
 use mathlib.Core.Path.{_≡_, sym, ap, _∙_}
 use borrow.Author.Needs.{needs}
 use denote.Ref.{now}
-use Rattle.bundles.specs.Reading.{got, byte, number, onward}
 use Rattle.refusals.specs.Results.{bind}
+use Rattle.bundles.specs.Reading.{got, byte, number, onward}
 use Rattle.bundles.specs.Readers.{term}
-use Rattle.bundles.specs.FieldSteps.{readOf, below}
-use Rattle.bundles.specs.TermSteps.{termReadOf}
+use Rattle.bundles.specs.FieldReading.{readOf, below}
+use Rattle.bundles.specs.TermReading.{termReadOf}
 use Rattle.bundles.proofs.terms.read_term.Statement.{statement}
 use Rattle.bundles.proofs.terms.read_term.Tie as tie
 

@@ -6,8 +6,8 @@ use native.Mathlib.Omega.{arith}
 use borrow.Author.Needs.{needs}
 use lib.ListN.{length, length-append}
 use Rattle.bundles.specs.Reading.{byte, times}
-use Rattle.bundles.specs.FieldSteps.{readOf, below}
-use Rattle.bundles.specs.WordSteps.{mapRead, rest, rest-all, rest-none, rest-more, rest-failed}
+use Rattle.bundles.specs.FieldReading.{readOf, below}
+use Rattle.bundles.specs.WordReading.{mapRead, rest, rest-all, rest-none, rest-more, rest-failed}
 use Rattle.bundles.proofs.words.read_events.Statement.{statement}
 use Rattle.bundles.proofs.words.read_events.Tie as tie
 

@@ -5,11 +5,11 @@ use native.Mathlib.Omega.{arith}
 use borrow.Author.Needs.{needs}
 use borrow.Author.Tests.{le-leb, lt-leb}
 use Rattle.limits.specs.Limits.{MAX-LOG-EVENTS}
-use Rattle.bundles.specs.Reading.{require, onward}
 use Rattle.refusals.specs.Results.{bind}
+use Rattle.bundles.specs.Reading.{require, onward}
 use Rattle.bundles.specs.Readers.{wordAfter}
-use Rattle.bundles.specs.FieldSteps.{readOf}
-use Rattle.bundles.specs.WordSteps.{mapRead}
+use Rattle.bundles.specs.FieldReading.{readOf}
+use Rattle.bundles.specs.WordReading.{mapRead}
 use Rattle.bundles.proofs.words.read_word.Statement.{statement}
 use Rattle.bundles.proofs.words.read_word.Tie as tie
 

@@ -2,8 +2,8 @@
 use mathlib.Core.Path.{sym, ap, _∙_}
 use native.Mathlib.Omega.{arith}
 use borrow.Author.Needs.{needs}
-use Rattle.bundles.specs.FieldSteps.{readOf}
-use Rattle.bundles.specs.WordSteps.{WordsLeft, words-start, words-next, words-failed, words-done}
+use Rattle.bundles.specs.FieldReading.{readOf}
+use Rattle.bundles.specs.WordReading.{WordsLeft, words-start, words-next, words-failed, words-done}
 use Rattle.bundles.proofs.words.read_words.Statement.{statement}
 use Rattle.bundles.proofs.words.read_words.Tie as tie
 

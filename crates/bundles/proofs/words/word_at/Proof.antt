@@ -2,7 +2,7 @@
 use Prim.Native.Nat.{_-_}
 use native.Mathlib.Nat.{add-sub-cancel-left}
 use borrow.Author.Needs.{needs}
-use Rattle.bundles.specs.WordSteps.{eventsAt}
+use Rattle.bundles.specs.WordReading.{eventsAt}
 use Rattle.bundles.proofs.words.word_at.Statement.{statement}
 use Rattle.bundles.proofs.words.word_at.Tie as tie
 

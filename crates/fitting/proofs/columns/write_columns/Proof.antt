@@ -4,14 +4,14 @@ use Prim.Native.Nat.{_-_}
 use native.Mathlib.Omega.{arith}
 use borrow.Author.Needs.{needs}
 use lib.ListN.{length}
-use Rattle.fitting.specs.Columns.{SamePlace, Written}
+use Rattle.fitting.specs.Columns.{SamePlace, Filled}
 use Rattle.fitting.specs.ColumnLaws.{written-next}
 use Rattle.fitting.proofs.Places.{Next, next-start, next-is, next-inside, next-again}
 use Rattle.fitting.proofs.columns.write_columns.Statement.{statement}
 use Rattle.fitting.proofs.columns.write_columns.Tie as tie
 
 abbrev Inv-loop : tie.InvT-loop
-Inv-loop bundle matrix₀ n size count at₀ j₀ matrix at j = Next n at₀ count at j × (length matrix ≡ length matrix₀) × Written bundle matrix j
+Inv-loop bundle matrix₀ n size count at₀ j₀ matrix at j = Next n at₀ count at j × (length matrix ≡ length matrix₀) × Filled bundle matrix j
 
 abbrev μ-loop : tie.MeasureT-loop
 μ-loop bundle matrix₀ n size count at₀ j₀ matrix at j = count - j
@@ -38,7 +38,7 @@ returns c =
     let loop = c .before .loop in
     let args = c .before .before .before .before .args in
     let end : loop .j ≡ args .head .places .count = omega arith in
-    subst (Written (args .bundle .now) (loop .matrix)) end (loop .inv .2)
+    subst (Filled (args .bundle .now) (loop .matrix)) end (loop .inv .2)
 
 pub write-columns-spec : {M : Type 1} → statement M
 write-columns-spec =

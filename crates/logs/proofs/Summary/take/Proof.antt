@@ -4,7 +4,7 @@ use mathlib.Core.Path.{_≡_, sym, _∙_}
 use mathlib.Core.Bool.{true}
 use borrow.Author.Tests.{not-true, not-false}
 use Rattle.logs.specs.Answers.{rightSummary}
-use Rattle.logs.specs.AnswerLaws.{Admitted, Readable, rightSummary-bounds, answer-5, answer-16, answer-8, answer-7, takable, answer-9, answer-next}
+use Rattle.logs.specs.AnswerLaws.{Admitted, WordAdmitted, rightSummary-bounds, answer-5, answer-16, answer-8, answer-7, takable, answer-9, answer-next}
 use Rattle.logs.proofs.Summary.take.Statement.{statement}
 use Rattle.logs.proofs.Summary.take.Tie as tie
 
@@ -36,23 +36,23 @@ returns-4 c =
     let t = c .before in
     rw (c .refused4 .ensures) (answer-7 _ _ _ (admitted (t .before .before)) _ (t .before .first-bad .ensures) (t .if4 .taken))
 
--- past the fourth test the word is readable
-readable : (c : tie.Else4) → let a = c .before .before .before .before .before .before .before .before .args in Readable (a .self) (a .table .now) (a .word .now)
-readable c = record { admitted = admitted (c .before .before); events = rw (c .before .first-bad .ensures) at (c .if4 .left) }
+-- past the fourth test the word is admitted
+wordAdmitted : (c : tie.Else4) → let a = c .before .before .before .before .before .before .before .before .args in WordAdmitted (a .self) (a .table .now) (a .word .now)
+wordAdmitted c = record { admitted = admitted (c .before .before); events = rw (c .before .first-bad .ensures) at (c .if4 .left) }
 
 add-alone-requires : tie.Need-add-alone-requires
-add-alone-requires c κs = takable _ _ _ (readable (c .before))
+add-alone-requires c κs = takable _ _ _ (wordAdmitted (c .before))
 
 returns-5 : tie.Need-returns-5
 returns-5 c =
     let t = c .before in
     let call = t .before .before .before in
-    rw (c .refused5 .ensures) (answer-9 _ _ _ (readable (call .before .before)) _ _ (call .add-alone .ensures) (t .if5 .taken))
+    rw (c .refused5 .ensures) (answer-9 _ _ _ (wordAdmitted (call .before .before)) _ _ (call .add-alone .ensures) (t .if5 .taken))
 
 returns-6 : tie.Need-returns-6
 returns-6 c =
     let call = c .before .before .before in
-    answer-next _ _ _ (readable (call .before .before)) _ _ (call .add-alone .ensures) (c .if5 .left) (call .add-alone .kept .0)
+    answer-next _ _ _ (wordAdmitted (call .before .before)) _ _ (call .add-alone .ensures) (c .if5 .left) (call .add-alone .kept .0)
 
 pub take-spec : {M : Type 1} → statement M
 take-spec =

@@ -1,0 +1,15 @@
+-- `abi::hov_judging::hov_judge_file` meets its contract.
+use borrow.Author.Needs.{needs}
+use mathlib.Core.Path.{ap, _∙_}
+use Rattle.verdicts.specs.Judging.{verdictNumber}
+use Rattle.abi.specs.Numbers.{withVerdict}
+use Rattle.abi.proofs.hov_judging.hov_judge_file.Statement.{statement}
+use Rattle.abi.proofs.hov_judging.hov_judge_file.Tie as tie
+
+returns : tie.Need-returns
+returns c =
+    let call = c .before .before .before .before .before .before .judge-file .ensures in
+    (c .handed .ensures .0 ∙ ap verdictNumber (call .0), (call .1 .0, (call .1 .1, c .handed .ensures .1 ∙ ap (withVerdict _) (call .0))))
+
+pub hov-judge-file-spec : {M : Type 1} → statement M
+hov-judge-file-spec = tie.close (tie.spec (λ c κs. search needs) (λ c κs. search needs) (λ c. search needs) (λ c. search needs) returns)

@@ -1,5 +1,0 @@
-pub mod Certifying
-pub mod PlaceNumbers
-pub mod CheckLaws
-pub mod Continuations
-pub mod CertificateSteps

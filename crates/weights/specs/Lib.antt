@@ -1,0 +1,4 @@
+pub mod Terms
+pub mod Totals
+pub mod TermSums
+pub mod TermLaws
