@@ -1,14 +1,14 @@
 -- Signed numbers as differences of two natural numbers, `subℕ a b`: each law takes a statement on signed numbers to one on natural
 -- numbers, which `omega` reads.
-use mathlib.Core.Path.{_≡_, refl, sym, ap, ap₂, _∙_}
+use mathlib.Core.Path.{_≡_, refl, sym, ap, ap₂, _∙_, subst}
 use mathlib.Core.Bool.{Bool, true, false, cond}
 use mathlib.Core.Logic.{_↔_}
 use Prim.Native.Nat.{ℕ, zero, suc, _+_, _-_, _*_, _≤_, _<_, zero-le}
 use native.Mathlib.Nat.{add-zero, zero-mul, suc-mul}
 use native.Mathlib.Omega.{arith}
-use lib.Dec.{T, ltb}
+use lib.Dec.{T, ltb, le→leb, leb→le}
 use lib.IntN.{ℤ, pos, negsuc, negℤ, subℕ, _+ℤ_, _-ℤ_, _*ℤ_, +ℤ-assoc, +ℤ-comm, negℤ-+ℤ, zero-*ℤ, sucℤ-*ℤ}
-use lib.Signed.{mag, nonNeg, leZ}
+use lib.Signed.{mag, nonNeg, leZ, _≤ℤ_, leZ-yes, yes-nonNeg}
 use borrow.Author.Tests.{ltb-true, ltb-false, le-ltb, le-leb}
 use Rattle.laws.specs.Sums.{sum}
 
@@ -84,6 +84,18 @@ pub zero-leZ : (z : ℤ) → leZ (pos 0) z ≡ nonNeg z
 zero-leZ (pos n) = le-leb 0 n zero-le
 zero-leZ (negsuc n) = refl
 
+-- an order of signed numbers, as a difference that is not negative
+pub nonNeg-le : (z : ℤ) → (pos 0 ≤ℤ z) ↔ T (nonNeg z)
+nonNeg-le z = (yes-nonNeg, λ t. leZ-yes (subst T (sym (zero-leZ z)) t))
+
+pub le-difference : (a : ℕ) (z : ℤ) → (pos a ≤ℤ z) ↔ T (nonNeg (z -ℤ pos a))
+le-difference a (pos b) = (
+  (λ h. subst (λ (z : ℤ). T (nonNeg z)) (sym (difference b a)) (nonNeg-difference b a .1 (leb→le a b (h .le)))),
+  λ t. leZ-yes (le→leb a b (nonNeg-difference b a .0 (subst (λ (z : ℤ). T (nonNeg z)) (difference b a) t))),
+)
+le-difference zero (negsuc b) = ((λ h. absurd (h .le)), λ t. absurd (let none : suc b ≤ 0 = nonNeg-difference 0 (suc b) .0 t in omega arith))
+le-difference (suc a) (negsuc b) = ((λ h. absurd (h .le)), λ t. absurd t)
+
 -- a difference of two numbers below a bound is within the signed range of that bound
 pub mag-difference : (a b h : ℕ) → a < h → b < h → mag (subℕ a b) < h
 mag-difference a b h p q = go (ltb a b)
@@ -111,3 +123,18 @@ difference-sum zero a b c = refl
 difference-sum (suc n) a b c =
     ap₂ _+ℤ_ (difference-sum n a b c) (ap (λ (t : ℤ). pos (a n) *ℤ t) (difference (b n) (c n)) ∙ difference-mul (a n) (b n) (c n))
     ∙ difference-add (sum n (λ i. a i * b i)) (sum n (λ i. a i * c i)) (a n * b n) (a n * c n)
+
+-- sums of natural numbers, and of their negatives
+pub sumℤ-pos : (n : ℕ) (f : ℕ → ℕ) → sumℤ n (λ i. pos (f i)) ≡ pos (sum n f)
+unfolding sumℤ sum
+sumℤ-pos zero f = refl
+sumℤ-pos (suc n) f = ap (λ (z : ℤ). z +ℤ pos (f n)) (sumℤ-pos n f)
+
+pub sumℤ-neg : (n : ℕ) (f : ℕ → ℕ) → sumℤ n (λ i. negℤ (pos (f i))) ≡ negℤ (pos (sum n f))
+unfolding sumℤ sum
+sumℤ-neg zero f = refl
+sumℤ-neg (suc n) f = ap (λ (z : ℤ). z +ℤ negℤ (pos (f n))) (sumℤ-neg n f) ∙ sym (negℤ-+ℤ (pos (sum n f)) (pos (f n)))
+
+pub neg-mul : (a b : ℕ) → negℤ (pos a) *ℤ pos b ≡ negℤ (pos (a * b))
+neg-mul zero b = ap pos (zero-mul b) ∙ ap (λ (k : ℕ). negℤ (pos k)) (sym (zero-mul b))
+neg-mul (suc a) b = refl

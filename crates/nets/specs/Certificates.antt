@@ -8,7 +8,7 @@ use Prim.Native.Nat.{ℕ, zero, suc, _<_}
 use lib.Dec.{T, leb→le, T-not}
 use lib.ListN.{length}
 use lib.Ieee.Fits.{and-l, and-r}
-use Rattle.laws.specs.Lists.{all, all-member, all-intro, keep, tabulate, tabulate-member}
+use Rattle.laws.specs.Lists.{all-member, all-intro, keep, tabulate, tabulate-member}
 use Rattle.nets.specs.Nets.{Log, Net, Place, Step, Term, Weights, Certificate, byPlace, byWeights, weighed, placePermits, netPermits, allowed, refusedBy, weighsBefore, weighsAfter, weightsHold, solves, solvesAll, isByPlace}
 use Rattle.nets.specs.Fits.{Fits}
 use Rattle.nets.specs.Weights.{Weighs, weighed-permits}
@@ -30,11 +30,16 @@ module _ (n : ℕ) (log : Log) (s : Step) (w : Weights) (h : T (weightsHold n lo
   pub weights-permit : s .event < n → (p : Place) → Fits n log p → T (placePermits n p s)
   weights-permit b p fits = weighed-permits n p (w .terms) weighs b (λ t m. fits (t .step) (terms-allowed t m))
 
+-- a kind 0 certificate: a place of the net that refuses the step
+pub refusing : (n : ℕ) (net : Net) (j : ℕ) (s : Step) → T (refusedBy n net j s) → (p : Place) × List·Memᴰ p net × T (not (placePermits n p s))
+unfolding refusedBy
+refusing n [] j s r = absurd r
+refusing n (p ∷ net) zero s r = (p, List·Memᴰ·head refl, r)
+refusing n (p ∷ net) (suc j) s r = let q = refusing n net j s r in (q .0, List·Memᴰ·tail (q .1), q .2)
+
 pub refused→ : (n : ℕ) (net : Net) (j : ℕ) (s : Step) → T (refusedBy n net j s) → T (netPermits n net s) → ⊥
-unfolding refusedBy netPermits all
-refused→ n [] j s r t = r
-refused→ n (p ∷ net) zero s r t = T-not (placePermits n p s) r (and-l (placePermits n p s) (netPermits n net s) t)
-refused→ n (p ∷ net) (suc j) s r t = refused→ n net j s r (and-r (placePermits n p s) (netPermits n net s) t)
+unfolding netPermits
+refused→ n net j s r t = let q = refusing n net j s r in T-not (placePermits n (q .0) s) (q .2) (all-member (λ p. placePermits n p s) net t (q .1))
 
 -- the kind of a certificate that solves a step is 0 exactly when the net refuses the step
 module _ (n : ℕ) (log : Log) (net : Net) (fits : (p : Place) → List·Memᴰ p net → Fits n log p) where

@@ -134,7 +134,7 @@ module _ (n : ℕ) (a b : Judged n) (to : PrefixesIn (a .log) (b .log)) (from : 
 
 -- ---- the comparison, for bundles
 
-pub judged : (b : Bundle) (n : ℕ) → n ≡ b .events → T (accepted b) → Judged n
+unfoldable pub judged : (b : Bundle) (n : ℕ) → n ≡ b .events → T (accepted b) → Judged n
 unfolding accepted
 judged b n q t = record {
   log = b .log;

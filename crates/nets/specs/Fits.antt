@@ -1,7 +1,7 @@
 -- Places that fit a log: a net permits every word of a log exactly when each of its places permits every allowed step.
 use mathlib.Core.Path.{refl, sym, subst}
 use mathlib.Core.Logic.{_↔_, ⊎-elim}
-use mathlib.Core.List.{_∷_, [], _++_, List·Memᴰ, List·Memᴰ·head, List·Memᴰ·not-nil, Memᴰ·cast, Memᴰ·append-left, Memᴰ·append-right}
+use mathlib.Core.List.{_∷_, [], _++_, List·Memᴰ, List·Memᴰ·head, List·Memᴰ·not-nil, List·Memᴰ·append-cases, List·Memᴰ·eq-of-singleton, Memᴰ·cast, Memᴰ·append-left, Memᴰ·append-right}
 use Prim.Native.Nat.{ℕ, _<_}
 use lib.Dec.{T}
 use Rattle.laws.specs.Lists.{all, all-member, all-intro}
@@ -12,6 +12,20 @@ use Rattle.nets.specs.Rows.{→row, →continuation, allowedStep→, →
 -- every event of a word, and of every word of a log, is below n
 abbrev pub Below : ℕ → Word → Type 0
 Below n w = (e : ℕ) → List·Memᴰ e w → e < n
+
+module _ (n : ℕ) where
+  pub below-empty : Below n []
+  below-empty e m = absurd (List·Memᴰ·not-nil m)
+
+  pub below-shorter : (u s : Word) → Below n (u ++ s) → Below n u
+  below-shorter u s below e m = below e (Memᴰ·append-left s m)
+
+  -- one event more
+  pub below-snoc : (u : Word) (e : ℕ) → Below n (u ++ e ∷ []) ↔ (Below n u × (e < n))
+  below-snoc u e = (
+    (λ below. (below-shorter u (e ∷ []) below, below e (Memᴰ·append-right u (List·Memᴰ·head refl)))),
+    λ h x m. ⊎-elim (h .0 x) (λ k. subst (λ (y : ℕ). y < n) (sym (List·Memᴰ·eq-of-singleton k)) (h .1)) (List·Memᴰ·append-cases u m),
+  )
 
 abbrev pub LogBelow : ℕ → Log → Type 0
 LogBelow n log = (w : Word) → List·Memᴰ w log → Below n w
@@ -38,7 +52,7 @@ allowed-listed n log below s t =
     →allowedStep n log s
     (→continuation n log s
     (Memᴰ·cast (sym (f .1)) (→row n log (f .0) (prefix-shorter log (f .0) (s .event ∷ []) (f .2))))
-    (prefix-below n log below (f .0 ++ s .event ∷ []) (f .2) (s .event) (Memᴰ·append-right (f .0) (List·Memᴰ·head refl))))
+    (below-snoc n (f .0) (s .event) .0 (prefix-below n log below (f .0 ++ s .event ∷ []) (f .2)) .1))
     t
 
 -- a net permits all words of a log exactly when each of its places fits

@@ -11,5 +11,9 @@ pub mod CountLaws
 pub mod Events
 pub mod Markings
 pub mod LogLaws
+pub mod TokenGame
+pub mod Regions
+pub mod SeparationProblems
+pub mod ParikhClosure
 pub mod Wide
 pub mod Machine

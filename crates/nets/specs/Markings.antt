@@ -65,7 +65,7 @@ moved p t e = t +ℤ (pos (p .produced e) -ℤ pos (p .consumed e))
 covered-enough : (p : Place) (t e : ℕ) → covered p (pos t) e ≡ true → p .consumed e ≤ t
 covered-enough p t e h = nonNeg-difference t (p .consumed e) .0 (subst (λ (z : ℤ). T (nonNeg z)) (difference t (p .consumed e)) (rw h tt))
 
-moved-amount : (p : Place) (t e : ℕ) → p .consumed e ≤ t → moved p (pos t) e ≡ pos (t + p .produced e - p .consumed e)
+pub moved-amount : (p : Place) (t e : ℕ) → p .consumed e ≤ t → moved p (pos t) e ≡ pos (t + p .produced e - p .consumed e)
 moved-amount p t e h =
     ap (λ (z : ℤ). pos t +ℤ z) (difference (p .produced e) (p .consumed e))
     ∙ pos-difference t (p .produced e) (p .consumed e)

@@ -78,11 +78,11 @@ pub record Weighs (n : ℕ) (s : Step) (k : ℕ) (ts : List Term) : Type 0 where
   pub after : (i : ℕ) → i < n → k * (at (s .row) i + same (s .event) i) ≤ weighed (λ t. at (t .row) i + same (t .event) i) ts
 
 -- the tokens that are taken before a step and by it
-needed : ℕ → Place → Step → ℕ
+unfoldable pub needed : ℕ → Place → Step → ℕ
 needed n p s = taken n p (s .row) + p .consumed (s .event)
 
 -- the same as one sum over the events below n
-needed-sum : ℕ → Place → Step → ℕ
+unfoldable pub needed-sum : ℕ → Place → Step → ℕ
 needed-sum n p s = sum n (λ i. (at (s .row) i + same (s .event) i) * p .consumed i)
 
 needed-sum-is : (n : ℕ) (p : Place) (s : Step) → needed-sum n p s ≡ taken n p (s .row) + sum n (λ i. same (s .event) i * p .consumed i)
@@ -91,7 +91,7 @@ needed-sum-is n p s =
     sum-same n _ _ (λ i b. add-mul (at (s .row) i) (same (s .event) i) (p .consumed i))
     ∙ sum-add n (λ i. at (s .row) i * p .consumed i) (λ i. same (s .event) i * p .consumed i)
 
-needed-is : (n : ℕ) (p : Place) (s : Step) → s .event < n → needed n p s ≡ needed-sum n p s
+pub needed-is : (n : ℕ) (p : Place) (s : Step) → s .event < n → needed n p s ≡ needed-sum n p s
 unfolding needed
 needed-is n p s h = sym (needed-sum-is n p s ∙ ap (λ (x : ℕ). taken n p (s .row) + x) (pick n (s .event) (p .consumed) h))
 
