@@ -1,9 +1,10 @@
-// What the programs share: reading an input whole, writing lines and results, and saying what went wrong. All are inner functions: no contract can
-// say what a program reads or writes, so the work of each program is a function on slices.
+// What the programs share: reading an input whole, writing bytes, and saying what went wrong. All are inner functions: no contract can say what a
+// program reads or writes, so the work of each program, and the line that it prints, is a function on slices.
 use libc::STDERR_FILENO;
 use libc::STDIN_FILENO;
 use libc::STDOUT_FILENO;
-use refusals::Refusal;
+use lines::LINE_SIZE;
+use lines::write_refusal;
 use refusals::Written;
 ghost use mathlib.Core.Path.{_≡_};
 ghost use Prim.Native.Nat.{ℕ, _-_, _≤_};
@@ -64,45 +65,11 @@ pub fn read_standard_input(usage: &[u8], buffer: &mut [u8]) -> Input
     input
 }
 
-// Writes a space and a number. False where not all was written.
-pub fn write_number(fd: i32, n: usize) -> bool {
-    io::write_all(fd, b" ") && io::print_decimal(fd, n as u64)
-}
-
-// Writes a line, a word and numbers, up to the first write that fails. False where not all was written.
-fn write_line(fd: i32, word: &[u8], numbers: &[usize]) -> bool {
-    if !io::write_all(fd, word) {
-        return false;
-    }
-    let mut i = 0;
-    while i < numbers.len() {
-        if !write_number(fd, numbers[i]) {
-            return false;
-        }
-        i += 1;
-    }
-    io::write_all(fd, b"\n")
-}
-
-fn write_refusal(fd: i32, refusal: Refusal) -> bool {
-    write_line(fd, b"refused", &[refusal.number as usize, refusal.spot])
-}
-
-// Says on standard error where standard output did not take all of an answer.
-fn report(written: bool) {
-    if !written {
+// Writes bytes to standard output. Says on standard error where it did not take all of them.
+pub fn print(bytes: &[u8]) {
+    if !io::write_all(STDOUT_FILENO, bytes) {
         os::fail(b"standard output");
     }
-}
-
-// Prints the line of an answer: a word and numbers.
-pub fn print_line(word: &[u8], numbers: &[usize]) {
-    report(write_line(STDOUT_FILENO, word, numbers));
-}
-
-// Prints the line of a refusal.
-pub fn print_refusal(refusal: Refusal) {
-    report(write_refusal(STDOUT_FILENO, refusal));
 }
 
 // Writes the result in front of the output to standard output. The line of a refusal goes to standard error too: a result may be any bytes,
@@ -112,11 +79,13 @@ pub fn write_answer(answer: Written, output: &[u8])
 {
     match answer {
         Written::Refused(refusal) => {
-            print_refusal(refusal);
-            write_refusal(STDERR_FILENO, refusal);
+            let mut line = [0u8; LINE_SIZE];
+            let size = write_refusal(&mut line, refusal);
+            print(&line[..size]);
+            io::write_all(STDERR_FILENO, &line[..size]);
         }
         Written::Length(n) => {
-            report(io::write_all(STDOUT_FILENO, &output[..n]));
+            print(&output[..n]);
         }
     }
 }

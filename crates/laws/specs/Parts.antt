@@ -2,10 +2,10 @@
 use mathlib.Core.Path.{_≡_, refl, ap}
 use mathlib.Core.List.{List, [], _∷_, _++_, append-assoc, append-nil}
 use Prim.Native.Nat.{ℕ, zero, suc, _+_, _-_, _≤_, min}
-use native.Mathlib.Nat.{zero-min, min-zero, suc-min-suc, sub-zero, zero-sub, suc-sub-suc}
+use native.Mathlib.Nat.{add-zero, zero-add, add-assoc, zero-min, min-zero, suc-min-suc, sub-zero, zero-sub, suc-sub-suc}
 use native.Mathlib.Omega.{arith}
-use lib.ListN.{length, take, drop, getD, replicate, length-append, length-drop, drop-of-length-le}
-use lib.Seq.{take-take, take-all, take-length, take-add, paste, sets, sets-eq, take-append-seam, drop-append-add, drop-drop}
+use lib.ListN.{length, take, drop, getD, replicate, length-append, length-drop, drop-of-length-le, take-append-drop}
+use lib.Seq.{length-take-le, take-take, take-all, take-length, take-add, paste, sets, sets-eq, take-append-seam, drop-append-add, drop-drop}
 
 module _ {A : Type 0} where
   -- `new` in front of a list, over as many of its elements
@@ -25,6 +25,28 @@ module _ {A : Type 0} where
   pub front-next : (done piece l : List A) → spliced (length done) piece (front done l) ≡ front (done ++ piece) l
   unfolding front spliced
   front-next done piece l = simp (take-append-seam, drop-append-add, drop-drop, length-append, append-assoc)
+
+  -- a new front that was written lies within the list
+  pub front-within : (new l after : List A) (n : ℕ) → n ≡ length new → after ≡ front new l → n ≤ length after
+  unfolding front
+  front-within new l after n size is = omega (arith, ap length is, length-append new (drop (length new) l))
+
+  -- no elements
+  pub spliced-none : (at : ℕ) (l : List A) → spliced at [] l ≡ l
+  unfolding spliced
+  spliced-none at l = rw (append-nil, add-zero) (take-append-drop at l)
+
+  -- from index 0 on
+  pub spliced-front : (new l : List A) → spliced 0 new l ≡ front new l
+  unfolding front spliced
+  spliced-front new l = rw zero-add
+
+  -- a piece written behind another
+  pub spliced-next : (at : ℕ) (a b l : List A) → at ≤ length l → spliced (at + length a) b (spliced at a l) ≡ spliced at (a ++ b) l
+  unfolding spliced
+  spliced-next at a b l h =
+      let size : length (take at l ++ a) ≡ at + length a = simp (length-append, length-take-le at l h) in
+      rw (← size, take-append-seam, drop-append-add, drop-drop, size) (simp (length-append, append-assoc, add-assoc))
 
   -- a copy into the part of a list from `at` on, as the list has it afterwards
   pub spliced-part : (at : ℕ) (new l : List A) → at ≤ length l

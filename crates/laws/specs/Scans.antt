@@ -7,8 +7,8 @@ use Prim.Native.Nat.{ℕ, zero, suc, _+_, _≤_, _<_, zero-le, suc-le-suc}
 use native.Mathlib.Nat.{not-suc-le-zero, le-of-suc-le-suc, le-antisymm, zero-lt-suc, suc-inj}
 use native.Mathlib.Numerals.{add-one}
 use native.Mathlib.Omega.{arith}
-use lib.ListN.{length, drop, getD, drop-of-length-le}
-use lib.Seq.{drop-cons}
+use lib.ListN.{length, take, drop, getD, drop-of-length-le}
+use lib.Seq.{drop-cons, take-at, drop-at}
 use Rattle.laws.specs.Booleans.{lt-or-le}
 use Rattle.laws.specs.Lists.{all}
 
@@ -172,6 +172,17 @@ module _ {A : Type 0} where
 
   pub some-failing : (test : A → Bool) (l : List A) → all test l ≡ false → firstFailing test l < length l
   some-failing test l e = ⊎-elim (λ some. some) (λ none. absurd (true≢false (sym (failing-all test l none) ∙ e))) (lt-or-le (firstFailing test l) (length l))
+
+  -- two equal lists agree up to the first element that fails, and behind it
+  pub failing-cut : (test : A → Bool) (a b : List A) (x y : A) (r s : List A) → all test a ≡ true → all test b ≡ true → test x ≡ false → test y ≡ false
+      → a ++ x ∷ r ≡ b ++ y ∷ s → (a ≡ b) × (x ∷ r ≡ y ∷ s)
+  failing-cut test a b x y r s ha hb hx hy e =
+      let at : (l m : List A) (z : A) → all test l ≡ true → test z ≡ false → firstFailing test (l ++ z ∷ m) ≡ length l
+      = λ l m z h f. failing-append test l z m f ∙ all-failing test l h in
+      let size : length b ≡ length a = sym (at b s y hb hy) ∙ sym (ap (firstFailing test) e) ∙ at a r x ha hx in (
+        sym (take-at a (x ∷ r) (length a) refl) ∙ ap (take (length a)) e ∙ take-at b (y ∷ s) (length a) size,
+        sym (drop-at a (x ∷ r) (length a) refl) ∙ ap (drop (length a)) e ∙ drop-at b (y ∷ s) (length a) size,
+      )
 
 -- of the images of a list, where the tests agree
 pub failing-map : {A B : Type 0} (p : B → Bool) (q : A → Bool) (f : A → B) → ((x : A) → q x ≡ p (f x)) → (l : List A) → firstFailing q l ≡ firstFailing p (map f l)

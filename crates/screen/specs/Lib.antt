@@ -1,3 +1,4 @@
 pub mod Events
 pub mod Files
 pub mod Capping
+pub mod Lines

@@ -1,12 +1,12 @@
 // Screens a word with a sealed file, `screen FILE [EVENT]...`, each event a decimal number. Prints one line: `permitted`; `stopped`, position
 // and place; or `refused`, number and spot.
 use console::Input;
-use console::print_line;
-use console::print_refusal;
-use console::write_number;
 use libc::STDERR_FILENO;
 use limits::MAX_FILE_SIZE;
 use limits::MAX_WORD_EVENTS;
+use lines::LINE_SIZE;
+use lines::write_line;
+use lines::write_refusal;
 use refusals::Written;
 use screening::Screened;
 ghost use mathlib.Core.Bool.{true};
@@ -14,12 +14,15 @@ ghost use mathlib.Core.List.{List};
 ghost use mathlib.Core.Path.{_≡_};
 ghost use Prim.Native.Nat.{ℕ, _≤_, _<_};
 ghost use lib.ListN.{length};
+ghost use Rattle.laws.specs.Parts.{front};
 ghost use Rattle.limits.specs.Limits.{MAX-FILE-SIZE};
 ghost use Rattle.block.specs.File.{opened};
 ghost use Rattle.block.specs.Whole.{InputRead};
 ghost use Rattle.console.specs.Inputs.{Within};
-ghost use Rattle.screen.specs.Events.{isDigit, withDigit, capped, eventIn};
+ghost use Rattle.lines.specs.Decimals.{isDigit, withDigit};
+ghost use Rattle.screen.specs.Events.{capped, eventIn};
 ghost use Rattle.screen.specs.Files.{fileScreened};
+ghost use Rattle.screen.specs.Lines.{screenedLine, inputLine};
 
 // ---- The word
 
@@ -75,8 +78,8 @@ fn read_event(argument: usize) -> Event {
 
 // Says that an argument is no event.
 fn write_wrong(argument: usize) {
-    io::write_all(STDERR_FILENO, b"argument");
-    write_number(STDERR_FILENO, argument);
+    io::write_all(STDERR_FILENO, b"argument ");
+    io::print_decimal(STDERR_FILENO, argument as u64);
     io::write_all(STDERR_FILENO, b" is no event: 1 to 20 decimal digits\n");
 }
 
@@ -142,18 +145,28 @@ fn screen_file(buffer: &[u8], n: usize, word: &[u8]) -> Screened
     }
 }
 
-fn print_screened(screened: Screened) {
+// ---- The line
+
+// Writes the line of an answer in front of the output. Its length.
+fn write_screened(output: &mut [u8; LINE_SIZE], screened: Screened) -> usize
+    ensures { λ r. ⌜ r ≡ length (screenedLine screened) ⌝ }
+    ensures { λ _. ⌜ now (output .exit) ≡ front (screenedLine screened) (now (output .entry)) ⌝ }
+{
     match screened {
-        Screened::Permitted => {
-            print_line(b"permitted", &[]);
-        }
-        Screened::Stopped(stop) => {
-            print_line(b"stopped", &[stop.position, stop.place]);
-        }
-        Screened::Refused(refusal) => {
-            print_refusal(refusal);
-        }
+        Screened::Permitted => write_line(output, b"permitted", &[]),
+        Screened::Stopped(stop) => write_line(output, b"stopped", &[stop.position, stop.place]),
+        Screened::Refused(refusal) => write_refusal(output, refusal),
     }
+}
+
+// Writes the line that the program owes a word and the sealed file that came to a buffer, its first n bytes, in front of the output. Its length.
+fn write_file_screened(output: &mut [u8; LINE_SIZE], buffer: &[u8], n: usize, word: &[u8]) -> usize
+    requires { ⌜ (n ≤ length (now buffer)) × (MAX-FILE-SIZE < length (now buffer)) ⌝ }
+    ensures { λ r. ⌜ ((input : List ℕ) → InputRead input (now (buffer .entry)) n → r ≡ length (inputLine input (now (word .entry)))) ⌝ }
+    ensures { λ _. ⌜ ((input : List ℕ) → InputRead input (now (buffer .entry)) n
+        → now (output .exit) ≡ front (inputLine input (now (word .entry))) (now (output .entry))) ⌝ }
+{
+    write_screened(output, screen_file(buffer, n, word))
 }
 
 fn main() {
@@ -170,5 +183,7 @@ fn main() {
     let Input::Bytes(n) = read_file(&mut file) else {
         return;
     };
-    print_screened(screen_file(&file, n, &word[..events]));
+    let mut line = [0u8; LINE_SIZE];
+    let size = write_file_screened(&mut line, &file, n, &word[..events]);
+    console::print(&line[..size]);
 }

@@ -1,6 +1,6 @@
 -- `screen::is_digit` meets its contract.
 use borrow.Author.Tests.{lt-leb, le-leb}
-use Rattle.screen.specs.Events.{isDigit}
+use Rattle.lines.specs.Decimals.{isDigit}
 use Rattle.screen.proofs.is_digit.Statement.{statement}
 use Rattle.screen.proofs.is_digit.Tie as tie
 

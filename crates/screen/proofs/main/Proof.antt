@@ -1,9 +1,11 @@
--- `screen::main` is safe: what was read lies in the buffers, and that of the file is longer than every file.
+-- `screen::main` is safe: what was read lies in the buffers, that of the file is longer than every file, and the line lies in its own.
 use mathlib.Core.Path.{sym}
 use Prim.Native.Nat.{_≤_}
 use borrow.Author.Needs.{needs}
 use lib.ListN.{length}
 use lib.Seq.{length-take-le}
+use Rattle.laws.specs.Parts.{front-within}
+use Rattle.block.specs.Whole.{read-all}
 use Rattle.console.specs.Inputs.{within-bytes}
 use Rattle.screen.proofs.main.Statement.{statement}
 use Rattle.screen.proofs.main.Tie as tie
@@ -15,13 +17,21 @@ file-came : (c : tie.After-n) → c .n .given .0 .0 ≤ length (c .before .befor
 file-came c = within-bytes _ _ _ (c .n .given .1) (c .before .before .before .read-file .ensures)
 
 array-share-prefix-word : tie.Need-array-share-prefix-word
-array-share-prefix-word c = word-came (c .before .before .before .before .before .before .before .before)
+array-share-prefix-word c = word-came (c .before .before .before .before .before .before .before .before .before)
 
-slice-aggregate-screen-file-2 : tie.Need-slice-aggregate-screen-file-2
-slice-aggregate-screen-file-2 c = sym (length-take-le _ _ (word-came (c .before .before .before .before .before .before .before .before .before)))
+slice-aggregate-write-file-screened-2 : tie.Need-slice-aggregate-write-file-screened-2
+slice-aggregate-write-file-screened-2 c = sym (length-take-le _ _ (word-came (c .before .before .before .before .before .before .before .before .before .before)))
 
-screen-file-requires : tie.Need-screen-file-requires
-screen-file-requires c κs = (file-came (c .before .before .before), search needs)
+write-file-screened-requires : tie.Need-write-file-screened-requires
+write-file-screened-requires c κs = (file-came (c .before .before .before .before), search needs)
+
+line-within : (c : tie.After-write-file-screened) → c .write-file-screened .result ≤ length (c .write-file-screened .last .0)
+line-within c =
+    let all = read-all _ _ (file-came (c .before .before .before .before .before)) in
+    front-within _ _ _ _ (c .write-file-screened .ensures .0 _ all) (c .write-file-screened .ensures .1 _ all)
+
+slice-aggregate-print : tie.Need-slice-aggregate-print
+slice-aggregate-print c = sym (length-take-le _ _ (line-within (c .before)))
 
 pub main-spec : {M : Type 1} → statement M
 main-spec =
@@ -43,7 +53,9 @@ main-spec =
     (λ c. search needs)
     (λ c. search needs)
     array-share-prefix-word
-    slice-aggregate-screen-file-2
-    screen-file-requires
+    slice-aggregate-write-file-screened-2
+    write-file-screened-requires
+    line-within
+    slice-aggregate-print
     (λ c κs. search needs)
     (λ c. search needs))

@@ -1,7 +1,8 @@
 -- `screen::with_digit` meets its contract.
 use native.Mathlib.Omega.{arith}
 use borrow.Author.Needs.{needs}
-use Rattle.screen.specs.Events.{withDigit, capped, digit-bounds}
+use Rattle.lines.specs.Decimals.{withDigit, digit-bounds}
+use Rattle.screen.specs.Events.{capped}
 use Rattle.screen.proofs.with_digit.Statement.{statement}
 use Rattle.screen.proofs.with_digit.Tie as tie
 
