@@ -1,4 +1,5 @@
 pub mod Nets
+pub mod Cases
 pub mod Surplus
 pub mod Weights
 pub mod Words

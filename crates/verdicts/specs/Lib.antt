@@ -1,3 +1,4 @@
 pub mod Judging
+pub mod AcceptCases
 pub mod Acceptance
 pub mod RefusalNumbers
