@@ -5,5 +5,6 @@ pub mod OpenLaws
 pub mod SealLaws
 pub mod RoundTrip
 pub mod RefusalNumbers
+pub mod Causes
 pub mod Rooms
 pub mod Whole

@@ -5,40 +5,48 @@ use mathlib.Core.Logic.{_⊎_, inl, inr}
 use mathlib.Core.List.{List, [], _∷_}
 use Prim.Native.Nat.{ℕ}
 use lib.Dec.{eqb}
-use Rattle.laws.specs.Lists.{any, among}
+use Rattle.laws.specs.Lists.{all, any, among}
 use Rattle.refusals.specs.Table.{FILE-LENGTH, BLOCK, OUTPUT-SHORT, BUNDLE-LENGTH}
-use Rattle.refusals.specs.Results.{Refuses, refuses-value, refuses-require, refuses-then}
+use Rattle.refusals.specs.Results.{value, _>>_, require, Refuses, refuses-value, refuses-require, refuses-then, refuses-wider}
 use Rattle.refusals.specs.Answers.{refusal, answer, numberOf}
 use Rattle.refusals.specs.Laws.{written-numbers}
 use Rattle.block.specs.Block.{isZero, rightNumber, rightCount, usedCount, rightPadding, rightSums, unless, fault}
 use Rattle.block.specs.File.{blockCount, faultAt, firstFaulty, firstFault, bundleOf, opened, sealedFile, sealed}
 
+-- a block that breaks a rule
+abbrev pub faultNumbers : List ℕ
+faultNumbers = BLOCK ∷ []
+
 abbrev pub openNumbers : List ℕ
 openNumbers = FILE-LENGTH ∷ BLOCK ∷ OUTPUT-SHORT ∷ []
 
 -- a fault's number is 0 or one of them
-fault-numbers : (last : Bool) (number : ℕ) (b : List ℕ) → (isZero (fault last number b) ≡ true) ⊎ (among (fault last number b) openNumbers ≡ true)
+pub fault-numbers : (last : Bool) (number : ℕ) (b : List ℕ) → (isZero (fault last number b) ≡ true) ⊎ (among (fault last number b) faultNumbers ≡ true)
 unfolding fault any
 fault-numbers last number b = go (rightNumber number b) (rightCount last (usedCount b)) (rightPadding b) (rightSums b)
   where
-    go : (p q r s : Bool) → let number = unless p BLOCK (unless q BLOCK (unless r BLOCK (unless s BLOCK 0))) in (isZero number ≡ true) ⊎ (among number openNumbers ≡ true)
+    go : (p q r s : Bool) → let number = unless p BLOCK (unless q BLOCK (unless r BLOCK (unless s BLOCK 0))) in (isZero number ≡ true) ⊎ (among number faultNumbers ≡ true)
     go false q r s = inr refl
     go true false r s = inr refl
     go true true false s = inr refl
     go true true true false = inr refl
     go true true true true = inl refl
 
-firstFault-numbers : (file : List ℕ) → (isZero (firstFault file .number) ≡ true) ⊎ (among (firstFault file .number) openNumbers ≡ true)
+firstFault-numbers : (file : List ℕ) → (isZero (firstFault file .number) ≡ true) ⊎ (among (firstFault file .number) faultNumbers ≡ true)
 unfolding firstFault faultAt
 firstFault-numbers file = go (eqb (firstFaulty file) (blockCount file))
   where
-    go : (b : Bool) → let r = cond b (refusal 0 (blockCount file)) (refusal (faultAt file (firstFaulty file)) (firstFaulty file)) in (isZero (r .number) ≡ true) ⊎ (among (r .number) openNumbers ≡ true)
+    go : (b : Bool) → let r = cond b (refusal 0 (blockCount file)) (refusal (faultAt file (firstFaulty file)) (firstFaulty file)) in (isZero (r .number) ≡ true) ⊎ (among (r .number) faultNumbers ≡ true)
     go true = inl refl
     go false = fault-numbers _ _ _
 
+-- behind the test of the length
+pub faults-refuse : (file : List ℕ) → Refuses faultNumbers (require (isZero (firstFault file .number)) (firstFault file .number) (firstFault file .spot) >> value (bundleOf file))
+faults-refuse file = refuses-then (refuses-require _ _ _ (firstFault-numbers file)) (λ u. refuses-value (bundleOf file))
+
 pub open-refuses : (file : List ℕ) → Refuses openNumbers (opened file)
-unfolding opened any
-open-refuses file = refuses-then (refuses-require _ FILE-LENGTH 0 (inr refl)) (λ u. refuses-then (refuses-require _ _ _ (firstFault-numbers file)) (λ u. refuses-value (bundleOf file)))
+unfolding opened all any
+open-refuses file = refuses-then (refuses-require _ FILE-LENGTH 0 (inr refl)) (λ u. refuses-wider tt (faults-refuse file))
 
 -- open: a result, or 1, 2 or 3
 pub open-numbers : (file : List ℕ) (room : ℕ) → among (numberOf (answer (opened file) room)) (0 ∷ openNumbers) ≡ true

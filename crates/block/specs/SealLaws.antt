@@ -1,8 +1,8 @@
 -- Laws of sealing: the parts of a bundle, the lengths, and one law for each way that sealing ends.
-use mathlib.Core.Path.{_≡_}
+use mathlib.Core.Path.{_≡_, refl}
 use mathlib.Core.Bool.{true, false}
 use mathlib.Core.List.{List}
-use Prim.Native.Nat.{ℕ, _-_, _*_, min}
+use Prim.Native.Nat.{ℕ, _+_, _-_, _*_, _/_, min}
 use native.Mathlib.Omega.{arith}
 use lib.ListN.{length, length-append, length-take, length-drop}
 use Rattle.laws.specs.Pieces.{joined, length-joined}
@@ -12,6 +12,11 @@ use Rattle.refusals.specs.Results.{value, refused, passes, fails, passed}
 use Rattle.block.specs.Block.{block, withSums}
 use Rattle.block.specs.File.{partAt, sealedBlockAt, blocksFor, sealedFile, sealed}
 use Rattle.block.specs.BlockLaws.{length-summedBytes}
+
+-- a block for each 504 bytes, the last of them begun
+pub blocksFor-is : (n : ℕ) → blocksFor n ≡ (n + 503) / 504
+unfolding blocksFor
+blocksFor-is n = refl
 
 module _ (bundle : List ℕ) where
   pub length-partAt : (k : ℕ) → length (partAt bundle k) ≡ min 504 (length bundle - 504 * k)

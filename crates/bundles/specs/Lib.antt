@@ -5,6 +5,7 @@ pub mod ReadingLaws
 pub mod LayoutLaws
 pub mod Limits
 pub mod Refusing
+pub mod Causes
 pub mod FieldReading
 pub mod WordReading
 pub mod NumberReading

@@ -11,8 +11,8 @@ use Rattle.laws.specs.Lists.{among}
 use Rattle.laws.specs.Numbers.{numberAt}
 use Rattle.refusals.specs.Table.{BUNDLE-END, VALUE, EVENTS, ROWS}
 use Rattle.refusals.specs.Results.{refused, Refuses, refuses-value, refuses-with, refuses-then}
-use Rattle.nets.specs.Nets.{Log}
-use Rattle.bundles.specs.Reading.{got, item, Reader, onward, _>>=_, _>>_, give, offset, require, field, byte, number, each, times}
+use Rattle.nets.specs.Nets.{Log, eventCount}
+use Rattle.bundles.specs.Reading.{got, item, Reader, onward, _>>=_, give, offset, require, field, byte, number, each, times}
 use Rattle.bundles.specs.Layout.{Head, kind0, kind1}
 use Rattle.bundles.specs.Readers.{anything, wordAfter, word, place, places, headAfter, head, term, weights, ofKind, certificate}
 
@@ -72,12 +72,17 @@ module _ {numbers : List ℕ} where
     -- ---- the fields of a bundle
 
     module _ (events : Among numbers EVENTS) where
+      pub reader-wordAfter : (n count : ℕ) → ReaderRefuses numbers (wordAfter n count)
+      unfolding wordAfter
+      reader-wordAfter n count =
+          reader-then reader-offset (λ first. reader-then (reader-byte anything) (λ size. reader-then (reader-require _ EVENTS first (inr events)) (λ u. reader-times size (reader-byte _))))
+
       reader-word : (rowsFit : Log → Bool) → ((log : Log) → (rowsFit log ≡ true) ⊎ Among numbers ROWS) → (n : ℕ) (log : Log) → ReaderRefuses numbers (word rowsFit n log)
-      unfolding word wordAfter
+      unfolding word
       reader-word rowsFit fit n log =
           reader-then reader-offset (λ start.
           reader-then
-          (reader-then reader-offset (λ first. reader-then (reader-byte anything) (λ size. reader-then (reader-require _ EVENTS first (inr events)) (λ u. reader-times size (reader-byte _)))))
+          (reader-wordAfter n (eventCount log))
           (λ w. reader-then (reader-require _ ROWS start (fit (log ++ w ∷ []))) (λ u. reader-give w)))
 
       reader-places : (n : ℕ) → ReaderRefuses numbers (places n)

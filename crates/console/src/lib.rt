@@ -3,13 +3,13 @@
 use libc::STDERR_FILENO;
 use libc::STDIN_FILENO;
 use libc::STDOUT_FILENO;
-use lines::LINE_SIZE;
-use lines::write_refusal;
+use lines::write_line;
 use refusals::Written;
 ghost use mathlib.Core.Path.{_≡_};
-ghost use Prim.Native.Nat.{ℕ, _-_, _≤_};
-ghost use lib.ListN.{length};
+ghost use Prim.Native.Nat.{_-_, _≤_};
+ghost use lib.ListN.{length, take};
 ghost use Rattle.console.specs.Inputs.{Within};
+ghost use Rattle.console.specs.Answers.{Printable, printed};
 
 // What was read: so many bytes, or a read that failed.
 pub enum Input {
@@ -72,20 +72,27 @@ pub fn print(bytes: &[u8]) {
     }
 }
 
-// Writes the result in front of the output to standard output. The line of a refusal goes to standard error too: a result may be any bytes,
-// and only standard error tells it from a refusal.
-pub fn write_answer(answer: Written, output: &[u8])
-    requires { ⌜ ((n : ℕ) → answer ≡ Written.Length n → n ≤ length (now output)) ⌝ }
+// Puts what `seal` and `unseal` print of an answer in front of the output: the result, which stands there, or the line of the refusal. Its length.
+pub fn put_answer(answer: Written, output: &mut [u8]) -> usize
+    requires { ⌜ Printable answer (length (now output)) ⌝ }
+    ensures { λ r. ⌜ r ≤ length (now (output .exit)) ⌝ }
+    ensures { λ r. ⌜ take r (now (output .exit)) ≡ printed answer (now (output .entry)) ⌝ }
 {
     match answer {
-        Written::Refused(refusal) => {
-            let mut line = [0u8; LINE_SIZE];
-            let size = write_refusal(&mut line, refusal);
-            print(&line[..size]);
-            io::write_all(STDERR_FILENO, &line[..size]);
-        }
-        Written::Length(n) => {
-            print(&output[..n]);
-        }
+        Written::Refused(refusal) => write_line(
+            output,
+            b"refused",
+            &[refusal.number as usize, refusal.spot],
+        ),
+        Written::Length(n) => n,
+    }
+}
+
+// Prints what was put in front of the output for an answer. The line of a refusal goes to standard error too: a result may be any bytes, and only
+// standard error tells it from a refusal.
+pub fn print_answer(answer: Written, bytes: &[u8]) {
+    print(bytes);
+    if let Written::Refused(_) = answer {
+        io::write_all(STDERR_FILENO, bytes);
     }
 }

@@ -1,7 +1,7 @@
 -- The comparison of two accepted bundles: from the definitions on nets to the bytes of two bundles.
 use mathlib.Core.Path.{_≡_, refl, sym, ap, _∙_, subst}
 use mathlib.Core.Bool.{Bool, cond}
-use mathlib.Core.Logic.{_⊎_, ⊎-elim}
+use mathlib.Core.Logic.{⊎-elim}
 use mathlib.Core.List.{List, [], _∷_, _++_, flatMap, List·Memᴰ·append-cases, List·Memᴰ·eq-of-singleton}
 use Prim.Native.Nat.{ℕ, _≤_, _<_}
 use native.Mathlib.Omega.{arith}
@@ -14,12 +14,14 @@ use Rattle.refusals.specs.Results.{value, refused}
 use Rattle.nets.specs.Nets as nets
 use Rattle.nets.specs.Nets.{Word, stepAfter, permits, permitted, stopped, firstRefusing, screen}
 use Rattle.nets.specs.Words.{Prefix, prefix→}
-use Rattle.nets.specs.Fits.{prefix-below}
+use Rattle.nets.specs.Fits.{LogBelow, prefix-below}
+use Rattle.nets.specs.TokenGame.{placesOf}
+use Rattle.nets.specs.SeparationProblems.{Complete, Suboptimal, accepted-complete, accepted-suboptimal}
 use Rattle.nets.specs.Comparison.{PrefixesIn, first-exactly, second-permits, nets-agree, first-screened, second-screened, tallies-agree}
 use Rattle.logs.specs.Rows.{withRows, cleared}
 use Rattle.logs.specs.Answers.{TABLE}
 use Rattle.logs.specs.Log.{logRows}
-use Rattle.bundles.specs.Layout.{CertificateFields, Head, Contents, WordInLimits, toBundle, certificateBytes, bytesOf}
+use Rattle.bundles.specs.Layout.{CertificateFields, Head, Contents, WordInLimits, toNet, toBundle, certificateBytes, bytesOf}
 use Rattle.bundles.specs.Readers.{headOf, eventsIn, logIn, netIn}
 use Rattle.bundles.specs.Limits.{words-below}
 use Rattle.bundles.specs.Reading.{Read, item}
@@ -30,6 +32,8 @@ use Rattle.verdicts.specs.declared.Verdict.the-variants.{Accepted}
 use Rattle.screening.specs.Screening.{replayed, screened}
 use Rattle.screening.specs.Screens.{Readable, Screenable, screened-replayed, permitted-exactly, readable-exactly, screenable-head}
 use Rattle.demands.specs.Demands.{ScreenedAtEnd, Compared}
+use Rattle.demands.specs.Tables.{LogLeft}
+use Rattle.demands.specs.TablesProved.{log-left}
 
 -- ---- one accepted bundle
 
@@ -58,6 +62,19 @@ module _ (b : List ℕ) (bytes : Bytes b) where
   pub accepted-head : (c : Tally) (d : Contents) → AcceptedAs b c d → headOf b ≡ d .head
   accepted-head c d a = screenable-head b bytes [] (d .head) _ (screenable c d a [] (omega arith) tt)
 
+  -- the places of its net are a complete set of regions of its log
+  module _ (c : Tally) (d : Contents) (a : AcceptedAs b c d) where
+    below : LogBelow (d .head .events) (d .head .log)
+    below = words-below (d .head .events) (d .head .log) (a .limits .head .words)
+
+    pub net-complete : Complete (eventsIn b) (Prefix (logIn b)) (placesOf (netIn b))
+    unfolding toBundle
+    net-complete = subst (λ (h : Head). Complete (h .events) (Prefix (h .log)) (placesOf (toNet h))) (sym (accepted-head c d a)) (accepted-complete (toBundle d) below (a .accepted))
+
+    pub net-suboptimal : Suboptimal (eventsIn b) (Prefix (logIn b)) (placesOf (netIn b))
+    unfolding toBundle
+    net-suboptimal = subst (λ (h : Head). Suboptimal (h .events) (Prefix (h .log)) (placesOf (toNet h))) (sym (accepted-head c d a)) (accepted-suboptimal (toBundle d) below (a .accepted))
+
   module _ (tableSize : ℕ) (c : Tally) (yes′ : verdict tableSize b ≡ Accepted c) where
     -- its fields, with the head that screening reads
     pub fields : (cs : List CertificateFields) × AcceptedAs b c (record { head = headOf b; certificates = cs })
@@ -71,6 +88,13 @@ module _ (b : List ℕ) (bytes : Bytes b) where
     table-left table size =
         let f = fields in
         accepted-table b table bytes (omega (arith, long-table tableSize b c yes′)) c (record { head = headOf b; certificates = f .0 }) (f .1)
+
+    -- number by number
+    pub numbers-left : (table : List ℕ) → length table ≡ tableSize → LogLeft (eventsIn b) (logIn b) table (tableAfter b table)
+    numbers-left table size =
+        let l = fields .1 .limits in
+        subst (LogLeft (eventsIn b) (logIn b) table) (sym (table-left table size))
+        (log-left (eventsIn b) (logIn b) (l .head .events .1) (words-below (eventsIn b) (logIn b) (l .head .words)) (l .rowCount) table (omega (arith, size, long-table tableSize b c yes′)))
 
     prefix-length : (u : Word) → Prefix (logIn b) u → length u ≤ 255
     prefix-length u m = ⊎-elim

@@ -1,4 +1,6 @@
--- The user's three demands, as types. Proved.antt proves each of them; README.md and docs/ASSURANCE.md say how to read them.
+-- The user's three demands, as types: the summary. Proved.antt proves each of them; docs/ASSURANCE.md says how to read them.
+-- A page for each group of calls says exactly when which refusal meets a call, and at which spot, in the words of the requirements: Opening.antt
+-- (open, seal), Tables.antt (fresh, take, and what stands in a table), Judging.antt and Screening.antt. Here they are gathered by name.
 -- A file, a bundle, an output, a table and a word are lists of numbers; `Bytes` says that each number is below 256.
 use mathlib.Core.Path.{_≡_}
 use mathlib.Core.Bool.{true, false, not}
@@ -6,10 +8,11 @@ use mathlib.Core.Logic.{_↔_}
 use mathlib.Core.List.{List, [], _∷_, _++_}
 use Prim.Native.Nat.{ℕ, _*_, _≤_, _<_}
 use lib.Dec.{T}
-use lib.ListN.{length, take}
+use lib.ListN.{length, take, drop}
 use Rattle.laws.specs.Lists.{among}
 use Rattle.laws.specs.Numbers.{Bytes}
 use Rattle.laws.specs.Parts.{front}
+use Rattle.limits.specs.Limits.{MAX-PLACES, MAX-TERMS}
 use Rattle.refusals.specs.Results.{Result, value}
 use Rattle.refusals.specs.Answers.{fitted, answer, written, numberOf}
 use Rattle.refusals.specs.Laws.{Ends}
@@ -20,6 +23,8 @@ use Rattle.nets.specs.Nets.{Word, Log, Net, permits, rows, eventCount}
 use Rattle.nets.specs.Words.{Prefix, PermitsLog}
 use Rattle.nets.specs.Comparison.{PrefixesIn}
 use Rattle.nets.specs.Screening.{FirstRefused}
+use Rattle.nets.specs.TokenGame.{placesOf}
+use Rattle.nets.specs.SeparationProblems.{Complete, Suboptimal}
 use Rattle.logs.specs.Rows.{withRows, cleared}
 use Rattle.logs.specs.Answers.{TABLE, freshAnswer, freshTable, takenAnswer, takenTable, takenNumber}
 use Rattle.logs.specs.Log.{logRows, Takes}
@@ -36,42 +41,75 @@ use Rattle.screening.specs.Screening.{screened, screenedNumber}
 use Rattle.screening.specs.Screens.{Readable, Screenable}
 use Rattle.screening.specs.declared.Screened.{Screened}
 use Rattle.screening.specs.declared.Screened.the-variants as screening
+use Rattle.demands.specs.Opening.{OpenExactly, SealExactly}
+use Rattle.demands.specs.Tables.{FreshExactly, TakeExactly, TakeLeaves, LogLeft}
+use Rattle.demands.specs.Judging.{JudgeExactly, FieldsExactly}
+use Rattle.demands.specs.Screening.{ScreenExactly}
 
 -- ---- DEMAND 1: 'every call on every input ends in a result or in a refusal from the numbered table, touches no memory but the buffers
 -- lent to it, and leaves in each of them exactly what the table says.'
 -- That a call ends, and touches nothing else, is part of its being proved. Its contract gives the answer and each buffer at exit by the
--- definitions below, for every input; the spots, and which refusal comes first, are in these. Of them it is stated here that a refusal's number
--- is one of the call's line in the order of refusals (0 is a result, 256 a stop), and what is left in the buffers.
+-- definitions below, for every input. Of them it is stated here when each refusal meets a call, that its number is one of the call's line in the
+-- order of refusals, and what is left in the buffers.
 
 pub record Demand1 : Type 0 where
+  -- exactly when each call has a result, and exactly when it is refused with which number, at which spot
+  pub open-exactly : (file : List ℕ) (room : ℕ) → OpenExactly file room
+  pub seal-exactly : (b : List ℕ) (room : ℕ) → SealExactly b room
+  pub fresh-exactly : (n : ℕ) (table : List ℕ) → FreshExactly n table
+  pub take-exactly : (s : Summary) (table : List ℕ) (w : Word) → TakeExactly s table w
+  pub judge-exactly : (tableSize : ℕ) (b : List ℕ) → Bytes b → JudgeExactly tableSize b
+  pub screen-exactly : (b : List ℕ) → Bytes b → (w : Word) → ScreenExactly b w
+  pub fields-exactly : (b : List ℕ) (at : ℕ) → FieldsExactly b at
+  -- the limits that no other line says by a numeral: 64 places, 64 terms
+  pub counts-most : (MAX-PLACES ≡ 64) × (MAX-TERMS ≡ 64)
+  -- the number of a refusal is one of the call's line, 0 is that of a result, 256 that of a stop
+  pub refusal-numbers : (r : Refusal) → (numberOf (writing.Refused r) ≡ r .number) × (takenNumber (taking.Refused r) ≡ r .number)
+      × (verdictNumber (judging.Refused r) ≡ r .number) × (screenedNumber (screening.Refused r) ≡ r .number)
   pub refusals-of-open : (file : List ℕ) (room : ℕ) → among (numberOf (answer (opened file) room)) (0 ∷ 1 ∷ 2 ∷ 3 ∷ []) ≡ true
   pub refusals-of-seal : (b : List ℕ) (room : ℕ) → among (numberOf (answer (sealed b) room)) (0 ∷ 4 ∷ 3 ∷ []) ≡ true
   pub refusals-of-fresh : (n : ℕ) (table : List ℕ) → among (takenNumber (freshAnswer n table)) (0 ∷ 5 ∷ 16 ∷ []) ≡ true
   pub refusals-of-take : (s : Summary) (table : List ℕ) (w : Word) → among (takenNumber (takenAnswer s table w)) (0 ∷ 5 ∷ 16 ∷ 8 ∷ 7 ∷ 9 ∷ []) ≡ true
-  pub refusals-of-judge : (tableSize : ℕ) (b : List ℕ) → among (verdictNumber (verdict tableSize b)) (0 ∷ 4 ∷ 5 ∷ 6 ∷ 7 ∷ 8 ∷ 9 ∷ 10 ∷ 11 ∷ 12 ∷ 13 ∷ []) ≡ true
-  pub refusals-of-judge-file : (file : List ℕ) (room tableSize : ℕ) → among (verdictNumber (fileVerdict file room tableSize)) (0 ∷ 1 ∷ 2 ∷ 3 ∷ 4 ∷ 5 ∷ 6 ∷ 7 ∷ 8 ∷ 9 ∷ 10 ∷ 11 ∷ 12 ∷ 13 ∷ []) ≡ true
+  pub refusals-of-judge : (tableSize : ℕ) (b : List ℕ)
+      → among (verdictNumber (verdict tableSize b)) (0 ∷ 4 ∷ 5 ∷ 6 ∷ 7 ∷ 8 ∷ 9 ∷ 10 ∷ 11 ∷ 12 ∷ 13 ∷ []) ≡ true
+  pub refusals-of-judge-file : (file : List ℕ) (room tableSize : ℕ)
+      → among (verdictNumber (fileVerdict file room tableSize)) (0 ∷ 1 ∷ 2 ∷ 3 ∷ 4 ∷ 5 ∷ 6 ∷ 7 ∷ 8 ∷ 9 ∷ 10 ∷ 11 ∷ 12 ∷ 13 ∷ []) ≡ true
   pub refusals-of-screen : (b : List ℕ) (w : Word) → among (screenedNumber (screened b w)) (0 ∷ 256 ∷ 14 ∷ 4 ∷ 6 ∷ 7 ∷ 8 ∷ 15 ∷ []) ≡ true
   -- no refusal of opening or sealing writes to an output; a result stands in front of it, and the rest is left
-  pub refused-output : (result : Result (List ℕ)) (output : List ℕ) (r : Refusal) → answer result (length output) ≡ writing.Refused r → written result output ≡ output
+  pub refused-output : (result : Result (List ℕ)) (output : List ℕ) (r : Refusal) → answer result (length output) ≡ writing.Refused r
+      → written result output ≡ output
   pub result-output : (result : Result (List ℕ)) (output : List ℕ) (n : ℕ) → answer result (length output) ≡ writing.Length n
       → (new : List ℕ) × (result ≡ value new) × (n ≡ length new) × (written result output ≡ front new output)
+  pub result-rest : (result : Result (List ℕ)) (output : List ℕ) (n : ℕ) → answer result (length output) ≡ writing.Length n
+      → (length (written result output) ≡ length output) × (drop n (written result output) ≡ drop n output)
   -- a fresh summary leaves zeros up to number 3,327, and the rest; from there on the words that are taken leave the rows of their log, each
   -- with its mask, zeros up to number 3,327, and the rest
-  pub fresh-table : (n : ℕ) (table : List ℕ) (s : Summary) → freshAnswer n table ≡ taking.Next s → freshTable (freshAnswer n table) table ≡ cleared TABLE table
+  pub fresh-table : (n : ℕ) (table : List ℕ) (s : Summary) → freshAnswer n table ≡ taking.Next s
+      → freshTable (freshAnswer n table) table ≡ cleared TABLE table
   pub log-table : (n : ℕ) (table : List ℕ) (log : Log) (s s′ : Summary) (table′ : List ℕ)
       → freshAnswer n table ≡ taking.Next s → Takes s (freshTable (freshAnswer n table) table) log s′ table′
       → (s′ ≡ record { n = n; rows = length (rows n log); events = eventCount log }) × (table′ ≡ withRows (logRows log) (cleared TABLE table))
+  -- number by number: n counts, zeros from n on, bits for the allowed steps
+  pub log-numbers : (n : ℕ) (table : List ℕ) (log : Log) (s s′ : Summary) (table′ : List ℕ)
+      → freshAnswer n table ≡ taking.Next s → Takes s (freshTable (freshAnswer n table) table) log s′ table′ → LogLeft n log table table′
+  -- what a taken word leaves in any table
+  pub taken-table : (s : Summary) (table : List ℕ) (w : Word) (s′ : Summary) → takenAnswer s table w ≡ taking.Next s′
+      → TakeLeaves s table w s′ (takenTable (takenAnswer s table w) s table w)
   -- the summary and fresh, refusing, leave the table
   pub refused-fresh : (n : ℕ) (table : List ℕ) (r : Refusal) → freshAnswer n table ≡ taking.Refused r → freshTable (freshAnswer n table) table ≡ table
-  pub refused-take : (s : Summary) (table : List ℕ) (w : Word) (r : Refusal) → takenAnswer s table w ≡ taking.Refused r → takenTable (takenAnswer s table w) s table w ≡ table
+  pub refused-take : (s : Summary) (table : List ℕ) (w : Word) (r : Refusal) → takenAnswer s table w ≡ taking.Refused r
+      → takenTable (takenAnswer s table w) s table w ≡ table
   -- the judge, refusing with 4 or 5, leaves the table; with any other number it leaves zeros up to number 3,327, and the rest
   pub refused-judge : (table b : List ℕ) (r : Refusal) → verdict (length table) b ≡ judging.Refused r
-      → ((among (r .number) (4 ∷ 5 ∷ []) ≡ true) → tableAfter b table ≡ table) × ((among (r .number) (4 ∷ 5 ∷ []) ≡ false) → tableAfter b table ≡ cleared TABLE table)
+      → ((among (r .number) (4 ∷ 5 ∷ []) ≡ true) → tableAfter b table ≡ table)
+      × ((among (r .number) (4 ∷ 5 ∷ []) ≡ false) → tableAfter b table ≡ cleared TABLE table)
   -- accepting, it leaves the log's rows, each with its mask, zeros up to number 3,327, and the rest
   pub accepted-judge : (table b : List ℕ) → Bytes b → (c : Tally) → verdict (length table) b ≡ judging.Accepted c
       → tableAfter b table ≡ withRows (logRows (logIn b)) (cleared TABLE table)
-  -- judging a file that does not open into the output gives opening's refusal and leaves the table; of one that opens it gives the verdict on
-  -- the bundle in front of the output, and leaves the table as the judge does
+  pub accepted-numbers : (table b : List ℕ) → Bytes b → (c : Tally) → verdict (length table) b ≡ judging.Accepted c
+      → LogLeft (eventsIn b) (logIn b) table (tableAfter b table)
+  -- judging a file leaves the output as opening does, `written (opened file) output`. Of one that does not open into it the answer is opening's
+  -- refusal, and the table is left; of one that opens it is the verdict on the bundle in front of the output, and the table is left as by the judge
   pub file-refused : (file output table : List ℕ) (r : Refusal) → answer (opened file) (length output) ≡ writing.Refused r
       → (fileVerdict file (length output) (length table) ≡ judging.Refused r) × (fileTable (fitted (opened file) (length output)) table ≡ table)
   pub file-opened : (file output table : List ℕ) (n : ℕ) → answer (opened file) (length output) ≡ writing.Length n
@@ -85,17 +123,29 @@ pub record Demand1 : Type 0 where
 -- each other.'
 
 pub record Demand2 : Type 0 where
-  pub accepted : (tableSize : ℕ) → TABLE ≤ tableSize → (b : List ℕ) → Bytes b → (c : Tally) → (verdict tableSize b ≡ judging.Accepted c) ↔ ((d : Contents) × AcceptedAs b c d)
+  pub accepted : (tableSize : ℕ) → 3328 ≤ tableSize → (b : List ℕ) → Bytes b → (c : Tally) → (verdict tableSize b ≡ judging.Accepted c)
+      ↔ ((d : Contents) × AcceptedAs b c d)
   -- the event count, log and net that the lines below and demand 3 speak of are, of an accepted bundle, those of its contents
   pub head : (b : List ℕ) → Bytes b → (c : Tally) (d : Contents) → AcceptedAs b c d → headOf b ≡ d .head
+  -- 'by the region definitions of Badouel and Schlachter': its places are a complete set of regions of the log, so that on the prefixes with one
+  -- event more it has the language of all regions (crates/nets/specs/SeparationProblems.antt)
+  pub complete : (b : List ℕ) → Bytes b → (c : Tally) (d : Contents) → AcceptedAs b c d
+      → Complete (eventsIn b) (Prefix (logIn b)) (placesOf (netIn b))
+  pub suboptimal : (b : List ℕ) → Bytes b → (c : Tally) (d : Contents) → AcceptedAs b c d
+      → Suboptimal (eventsIn b) (Prefix (logIn b)) (placesOf (netIn b))
   pub permitted : (b : List ℕ) (w : Word) → Readable b w → (screened b w ≡ screening.Permitted) ↔ T (permits (eventsIn b) (netIn b) w)
-  pub stopped : (b : List ℕ) (w : Word) → Readable b w → (i j : ℕ) → (screened b w ≡ screening.Stopped (record { position = i; place = j })) ↔ FirstRefused (eventsIn b) (netIn b) w i j
+  pub stopped : (b : List ℕ) (w : Word) → Readable b w → (i j : ℕ) → (screened b w ≡ screening.Stopped (record { position = i; place = j }))
+      ↔ FirstRefused (eventsIn b) (netIn b) w i j
   pub readable : (b : List ℕ) → Bytes b → (w : Word) → Readable b w ↔ ((h : Head) × (rest : List ℕ) × Screenable b w h rest)
+  -- accepted or not, the head that the layout has in front of the bundle is the one that these lines speak of
+  pub readable-head : (b : List ℕ) → Bytes b → (w : Word) (h : Head) (rest : List ℕ) → Screenable b w h rest → headOf b ≡ h
   -- every bundle of 1 to 64,512 bytes is sealed
-  pub seals : (b output : List ℕ) → 1 ≤ length b → length b ≤ 64512 → 512 * blocksFor (length b) ≤ length output → answer (sealed b) (length output) ≡ writing.Length (512 * blocksFor (length b))
+  pub seals : (b output : List ℕ) → 1 ≤ length b → length b ≤ 64512 → 512 * blocksFor (length b) ≤ length output
+      → answer (sealed b) (length output) ≡ writing.Length (512 * blocksFor (length b))
   pub seal-then-open : (b first second : List ℕ) (n : ℕ) → answer (sealed b) (length first) ≡ writing.Length n → length b ≤ length second
       → Ends (opened (take n (written (sealed b) first))) second (writing.Length (length b)) (front b second)
-  pub open-then-seal : (file first second : List ℕ) (n : ℕ) → Bytes file → answer (opened file) (length first) ≡ writing.Length n → length file ≤ length second
+  pub open-then-seal : (file first second : List ℕ) (n : ℕ) → Bytes file → answer (opened file) (length first) ≡ writing.Length n
+      → length file ≤ length second
       → Ends (sealed (take n (written (opened file) first))) second (writing.Length (length file)) (front file second)
 
 -- ---- DEMAND 3: 'Take any two sealed files that open and are accepted, whatever the outputs and tables held before, with the same event
@@ -118,7 +168,8 @@ pub record ScreenedAtEnd (s : Screened) (n : ℕ) (net : Net) (w : Word) (e : �
 pub record Longer (b₁ b₂ : List ℕ) (w : Word) (e : ℕ) : Type 0 where
   -- 'The first net permits that longer word exactly when it is permitted by every net, of any number of places with whole numbers of any
   -- size, that permits all words of the first log.'
-  pub exactly : T (permits (eventsIn b₁) (netIn b₁) (w ++ e ∷ [])) ↔ ((net : Net) → PermitsLog (eventsIn b₁) net (logIn b₁) → T (permits (eventsIn b₁) net (w ++ e ∷ [])))
+  pub exactly : T (permits (eventsIn b₁) (netIn b₁) (w ++ e ∷ []))
+      ↔ ((net : Net) → PermitsLog (eventsIn b₁) net (logIn b₁) → T (permits (eventsIn b₁) net (w ++ e ∷ [])))
   -- 'When the first net permits it, so does the second.'
   pub second : T (permits (eventsIn b₁) (netIn b₁) (w ++ e ∷ [])) → T (permits (eventsIn b₂) (netIn b₂) (w ++ e ∷ []))
   -- 'Where the logs have the same prefixes, both nets permit and refuse the same longer words'

@@ -1,6 +1,15 @@
+pub mod Opening
+pub mod Tables
+pub mod Judging
+pub mod Screening
 pub mod Demands
+pub mod OpeningProved
+pub mod TablesProved
+pub mod JudgingProved
+pub mod ScreeningProved
 pub mod Comparing
 pub mod Proved
 pub mod Files
 pub mod Samples
+pub mod CallSamples
 pub mod Met

@@ -4,26 +4,40 @@ use mathlib.Core.List.{List}
 use Prim.Native.Nat.{ℕ}
 use lib.ListN.{length}
 use Rattle.refusals.specs.Results.{value}
-use Rattle.refusals.specs.Laws.{answer-length, answer-taken, refused-writes-nothing}
+use Rattle.refusals.specs.Answers.{numberOf}
+use Rattle.refusals.specs.Laws.{answer-length, answer-rest, answer-taken, refused-writes-nothing}
 use Rattle.block.specs.File.{opened}
 use Rattle.block.specs.RefusalNumbers.{open-numbers, seal-numbers}
 use Rattle.block.specs.RoundTrip.{opened-small, seals, seal-then-open, open-then-seal}
-use Rattle.logs.specs.Answers.{freshTable}
+use Rattle.logs.specs.Answers.{freshTable, takenNumber}
 use Rattle.logs.specs.RefusalNumbers.{fresh-numbers, take-numbers}
 use Rattle.logs.specs.AnswerLaws.{refused-table}
 use Rattle.logs.specs.LogTable.{log-table}
 use Rattle.verdicts.specs.Acceptance.{accepted-exactly}
 use Rattle.verdicts.specs.RefusalNumbers.{judge-numbers, refused-judge}
+use Rattle.verdicts.specs.Judging.{verdictNumber}
 use Rattle.verdicts.specs.declared.Tally.{Tally}
 use Rattle.judging.specs.Files.{judge-file-numbers, file-refused, file-opened}
+use Rattle.screening.specs.Screening.{screenedNumber}
 use Rattle.screening.specs.RefusalNumbers.{screen-numbers}
-use Rattle.screening.specs.Screens.{permitted-exactly, stopped-exactly, readable-exactly}
+use Rattle.screening.specs.Screens.{permitted-exactly, stopped-exactly, readable-exactly, screenable-head}
 use Rattle.demands.specs.Demands.{Demand1, Demand2, Demand3, FileAccepted}
-use Rattle.demands.specs.Comparing.{accepted-head, table-left, compared}
+use Rattle.demands.specs.OpeningProved.{open-exactly, seal-exactly}
+use Rattle.demands.specs.TablesProved.{fresh-exactly, take-exactly, take-leaves, taken-left}
+use Rattle.demands.specs.JudgingProved.{judge-exactly, fields-exactly}
+use Rattle.demands.specs.ScreeningProved.{screen-exactly}
+use Rattle.demands.specs.Comparing.{accepted-head, net-complete, net-suboptimal, table-left, numbers-left, compared}
 
 pub demand-1 : Demand1
-unfolding freshTable
+unfolding freshTable numberOf takenNumber verdictNumber screenedNumber
 demand-1 = record {
+  open-exactly = open-exactly;
+  seal-exactly = seal-exactly;
+  fresh-exactly = fresh-exactly;
+  take-exactly = take-exactly;
+  judge-exactly = judge-exactly;
+  screen-exactly = screen-exactly;
+  fields-exactly = fields-exactly;
   refusals-of-open = open-numbers;
   refusals-of-seal = seal-numbers;
   refusals-of-fresh = fresh-numbers;
@@ -31,14 +45,20 @@ demand-1 = record {
   refusals-of-judge = judge-numbers;
   refusals-of-judge-file = judge-file-numbers;
   refusals-of-screen = screen-numbers;
+  counts-most = (refl, refl);
+  refusal-numbers = λ r. (refl, refl, refl, refl);
   refused-output = refused-writes-nothing;
   result-output = λ result output n e. let a = answer-length result output n e in (a .0, a .1, a .2 .0, a .2 .1);
+  result-rest = answer-rest;
   fresh-table = λ n table s e. rw e;
   log-table = log-table;
+  log-numbers = taken-left;
+  taken-table = take-leaves;
   refused-fresh = λ n table r e. rw e;
   refused-take = λ s table w r e. sym (refused-table s table w r e);
   refused-judge = refused-judge;
   accepted-judge = λ table b bytes c e. table-left b bytes (length table) c e table refl;
+  accepted-numbers = λ table b bytes c e. numbers-left b bytes (length table) c e table refl;
   file-refused = file-refused;
   file-opened = file-opened;
 }
@@ -47,9 +67,12 @@ pub demand-2 : Demand2
 demand-2 = record {
   accepted = accepted-exactly;
   head = accepted-head;
+  complete = net-complete;
+  suboptimal = net-suboptimal;
   permitted = permitted-exactly;
   stopped = stopped-exactly;
   readable = readable-exactly;
+  readable-head = screenable-head;
   seals = seals;
   seal-then-open = seal-then-open;
   open-then-seal = open-then-seal;

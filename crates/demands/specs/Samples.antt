@@ -62,7 +62,7 @@ samples =
     ∷ (ofVerdict (verdict TABLE (1 ∷ 0 ∷ 1 ∷ 0 ∷ 0 ∷ 0 ∷ 0 ∷ 1 ∷ 0 ∷ 0 ∷ 0 ∷ [])), 0 ∷ 1 ∷ 0 ∷ 1 ∷ 0 ∷ [])
     -- F
     ∷ (ofVerdict (verdict TABLE (1 ∷ 0 ∷ 0 ∷ [])), 6 ∷ 3 ∷ [])
-    -- G
+    -- G; it also isolates the third inequality, the only one that its empty sums do not meet
     ∷ (ofVerdict (verdict TABLE (1 ∷ 0 ∷ 0 ∷ 1 ∷ 1 ∷ 0 ∷ 0 ∷ [])), 12 ∷ 0 ∷ [])
     -- H
     ∷ (ofVerdict (verdict TABLE (1 ∷ 0 ∷ 0 ∷ 1 ∷ 0 ∷ 0 ∷ 0 ∷ [])), 7 ∷ 4 ∷ [])
@@ -84,6 +84,14 @@ samples =
     ∷ (ofVerdict (verdict TABLE (1 ∷ 0 ∷ 0 ∷ 2 ∷ [])), 7 ∷ 3 ∷ [])
     ∷ (ofVerdict (verdict TABLE (1 ∷ 0 ∷ 0 ∷ 1 ∷ 1 ∷ 0 ∷ 1 ∷ 1 ∷ 0 ∷ 0 ∷ 0 ∷ 0 ∷ [])), 7 ∷ 7 ∷ [])
     ∷ (ofVerdict (verdict TABLE (1 ∷ 0 ∷ 0 ∷ 1 ∷ 1 ∷ 0 ∷ 1 ∷ 0 ∷ 0 ∷ 0 ∷ 0 ∷ 0 ∷ [])), 12 ∷ 0 ∷ [])
+    -- 65 terms; a term's event, and its weight
+    ∷ (ofVerdict (verdict TABLE (1 ∷ 0 ∷ 0 ∷ 1 ∷ 1 ∷ 0 ∷ 65 ∷ [])), 7 ∷ 6 ∷ [])
+    ∷ (ofVerdict (verdict TABLE (1 ∷ 0 ∷ 0 ∷ 1 ∷ 1 ∷ 0 ∷ 1 ∷ 0 ∷ 0 ∷ 5 ∷ 0 ∷ 0 ∷ [])), 7 ∷ 9 ∷ [])
+    ∷ (ofVerdict (verdict TABLE (1 ∷ 0 ∷ 0 ∷ 1 ∷ 1 ∷ 0 ∷ 1 ∷ 0 ∷ 0 ∷ 0 ∷ 0 ∷ [])), 6 ∷ 10 ∷ [])
+    -- the inequalities of kind 1, each the only one that is not met: the sum of g at most k; the second; the third
+    ∷ (ofVerdict (verdict TABLE (1 ∷ 1 ∷ 1 ∷ 0 ∷ 0 ∷ 1 ∷ 1 ∷ 0 ∷ 1 ∷ 0 ∷ 0 ∷ 0 ∷ 2 ∷ 0 ∷ [])), 12 ∷ 0 ∷ [])
+    ∷ (ofVerdict (verdict TABLE (2 ∷ 1 ∷ 2 ∷ 0 ∷ 1 ∷ 0 ∷ 1 ∷ 1 ∷ 0 ∷ 1 ∷ 1 ∷ 0 ∷ 1 ∷ 1 ∷ 0 ∷ [])), 12 ∷ 0 ∷ [])
+    ∷ (ofVerdict (verdict TABLE (2 ∷ 1 ∷ 2 ∷ 0 ∷ 1 ∷ 0 ∷ 1 ∷ 1 ∷ 0 ∷ 1 ∷ 0 ∷ 0 ∷ 0 ∷ 1 ∷ 0 ∷ [])), 12 ∷ 0 ∷ [])
     -- further answers of screening: 4, 6, 7, 15, and a bundle that is not accepted
     ∷ (ofScreened (screened [] (0 ∷ [])), 4 ∷ 0 ∷ [])
     ∷ (ofScreened (screened (1 ∷ 0 ∷ []) (0 ∷ [])), 6 ∷ 2 ∷ [])

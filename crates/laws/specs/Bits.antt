@@ -1,14 +1,14 @@
 -- Bits of numbers: a number as the set of those e whose bit is set.
 use mathlib.Core.Path.{_≡_, refl, sym, ap, _∙_}
 use mathlib.Core.Bool.{Bool, true, false, not, _||_}
-use Prim.Native.Nat.{ℕ, zero, suc, _+_, _*_, _/_, _%_, _^_, _<_, max}
-use native.Mathlib.Nat.{pow-succ', pow-suc, div-div-eq-div-mul, div-one, mul-div-cancel, mul-mod-left, mul-add-mod-self-right, mod-eq-of-lt, max-zero, zero-div}
+use Prim.Native.Nat.{ℕ, zero, suc, _+_, _*_, _/_, _%_, _^_, _≤_, _<_, max}
+use native.Mathlib.Nat.{pow-succ', pow-suc, div-div-eq-div-mul, div-one, mul-div-cancel, mul-mod-left, mul-add-mod-self-right, mod-eq-of-lt, max-zero, zero-div, div-eq-of-lt, lt-of-lt-of-le}
 use native.Mathlib.Decide.{ℕ-discrete}
 use native.Mathlib.Omega.{arith}
 use borrow.Author.Tests.{eq-eqb, ne-eqb}
 use lib.Dec.{eqb}
 use lib.Bits.{bitOr, or-shr, or-step, or-zero-r, or-lt}
-use lib.Pow.{pow-lt}
+use lib.Pow.{pow-lt, pow-mono}
 use mir.Val.{boolByte}
 
 -- bit e of a number
@@ -33,6 +33,11 @@ bit-suc m e = ap (λ (n : ℕ). eqb (n % 2) 1) (ap (λ (n : ℕ). m / n) (pow-su
 pub bit-of-zero : (e : ℕ) → bit 0 e ≡ false
 unfolding bit
 bit-of-zero e = ap (λ (n : ℕ). eqb (n % 2) 1) (zero-div (2 ^ e))
+
+-- nor one from k on, of a number of k bits
+pub bit-above : (k m e : ℕ) → m < 2 ^ k → k ≤ e → bit m e ≡ false
+unfolding bit
+bit-above k m e h above = ap (λ (n : ℕ). eqb (n % 2) 1) (div-eq-of-lt (lt-of-lt-of-le h (pow-mono above)))
 
 or-half : (a b : ℕ) → bitOr a b / 2 ≡ bitOr (a / 2) (b / 2)
 or-half a b = or-shr a b 1

@@ -1,11 +1,11 @@
 -- Booleans: tests passed or failed, taken apart and put together.
 use mathlib.Core.Path.{_≡_, refl}
 use mathlib.Core.Bool.{Bool, true, false, false≢true, not, _&&_, _||_}
-use mathlib.Core.Logic.{_⊎_, inl, inr, ⊎-elim}
+use mathlib.Core.Logic.{_↔_, _⊎_, inl, inr, ⊎-elim}
 use Prim.Native.Nat.{ℕ, _≤_, _<_}
-use lib.Dec.{T, ltb}
+use lib.Dec.{T, leb, ltb}
 use native.Mathlib.Omega.{arith}
-use borrow.Author.Tests.{ltb-true, ltb-false}
+use borrow.Author.Tests.{ltb-true, ltb-false, leb-true, leb-false, le-leb, lt-leb}
 
 -- what follows from two things that differ: `impossible cc`
 pub impossible : {A : Type 0} → _≡_ {A = ℕ} 0 1 → A
@@ -25,6 +25,13 @@ true-or-false false = inr refl
 
 pub lt-or-le : (a b : ℕ) → (a < b) ⊎ (b ≤ a)
 lt-or-le a b = ⊎-elim (λ e. inl (ltb-true a b e)) (λ e. inr (ltb-false a b e)) (true-or-false (ltb a b))
+
+-- a comparison, as code tests it
+pub at-least : (a b : ℕ) → (leb a b ≡ true) ↔ (a ≤ b)
+at-least a b = (leb-true a b, le-leb a b)
+
+pub less : (a b : ℕ) → (leb a b ≡ false) ↔ (b < a)
+less a b = (leb-false a b, lt-leb a b)
 
 -- a test passed or failed
 pub decide : (b : Bool) → T b ⊎ T (not b)

@@ -1,7 +1,7 @@
 -- The members of a list that pass a test, as a loop goes through them.
-use mathlib.Core.Path.{_≡_, sym}
+use mathlib.Core.Path.{_≡_, refl, sym, ap, ap₂}
 use mathlib.Core.Bool.{Bool, true, false, cond}
-use mathlib.Core.List.{List, [], _∷_, _++_}
+use mathlib.Core.List.{List, [], _∷_, _++_, List·Memᴰ, List·Memᴰ·head, List·Memᴰ·tail}
 use Prim.Native.Nat.{ℕ, _+_, _<_}
 use native.Mathlib.Nat.{zero-add}
 use native.Mathlib.Numerals.{add-one}
@@ -31,3 +31,19 @@ keep-last f (y ∷ xs) x = go (f y) (keep-last f xs x)
         → length (cond p (y ∷ keep f (xs ++ x ∷ [])) (keep f (xs ++ x ∷ []))) ≡ length (cond p (y ∷ keep f xs) (keep f xs)) + length (keep f (x ∷ []))
     go true e = omega arith
     go false e = e
+
+-- two lists, one behind the other
+pub keep-append : {A : Type 0} (f : A → Bool) (xs ys : List A) → keep f (xs ++ ys) ≡ keep f xs ++ keep f ys
+unfolding keep
+keep-append f [] ys = refl
+keep-append {A} f (x ∷ xs) ys = go (f x) (keep-append f xs ys)
+  where
+    go : (p : Bool) → keep f (xs ++ ys) ≡ keep f xs ++ keep f ys → cond p (x ∷ keep f (xs ++ ys)) (keep f (xs ++ ys)) ≡ cond p (x ∷ keep f xs) (keep f xs) ++ keep f ys
+    go true e = ap (λ (l : List A). x ∷ l) e
+    go false e = e
+
+-- tests that agree on the members
+pub keep-same : {A : Type 0} (f g : A → Bool) (xs : List A) → ((x : A) → List·Memᴰ x xs → f x ≡ g x) → keep f xs ≡ keep g xs
+unfolding keep
+keep-same f g [] h = refl
+keep-same {A} f g (x ∷ xs) h = ap₂ (λ (p : Bool) (l : List A). cond p (x ∷ l) l) (h x (List·Memᴰ·head refl)) (keep-same f g xs (λ y m. h y (List·Memᴰ·tail m)))

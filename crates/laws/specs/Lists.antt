@@ -1,7 +1,7 @@
 -- Tests over lists, with the law of each: `all`, `any`, `keep` (the members that pass a test, in order), `tabulate`, equality and
 -- membership of lists of numbers, and a list for each member, joined.
 use mathlib.Core.Path.{_≡_, refl, sym, ap, ap₂, _∙_, subst}
-use mathlib.Core.Bool.{Bool, true, false, cond, _&&_, _||_, and-true, and-assoc, false≢true}
+use mathlib.Core.Bool.{Bool, true, false, cond, _&&_, _||_, and-true, and-assoc, false≢true, true≢false}
 use mathlib.Core.Logic.{_⊎_, inl, inr, ⊎-elim}
 use mathlib.Core.List.{List, [], _∷_, _++_, map, flatMap, append-assoc, List·Memᴰ, List·Memᴰ·head, List·Memᴰ·tail, List·Memᴰ·not-nil, List·Memᴰ·cases-cons, Memᴰ·cast, List·Memᴰ·append-cases, Memᴰ·append-left, Memᴰ·append-right}
 use Prim.Native.Nat.{ℕ, zero, suc, _+_, _≤_, _<_, zero-le, suc-le-suc}
@@ -209,6 +209,10 @@ among-more x l n e = ap (λ (b : Bool). eqb n x || b) e ∙ or-true (eqb n x)
     or-true : (b : Bool) → (b || true) ≡ true
     or-true true = refl
     or-true false = refl
+
+-- a number of the list is none that is not in it
+pub not-among : (l : List ℕ) (k number : ℕ) → among k l ≡ false → among number l ≡ true → k ≡ number → ⊥
+not-among l k number none listed e = true≢false (sym listed ∙ ap (λ (m : ℕ). among m l) (sym e) ∙ none)
 
 -- what holds of each element
 pub among-all : (f : ℕ → Bool) (l : List ℕ) → T (all f l) → (n : ℕ) → T (among n l) → T (f n)

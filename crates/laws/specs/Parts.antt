@@ -1,11 +1,11 @@
 -- Parts of lists: a new front, a new middle, a part of a part.
-use mathlib.Core.Path.{_≡_, refl, ap}
+use mathlib.Core.Path.{_≡_, refl, ap, _∙_}
 use mathlib.Core.List.{List, [], _∷_, _++_, append-assoc, append-nil}
 use Prim.Native.Nat.{ℕ, zero, suc, _+_, _-_, _≤_, min}
 use native.Mathlib.Nat.{add-zero, zero-add, add-assoc, zero-min, min-zero, suc-min-suc, sub-zero, zero-sub, suc-sub-suc}
 use native.Mathlib.Omega.{arith}
 use lib.ListN.{length, take, drop, getD, replicate, length-append, length-drop, drop-of-length-le, take-append-drop}
-use lib.Seq.{length-take-le, take-take, take-all, take-length, take-add, paste, sets, sets-eq, take-append-seam, drop-append-add, drop-drop}
+use lib.Seq.{length-take-le, drop-append-seam, take-take, take-all, take-length, take-add, paste, sets, sets-eq, take-append-seam, drop-append-add, drop-drop}
 
 module _ {A : Type 0} where
   -- `new` in front of a list, over as many of its elements
@@ -30,6 +30,12 @@ module _ {A : Type 0} where
   pub front-within : (new l after : List A) (n : ℕ) → n ≡ length new → after ≡ front new l → n ≤ length after
   unfolding front
   front-within new l after n size is = omega (arith, ap length is, length-append new (drop (length new) l))
+
+  -- it is as long as before, and behind the new elements as it was
+  pub front-rest : (new l after : List A) (n : ℕ) → n ≡ length new → after ≡ front new l → length new ≤ length l → (length after ≡ length l) × (drop n after ≡ drop n l)
+  unfolding front
+  front-rest new l after n size is fits =
+      rw (size, is) (length-append new (drop (length new) l) ∙ rw length-drop (omega arith), drop-append-seam new (drop (length new) l))
 
   -- no elements
   pub spliced-none : (at : ℕ) (l : List A) → spliced at [] l ≡ l

@@ -1,10 +1,10 @@
 -- The lowest index at which a test fails: of the numbers below n, and of the elements of a list.
 use mathlib.Core.Path.{_≡_, refl, sym, ap, ap₂, _∙_}
 use mathlib.Core.Bool.{Bool, true, false, true≢false, cond, _&&_}
-use mathlib.Core.Logic.{⊎-elim}
+use mathlib.Core.Logic.{_↔_, ⊎-elim}
 use mathlib.Core.List.{List, [], _∷_, _++_, map}
 use Prim.Native.Nat.{ℕ, zero, suc, _+_, _≤_, _<_, zero-le, suc-le-suc}
-use native.Mathlib.Nat.{not-suc-le-zero, le-of-suc-le-suc, le-antisymm, zero-lt-suc, suc-inj}
+use native.Mathlib.Nat.{not-suc-le-zero, le-of-suc-le-suc, le-antisymm, le-of-eq, zero-lt-suc, suc-inj}
 use native.Mathlib.Numerals.{add-one}
 use native.Mathlib.Omega.{arith}
 use lib.ListN.{length, take, drop, getD, drop-of-length-le}
@@ -64,6 +64,18 @@ firstFalse-most test (suc n) = go (test 0) (firstFalse-most (λ (j : ℕ). test 
     go : (b : Bool) → firstFalse (λ (j : ℕ). test (suc j)) n ≤ n → cond b (suc (firstFalse (λ (j : ℕ). test (suc j)) n)) 0 ≤ suc n
     go true h = suc-le-suc h
     go false h = zero-le
+
+-- below it, the test is true
+pub firstFalse-below : (test : ℕ → Bool) (n k : ℕ) → k < firstFalse test n → test k ≡ true
+unfolding firstFalse
+firstFalse-below test zero k h = absurd (not-suc-le-zero h)
+firstFalse-below test (suc n) k h = go (test 0) refl (firstFalse-below (λ (j : ℕ). test (suc j)) n) k h
+  where
+    go : (b : Bool) → test 0 ≡ b → ((j : ℕ) → j < firstFalse (λ (j : ℕ). test (suc j)) n → test (suc j) ≡ true)
+        → (k : ℕ) → k < cond b (suc (firstFalse (λ (j : ℕ). test (suc j)) n)) 0 → test k ≡ true
+    go true p rest zero h = p
+    go true p rest (suc k) h = rest k (le-of-suc-le-suc h)
+    go false p rest k h = absurd (not-suc-le-zero h)
 
 -- ---- Of elements
 
@@ -183,6 +195,52 @@ module _ {A : Type 0} where
         sym (take-at a (x ∷ r) (length a) refl) ∙ ap (take (length a)) e ∙ take-at b (y ∷ s) (length a) size,
         sym (drop-at a (x ∷ r) (length a) refl) ∙ ap (drop (length a)) e ∙ drop-at b (y ∷ s) (length a) size,
       )
+
+-- all pass exactly when each does
+pub all-exactly : {A : Type 0} (test : A → Bool) (d : A) (l : List A) → (all test l ≡ true) ↔ ((k : ℕ) → k < length l → test (getD l k d) ≡ true)
+all-exactly test d l = (
+  (λ e. failing-none test d l (le-of-eq (sym (all-failing test l e)))),
+  (λ each. failing-all test l (le-of-eq (sym (failing-never test d l each)))),
+)
+
+-- the first element that fails, exactly: it fails, and those before it pass
+module _ {A : Type 0} (test : A → Bool) (d : A) where
+  failing-at : (l : List A) → firstFailing test l < length l → test (getD l (firstFailing test l) d) ≡ false
+  unfolding firstFailing
+  failing-at [] h = absurd (not-suc-le-zero h)
+  failing-at (x ∷ l) h = go (test x) refl (failing-at l) h
+    where
+      go : (b : Bool) → test x ≡ b → (firstFailing test l < length l → test (getD l (firstFailing test l) d) ≡ false)
+          → cond b (suc (firstFailing test l)) 0 < suc (length l) → test (getD (x ∷ l) (cond b (suc (firstFailing test l)) 0) d) ≡ false
+      go true p rest h = rest (le-of-suc-le-suc h)
+      go false p rest h = p
+
+  failing-below : (l : List A) (k : ℕ) → k < firstFailing test l → test (getD l k d) ≡ true
+  unfolding firstFailing
+  failing-below [] k h = absurd (not-suc-le-zero h)
+  failing-below (x ∷ l) k h = go (test x) refl (failing-below l) k h
+    where
+      go : (b : Bool) → test x ≡ b → ((k : ℕ) → k < firstFailing test l → test (getD l k d) ≡ true)
+          → (k : ℕ) → k < cond b (suc (firstFailing test l)) 0 → test (getD (x ∷ l) k d) ≡ true
+      go true p rest zero h = p
+      go true p rest (suc k) h = rest k (le-of-suc-le-suc h)
+      go false p rest k h = absurd (not-suc-le-zero h)
+
+  failing-is : (l : List A) (k : ℕ) → k < length l → test (getD l k d) ≡ false → ((j : ℕ) → j < k → test (getD l j d) ≡ true) → firstFailing test l ≡ k
+  unfolding firstFailing
+  failing-is [] k h here below = absurd (not-suc-le-zero h)
+  failing-is (x ∷ l) zero h here below = rw here
+  failing-is (x ∷ l) (suc k) h here below = rw (below 0 (zero-lt-suc k)) (ap suc (failing-is l k (le-of-suc-le-suc h) here (λ j b. below (suc j) (suc-le-suc b))))
+
+  pub failing-exactly : (l : List A) (k : ℕ) → ((k ≡ firstFailing test l) × (all test l ≡ false))
+      ↔ ((k < length l) × (test (getD l k d) ≡ false) × ((j : ℕ) → j < k → test (getD l j d) ≡ true))
+  failing-exactly l k = (to, from)
+    where
+      to : (k ≡ firstFailing test l) × (all test l ≡ false) → (k < length l) × (test (getD l k d) ≡ false) × ((j : ℕ) → j < k → test (getD l j d) ≡ true)
+      to (e, some) = let h = some-failing test l some in rw e (h, failing-at l h, failing-below l)
+
+      from : (k < length l) × (test (getD l k d) ≡ false) × ((j : ℕ) → j < k → test (getD l j d) ≡ true) → (k ≡ firstFailing test l) × (all test l ≡ false)
+      from (h, here, below) = let is = failing-is l k h here below in (sym is, failing-some test l (rw is h))
 
 -- of the images of a list, where the tests agree
 pub failing-map : {A B : Type 0} (p : B → Bool) (q : A → Bool) (f : A → B) → ((x : A) → q x ≡ p (f x)) → (l : List A) → firstFailing q l ≡ firstFailing p (map f l)

@@ -88,3 +88,9 @@ pub sum-first : (n : ℕ) (f : ℕ → ℕ) → sum (suc n) f ≡ f 0 + sum n (�
 unfolding sum
 sum-first zero f = omega arith
 sum-first (suc n) f = omega (arith, sum-first n f)
+
+-- a sum over a list is one over its index
+pub weighted-sum : (w : ℕ → ℕ) (xs : List ℕ) → weighted w xs ≡ sum (length xs) (λ i. w i * getD xs i 0)
+unfolding weighted sum
+weighted-sum w [] = refl
+weighted-sum w (x ∷ xs) = ap (λ (n : ℕ). w 0 * x + n) (weighted-sum (λ (i : ℕ). w (suc i)) xs) ∙ sym (sum-first (length xs) (λ i. w i * getD (x ∷ xs) i 0))

@@ -1,10 +1,12 @@
 -- The limits of files, bundles, logs and words, by the names that the code has for them.
 use mathlib.Core.Path.{_≡_}
-use mathlib.Core.Bool.{Bool, true, _&&_}
-use Prim.Native.Nat.{ℕ, _≤_}
+use mathlib.Core.Bool.{Bool, true, false, _&&_}
+use mathlib.Core.Logic.{_↔_, _⊎_, inl, inr, ⊎-elim}
+use Prim.Native.Nat.{ℕ, _≤_, _<_}
+use native.Mathlib.Omega.{arith}
 use lib.Dec.{leb}
-use borrow.Author.Tests.{leb-true, le-leb}
-use Rattle.laws.specs.Booleans.{and-left, and-right}
+use borrow.Author.Tests.{leb-true, leb-false, le-leb, lt-leb}
+use Rattle.laws.specs.Booleans.{and-left, and-right, lt-or-le}
 
 -- a sealed file's bytes
 abbrev pub MAX-FILE-SIZE : ℕ
@@ -25,6 +27,20 @@ rightSize-bounds n e = (leb-true 1 n (and-left (leb 1 n) (leb n MAX-BUNDLE-SIZE)
 pub rightSize-intro : (n : ℕ) → 1 ≤ n → n ≤ MAX-BUNDLE-SIZE → rightSize n ≡ true
 unfolding rightSize
 rightSize-intro n some most = rw (le-leb 1 n some, le-leb n MAX-BUNDLE-SIZE most)
+
+-- and else 0 bytes, or more
+pub rightSize-wrong : (n : ℕ) → (rightSize n ≡ false) ↔ ((n ≡ 0) ⊎ (MAX-BUNDLE-SIZE < n))
+unfolding rightSize
+rightSize-wrong n = (to, ⊎-elim (λ e. rw (lt-leb 1 n (omega arith))) over)
+  where
+    to : rightSize n ≡ false → (n ≡ 0) ⊎ (MAX-BUNDLE-SIZE < n)
+    to e = ⊎-elim
+        (λ none. inl (omega arith))
+        (λ some. inr (leb-false n MAX-BUNDLE-SIZE (rw (le-leb 1 n some) at e)))
+        (lt-or-le n 1)
+
+    over : MAX-BUNDLE-SIZE < n → rightSize n ≡ false
+    over h = rw (le-leb 1 n (omega arith), lt-leb n MAX-BUNDLE-SIZE h)
 
 -- the events of a bundle, and so the counts of a row and the in and out numbers of a place
 abbrev pub MAX-EVENTS : ℕ

@@ -1,17 +1,15 @@
 -- Taking a log word by word leads to its rows: those of the definitions of nets, each with the mask of its allowed steps.
 use mathlib.Core.Path.{_≡_, refl, sym, ap, ap₂, _∙_, subst}
-use mathlib.Core.Bool.{Bool, true, false, false≢true, not, cond, _||_}
+use mathlib.Core.Bool.{Bool, true, false, false≢true, cond, _||_}
 use mathlib.Core.Logic.{_⊎_, inl, inr, ⊎-elim}
-use mathlib.Core.List.{List, [], _∷_, _++_, map, flatMap, foldl, append-nil, append-assoc, map-map, cons≢nil, List·Memᴰ, List·Memᴰ·head, List·Memᴰ·tail, List·Memᴰ·not-nil, List·Memᴰ·cases-cons, Memᴰ·cast}
-use Prim.Native.Nat.{ℕ, suc, _<_}
-use native.Mathlib.Omega.{arith}
-use lib.Dec.{T, eqb, ltb, eqb→eq, leb·suc-suc}
+use mathlib.Core.List.{List, [], _∷_, _++_, map, flatMap, foldl, append-nil, append-assoc, map-map, map-id, cons≢nil, List·Memᴰ, List·Memᴰ·head, List·Memᴰ·tail, List·Memᴰ·not-nil, List·Memᴰ·cases-cons, Memᴰ·cast}
+use Prim.Native.Nat.{ℕ, _<_}
+use lib.Dec.{T, eqb, ltb, eqb→eq}
 use lib.ListN.{length}
 use lib.Seq.{append-snoc}
-use borrow.Author.Tests.{eq-eqb, lt-ltb, ltb-true, ltb-false}
+use borrow.Author.Tests.{eq-eqb, ltb-true, ltb-false}
 use Rattle.laws.specs.Booleans.{same-test, or-yes, yes-or-left, yes-or-right, yes-true, true-or-false}
-use Rattle.laws.specs.Lists.{any, tabulate, equal, equal-true, equal-sym, eq→equal, member, →member, append-last, map-append, map-same}
-use Rattle.laws.specs.Scans.{firstFailing}
+use Rattle.laws.specs.Lists.{any, tabulate, equal, equal-true, eq→equal, member, →member, append-last, map-append, map-same}
 use Rattle.laws.specs.Distinct.{Distinct}
 use Rattle.laws.specs.Bits.{withBit, maskOf, maskOf-same, maskOf-with, maskOf-none}
 use Rattle.limits.specs.Limits.{MAX-EVENTS}
@@ -23,7 +21,7 @@ use Rattle.nets.specs.CountLaws.{counts-snoc}
 use Rattle.nets.specs.LogLaws.{rows-snoc, allowed-snoc}
 use Rattle.logs.specs.Rows.{Row, findRow, newRow, visit, marked, follow, addEvent, takeWord, none}
 use Rattle.logs.specs.Log.{maskAt, logRow, logRows, takeLog}
-use Rattle.logs.specs.Visiting.{visit-found, visit-new, follow-here, follow-later}
+use Rattle.logs.specs.Visiting.{countsOf, found-member, visit-found, visit-new, follow-here, follow-later}
 
 -- the step of counts v and event e
 abbrev step : Counts → ℕ → Step
@@ -101,14 +99,9 @@ module _ (log : Log) (u : Word) (e : ℕ) where
 
 module _ (log : Log) where
   -- a row is found where its counts are a member
-  found-member : (v : Counts) (old : List Counts) → ltb (findRow v (map (logRow log) old)) (length (map (logRow log) old)) ≡ member v old
-  unfolding findRow firstFailing any
-  found-member v [] = refl
-  found-member v (y ∷ ys) = rw (equal-sym y v) (go (equal v y) (map (logRow log) ys) (found-member v ys))
-    where
-      go : (b : Bool) (rs : List Row) → ltb (findRow v rs) (length rs) ≡ member v ys → ltb (cond (not b) (suc (findRow v rs)) 0) (suc (length rs)) ≡ (b || member v ys)
-      go true rs e = lt-ltb 0 (suc (length rs)) (omega arith)
-      go false rs e = leb·suc-suc (suc (findRow v rs)) (length rs) ∙ e
+  found-row : (v : Counts) (old : List Counts) → ltb (findRow v (map (logRow log) old)) (length (map (logRow log) old)) ≡ member v old
+  unfolding countsOf
+  found-row v old = found-member v (map (logRow log) old) ∙ ap (member v) (map-map (λ (r : Row). r .counts) (logRow log) old ∙ map-id old)
 
   -- a row for v: there, or appended
   visit-member : (v : Counts) (old : List Counts) → (member v old ≡ false → newRow v ≡ logRow log v) → visit v (map (logRow log) old) ≡ map (logRow log) (addRow old v)
@@ -116,9 +109,9 @@ module _ (log : Log) where
   visit-member v old fresh = go (member v old) refl
     where
       go : (b : Bool) → member v old ≡ b → visit v (map (logRow log) old) ≡ map (logRow log) (cond b old (old ++ v ∷ []))
-      go true e = visit-found v (map (logRow log) old) (ltb-true _ _ (found-member v old ∙ e))
+      go true e = visit-found v (map (logRow log) old) (ltb-true _ _ (found-row v old ∙ e))
       go false e =
-          visit-new v (map (logRow log) old) (ltb-false _ _ (found-member v old ∙ e))
+          visit-new v (map (logRow log) old) (ltb-false _ _ (found-row v old ∙ e))
           ∙ ap (λ (r : Row). map (logRow log) old ++ (r ∷ [])) (fresh e)
           ∙ sym (map-append (logRow log) old (v ∷ []))
 
@@ -174,14 +167,14 @@ listed-next log u e old listed s t =
     ⊎-elim (λ k. addRow-old old (counts MAX-EVENTS u) (listed s k)) (λ p. Memᴰ·cast (p .0) (addRow-new old (counts MAX-EVENTS u))) (next→ log u e s t)
 
 -- the counts of the prefixes of a word, from u on
-after : Word → Word → List Counts
+unfoldable pub after : Word → Word → List Counts
 after u x = map (λ (b : Word). counts MAX-EVENTS (u ++ b)) (beginnings x)
 
-after-end : (u : Word) → after u [] ≡ counts MAX-EVENTS u ∷ []
+pub after-end : (u : Word) → after u [] ≡ counts MAX-EVENTS u ∷ []
 unfolding after beginnings
 after-end u = rw append-nil
 
-after-next : (u : Word) (e : ℕ) (x : Word) → after u (e ∷ x) ≡ counts MAX-EVENTS u ∷ after (u ++ e ∷ []) x
+pub after-next : (u : Word) (e : ℕ) (x : Word) → after u (e ∷ x) ≡ counts MAX-EVENTS u ∷ after (u ++ e ∷ []) x
 unfolding after beginnings
 after-next u e x =
     ap₂ _∷_ (ap (counts MAX-EVENTS) (append-nil u))
@@ -225,7 +218,7 @@ rows-listed log s t =
     let f = allowed→ MAX-EVENTS log s (allowed-empty log s t) in
     Memᴰ·cast (sym (f .1)) (→row MAX-EVENTS log (f .0) (prefix-shorter log (f .0) (s .event ∷ []) (f .2)))
 
-counts-none : none ≡ counts MAX-EVENTS []
+pub counts-none : none ≡ counts MAX-EVENTS []
 unfolding counts tabulate occurrences
 counts-none = refl
 

@@ -1,5 +1,6 @@
 -- The table after the words of a log are taken from a fresh one.
 use mathlib.Core.Path.{_≡_, refl, sym, ap, _∙_, subst}
+use mathlib.Core.Bool.{true}
 use mathlib.Core.Logic.{⊎-elim}
 use mathlib.Core.List.{List, [], _∷_, _++_, map, map-map, append-assoc, List·Memᴰ·head, List·Memᴰ·tail, List·Memᴰ·not-nil}
 use Prim.Native.Nat.{ℕ, zero, suc, _+_, _*_, _-_, _<_, _≤_, suc-le-suc}
@@ -19,7 +20,7 @@ use Rattle.nets.specs.Nets.{Word, Log, Counts, eventCount, rows, allowed}
 use Rattle.nets.specs.Fits.{Below, LogBelow}
 use Rattle.nets.specs.Wide.{wide, rows-wide, allowed-wide}
 use Rattle.logs.specs.Rows.{ROW, Row, rowAt, numbers, rowsOf, flat, withRows, newRow, visit, follow, addEvent, takeWord, none, cleared}
-use Rattle.logs.specs.Answers.{TABLE, freshSummary, logStarted, freshAnswer, freshTable, rowsAfter, summaryAfter, wordTaken, takenAnswer, takenTable}
+use Rattle.logs.specs.Answers.{TABLE, rightSummary, freshSummary, logStarted, freshAnswer, freshTable, rowsAfter, summaryAfter, wordTaken, takenAnswer, takenTable}
 use Rattle.logs.specs.AnswerLaws.{next→value, rightEventCount-most}
 use Rattle.logs.specs.Log.{takeLog, maskAt, logRow, logRows, Takes}
 use Rattle.logs.specs.Flat.{length-rows, rows-flat, length-numbers, rowAt-numbers, counts-rowAt}
@@ -31,14 +32,14 @@ use Rattle.logs.specs.declared.Summary.{Summary}
 use Rattle.logs.specs.declared.Taken.the-variants.{Next}
 
 -- rows of twelve counts each
-unfoldable Twelve : List Row → Type 0
+unfoldable pub Twelve : List Row → Type 0
 Twelve rs = Every (λ (v : Counts). length v ≡ MAX-EVENTS) (countsOf rs)
 
 twelve-same : (rs qs : List Row) → countsOf rs ≡ countsOf qs → Twelve qs → Twelve rs
 unfolding Twelve
 twelve-same rs qs same h = rw same h
 
-rows-twelve : (k : ℕ) (t : List ℕ) → ROW * k ≤ length t → Twelve (rowsOf k t)
+pub rows-twelve : (k : ℕ) (t : List ℕ) → ROW * k ≤ length t → Twelve (rowsOf k t)
 unfolding Twelve rowsOf countsOf
 rows-twelve zero t h = tt
 rows-twelve (suc k) t h = (ap length (counts-rowAt t) ∙ length-take-le MAX-EVENTS t (omega arith), rows-twelve k (drop ROW t) (simp length-drop (omega arith)))
@@ -56,7 +57,7 @@ visit-twelve v rs n h =
     (λ p. twelve-same (visit v rs) (rs ++ (newRow v ∷ [])) (p .0) (append-twelve rs (newRow v ∷ []) h (n, tt)))
     (visit-cases v rs)
 
-take-twelve : (rs : List Row) (v w : List ℕ) → length v ≡ MAX-EVENTS → Twelve rs → Twelve (takeWord rs v w)
+pub take-twelve : (rs : List Row) (v w : List ℕ) → length v ≡ MAX-EVENTS → Twelve rs → Twelve (takeWord rs v w)
 unfolding takeWord
 take-twelve rs v [] n h = visit-twelve v rs n h
 take-twelve rs v (e ∷ w) n h =
@@ -79,23 +80,24 @@ read-flat (r ∷ rs) q h =
     (ap (λ (l : List Row). rowAt (one ++ x) ∷ l) (ap (rowsOf (length rs)) (drop-at one x ROW (length-numbers r (h .0))) ∙ read-flat rs q (h .1))
     ∙ ap (λ (y : Row). y ∷ rs) (rowAt-numbers r x (h .0)))
 
-read-with : (rs : List Row) (t : List ℕ) → Twelve rs → rowsOf (length rs) (withRows rs t) ≡ rs
+pub read-with : (rs : List Row) (t : List ℕ) → Twelve rs → rowsOf (length rs) (withRows rs t) ≡ rs
 read-with rs t h = read-flat rs (drop (ROW * length rs) t) h
 
-rest-with : (rs : List Row) (t : List ℕ) → Twelve rs → drop (ROW * length rs) (withRows rs t) ≡ drop (ROW * length rs) t
+pub rest-with : (rs : List Row) (t : List ℕ) → Twelve rs → drop (ROW * length rs) (withRows rs t) ≡ drop (ROW * length rs) t
 rest-with rs t h = drop-at (flat rs) (drop (ROW * length rs) t) (ROW * length rs) (length-flat rs h)
 
-length-with : (rs : List Row) (t : List ℕ) → Twelve rs → ROW * length rs ≤ length t → length (withRows rs t) ≡ length t
+pub length-with : (rs : List Row) (t : List ℕ) → Twelve rs → ROW * length rs ≤ length t → length (withRows rs t) ≡ length t
 length-with rs t h room = rw (length-append, length-flat rs h, length-drop) (omega arith)
 
 -- a word that was taken passed every test
-record Took (s : Summary) (t w : List ℕ) (next : Summary) : Type 0 where
-  long : TABLE ≤ length t
-  below : EventsBelow (s .n) w
-  fits : length (rowsAfter s t w) ≤ MAX-ROWS
-  is : next ≡ summaryAfter s t w
+pub record Took (s : Summary) (t w : List ℕ) (next : Summary) : Type 0 where
+  pub long : TABLE ≤ length t
+  pub fine : rightSummary s ≡ true
+  pub below : EventsBelow (s .n) w
+  pub fits : length (rowsAfter s t w) ≤ MAX-ROWS
+  pub is : next ≡ summaryAfter s t w
 
-took : (s : Summary) (t w : List ℕ) (next : Summary) → takenAnswer s t w ≡ Next next → Took s t w next
+pub took : (s : Summary) (t w : List ℕ) (next : Summary) → takenAnswer s t w ≡ Next next → Took s t w next
 unfolding takenAnswer wordTaken firstBad
 took s t w next e =
     let a = passed _ _ _ _ next (next→value (wordTaken s t w) next e) in
@@ -104,7 +106,7 @@ took s t w next e =
     let d = passed _ _ _ _ next (c .1) in
     let f = passed _ _ _ _ next (d .1) in
     let events = all-failing (λ e. ltb e (s .n)) w (d .0) in
-    record { long = leb-true _ _ (a .0); below = none-bad (s .n) w (omega arith); fits = leb-true _ _ (f .0); is = cc (f .1) }
+    record { long = leb-true _ _ (a .0); fine = b .0; below = none-bad (s .n) w (omega arith); fits = leb-true _ _ (f .0); is = cc (f .1) }
 
 -- taking words only adds rows
 take-le : (rs : List Row) (v w : List ℕ) → length rs ≤ length (takeWord rs v w)
@@ -157,7 +159,7 @@ pub cleared-length : (k : ℕ) (t : List ℕ) → k ≤ length (cleared k t)
 unfolding cleared
 cleared-length k t = rw (length-append, length-replicate) (omega arith)
 
-fresh-passed : (n : ℕ) (t : List ℕ) (s : Summary) → freshAnswer n t ≡ Next s → (n ≤ MAX-EVENTS) × (s ≡ freshSummary n)
+pub fresh-passed : (n : ℕ) (t : List ℕ) (s : Summary) → freshAnswer n t ≡ Next s → (n ≤ MAX-EVENTS) × (s ≡ freshSummary n)
 unfolding freshAnswer logStarted
 fresh-passed n t s e =
     let a = passed _ _ _ _ s (next→value (logStarted n t) s e) in
@@ -169,7 +171,7 @@ pub each-below : (n : ℕ) (w : Word) → EventsBelow n w → Below n w
 each-below n (a ∷ w) h e (List·Memᴰ·head q) = subst (λ (x : ℕ). x < n) (sym q) (h 0 (omega arith))
 each-below n (a ∷ w) h e (List·Memᴰ·tail m) = each-below n w (λ k l. h (suc k) (suc-le-suc l)) e m
 
-taken-below : (s : Summary) (t : List ℕ) (ws : Log) (s′ : Summary) (t′ : List ℕ) → Takes s t ws s′ t′ → LogBelow (s .n) ws
+pub taken-below : (s : Summary) (t : List ℕ) (ws : Log) (s′ : Summary) (t′ : List ℕ) → Takes s t ws s′ t′ → LogBelow (s .n) ws
 unfolding Takes
 taken-below s t [] s′ t′ takes x m = absurd (List·Memᴰ·not-nil m)
 taken-below s t (w ∷ ws) s′ t′ takes x (List·Memᴰ·head q) =
@@ -178,6 +180,14 @@ taken-below s t (w ∷ ws) s′ t′ takes x (List·Memᴰ·head q) =
 taken-below s t (w ∷ ws) s′ t′ takes x (List·Memᴰ·tail m) =
     let k = took s t w (takes .0) (takes .1) in
     rw (k .is) at (taken-below (takes .0) (takenTable (takenAnswer s t w) s t w) ws s′ t′ (takes .2) x m)
+
+-- and leave at most 256 rows
+pub taken-rows : (s : Summary) (t : List ℕ) (ws : Log) (s′ : Summary) (t′ : List ℕ) → s .rows ≤ MAX-ROWS → Takes s t ws s′ t′ → s′ .rows ≤ MAX-ROWS
+unfolding Takes
+taken-rows s t [] s′ t′ few takes = rw (takes .0) few
+taken-rows s t (w ∷ ws) s′ t′ few takes =
+    let k = took s t w (takes .0) (takes .1) in
+    taken-rows (takes .0) (takenTable (takenAnswer s t w) s t w) ws s′ t′ (omega (arith, k .fits, ap (λ (x : Summary). x .rows) (k .is))) (takes .2)
 
 -- there are as many rows as the log has distinct count vectors
 pub length-logRows : (n : ℕ) (log : Log) → n ≤ MAX-EVENTS → LogBelow n log → length (logRows log) ≡ length (rows n log)

@@ -1,19 +1,14 @@
 -- The refusal numbers of each call are those of its line in the order of refusals: fresh 5, 16; take 5, 16, 8, 7, 9.
-use mathlib.Core.Path.{_≡_, refl}
-use mathlib.Core.Bool.{Bool, true}
-use mathlib.Core.Logic.{inr}
+use mathlib.Core.Path.{_≡_}
+use mathlib.Core.Bool.{true}
 use mathlib.Core.List.{List, [], _∷_}
 use Prim.Native.Nat.{ℕ}
 use Rattle.laws.specs.Lists.{any, among}
 use Rattle.refusals.specs.Table.{NUMBERS-SHORT, VALUE, EVENTS, ROWS, STATE-RANGE}
-use Rattle.refusals.specs.Results.{Result, value, refused, _>>_, require, numberIn, Refuses, refuses-value, refuses-require, refuses-then, numbers-listed}
+use Rattle.refusals.specs.Results.{Result, value, refused, numberIn, Refuses, refuses-end, refuses-test, numbers-listed}
 use Rattle.nets.specs.Nets.{Word}
-use Rattle.logs.specs.Answers.{TABLE, takenOf, logStarted, freshAnswer, wordTaken, takenAnswer, takenNumber}
+use Rattle.logs.specs.Answers.{takenOf, logStarted, freshAnswer, wordTaken, takenAnswer, takenNumber}
 use Rattle.logs.specs.declared.Summary.{Summary}
-
--- a test that refuses with a number of the list, then the rest
-tested : {ns : List ℕ} (ok : Bool) (n at : ℕ) {m : Result Summary} → among n ns ≡ true → Refuses ns m → Refuses ns (require ok n at >> m)
-tested ok n at listed rest = refuses-then (refuses-require ok n at (inr listed)) (λ u. rest)
 
 -- the answer's number is that of the chain
 answered : (numbers : List ℕ) (m : Result Summary) → Refuses numbers m → among (takenNumber (takenOf m)) (0 ∷ numbers) ≡ true
@@ -26,7 +21,7 @@ freshNumbers = NUMBERS-SHORT ∷ STATE-RANGE ∷ []
 
 pub fresh-numbers : (n : ℕ) (t : List ℕ) → among (takenNumber (freshAnswer n t)) (0 ∷ freshNumbers) ≡ true
 unfolding freshAnswer logStarted any
-fresh-numbers n t = answered freshNumbers (logStarted n t) (tested _ NUMBERS-SHORT TABLE refl (tested _ STATE-RANGE 0 refl (refuses-value _)))
+fresh-numbers n t = answered freshNumbers (logStarted n t) (refuses-test _ _ _ (refuses-test _ _ _ (refuses-end _)))
 
 abbrev takeNumbers : List ℕ
 takeNumbers = NUMBERS-SHORT ∷ STATE-RANGE ∷ EVENTS ∷ VALUE ∷ ROWS ∷ []
@@ -34,6 +29,4 @@ takeNumbers = NUMBERS-SHORT ∷ STATE-RANGE ∷ EVENTS ∷ VALUE ∷ ROWS ∷ []
 pub take-numbers : (s : Summary) (t : List ℕ) (w : Word) → among (takenNumber (takenAnswer s t w)) (0 ∷ takeNumbers) ≡ true
 unfolding takenAnswer wordTaken any
 take-numbers s t w =
-    answered takeNumbers (wordTaken s t w)
-    (tested _ NUMBERS-SHORT TABLE refl (tested _ STATE-RANGE 0 refl
-    (tested _ EVENTS 0 refl (tested _ VALUE _ refl (tested _ ROWS 0 refl (refuses-value _))))))
+    answered takeNumbers (wordTaken s t w) (refuses-test _ _ _ (refuses-test _ _ _ (refuses-test _ _ _ (refuses-test _ _ _ (refuses-test _ _ _ (refuses-end _))))))

@@ -3,15 +3,16 @@
 -- LogRows, for the masks of a log, and Storing, for the numbers in a table.
 use mathlib.Core.Path.{_≡_, refl, sym, ap, _∙_}
 use mathlib.Core.Logic.{_⊎_, inl, inr, ⊎-elim}
-use mathlib.Core.Bool.{true, false, not, cond}
+use mathlib.Core.Bool.{Bool, true, false, not, cond, _||_}
 use mathlib.Core.List.{List, [], _∷_, _++_, map}
 use Prim.Native.Nat.{ℕ, zero, suc, _+_, _<_, _≤_}
 use native.Mathlib.Omega.{arith}
 use lib.ListN.{length, length-append, length-map}
 use borrow.Author.Tests.{lt-ltb, le-ltb}
+use lib.Dec.{ltb, leb·suc-suc}
 use Rattle.laws.specs.Booleans.{lt-or-le, yes-true}
-use Rattle.laws.specs.Lists.{equal, eq→equal}
-use Rattle.laws.specs.Scans.{firstFailing, failing-append}
+use Rattle.laws.specs.Lists.{any, equal, equal-sym, eq→equal, member}
+use Rattle.laws.specs.Scans.{firstFailing, failing-append, failing-found, failing-most}
 use Rattle.nets.specs.Nets.{Counts}
 use Rattle.logs.specs.Rows.{Row, findRow, newRow, visit, marked, updateAt, follow, absent}
 
@@ -29,6 +30,25 @@ find-countsOf : (u : Counts) (rs : List Row) → findRow u rs ≡ firstFailing (
 unfolding findRow firstFailing countsOf
 find-countsOf u [] = refl
 find-countsOf u (r ∷ rs) = ap (λ (n : ℕ). cond (not (equal (r .counts) u)) (suc n) 0) (find-countsOf u rs)
+
+-- counts are found where they are a member
+pub found-member : (v : Counts) (rs : List Row) → ltb (findRow v rs) (length rs) ≡ member v (countsOf rs)
+unfolding findRow firstFailing any countsOf
+found-member v [] = refl
+found-member v (y ∷ ys) = rw (equal-sym (y .counts) v) (go (equal v (y .counts)) ys (found-member v ys))
+  where
+    go : (b : Bool) (rs : List Row) → ltb (findRow v rs) (length rs) ≡ member v (countsOf rs)
+        → ltb (cond (not b) (suc (findRow v rs)) 0) (suc (length rs)) ≡ (b || member v (countsOf rs))
+    go true rs e = lt-ltb 0 (suc (length rs)) (omega arith)
+    go false rs e = leb·suc-suc (suc (findRow v rs)) (length rs) ∙ e
+
+-- and still so, in the same row, with more rows behind
+pub find-more : (v : Counts) (rs qs : List Row) (more : List Counts) → countsOf qs ≡ countsOf rs ++ more → findRow v rs < length rs → findRow v qs ≡ findRow v rs
+find-more v rs qs more is h =
+    find-countsOf v qs
+    ∙ ap (firstFailing (λ y. not (equal y v))) is
+    ∙ failing-found (λ y. not (equal y v)) (countsOf rs) more (omega (arith, h, find-countsOf v rs, length-countsOf rs))
+    ∙ sym (find-countsOf v rs)
 
 module _ (rs qs : List Row) (same : countsOf rs ≡ countsOf qs) where
   pub length-same : length rs ≡ length qs
@@ -77,6 +97,14 @@ module _ (v : Counts) (rs : List Row) where
       (λ p. find-same (visit v rs) rs (p .0) v)
       (λ p. find-same (visit v rs) (rs ++ (newRow v ∷ [])) (p .0) v ∙ find-new)
       visit-cases
+
+  -- and there it is
+  pub visit-finds : findRow v (visit v rs) < length (visit v rs)
+  unfolding findRow
+  visit-finds = ⊎-elim
+      (λ h. rw (visit-found h) h)
+      (λ h. rw (visit-new h) (omega (arith, find-new, length-append rs (newRow v ∷ []), failing-most (λ r. not (equal (r .counts) v)) rs)))
+      (lt-or-le (findRow v rs) (length rs))
 
 -- ---- The event e follows it
 

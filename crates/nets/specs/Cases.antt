@@ -4,7 +4,7 @@ use mathlib.Core.Bool.{true, false}
 use mathlib.Core.List.{List, [], _∷_, flatMap}
 use Prim.Native.Nat.{ℕ}
 use lib.ListN.{length}
-use Rattle.laws.specs.Lists.{all, any, keep, tabulate, equal, member}
+use Rattle.laws.specs.Lists.{all, any, keep, tabulate, equal}
 use Rattle.laws.specs.Differences.{sumℤ}
 use Rattle.nets.specs.Nets.{Log, Place, Weights, same, occurrences, weighed, beginnings, prefixes, addRow, counts, stepAfter, rows, allowed, rowSteps, continuations, allowedSteps, wrongContinuations, tokens, surplus, placePermits, netPermits, permitsAfter, permits, weighsBefore, weighsAfter, weightsHold}
 

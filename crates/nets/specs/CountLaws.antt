@@ -24,6 +24,18 @@ unfolding occurrences
 occurrences-snoc i [] e = omega arith
 occurrences-snoc i (a ∷ w) e = omega (arith, occurrences-snoc i w e)
 
+pub occurrences-append : (i : ℕ) (w x : Word) → occurrences i (w ++ x) ≡ occurrences i w + occurrences i x
+unfolding occurrences
+occurrences-append i [] x = omega arith
+occurrences-append i (a ∷ w) x = omega (arith, occurrences-append i w x)
+
+-- a longer word has other counts
+pub counts-longer : (n : ℕ) (u : Word) (e : ℕ) (x : Word) → e < n → counts n (u ++ e ∷ x) ≡ counts n u → ⊥
+unfolding occurrences
+counts-longer n u e x h q =
+    let same : occurrences e (u ++ e ∷ x) ≡ occurrences e u = sym (at-counts n (u ++ e ∷ x) e h) ∙ ap (λ (v : List ℕ). at v e) q ∙ at-counts n u e h in
+    omega (arith, same, occurrences-append e u (e ∷ x), same-refl e)
+
 -- one event more adds 1 at its place
 pub counts-snoc : (n : ℕ) (w : Word) (e : ℕ) → e < n → counts n (w ++ e ∷ []) ≡ set (counts n w) e (at (counts n w) e + 1)
 counts-snoc n w e h = ext-getD 0 (counts n (w ++ e ∷ [])) (set (counts n w) e (at (counts n w) e + 1))

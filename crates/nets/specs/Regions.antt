@@ -1,5 +1,5 @@
--- The regions of Badouel and Schlachter, section 2.2, by their equation numbers, and that a place fits a log exactly when it is a region of it.
--- Their section 2.1 is in TokenGame.antt, 2.3 in SeparationProblems.antt, 3.1.1 in ParikhClosure.antt.
+-- The regions of Badouel and Schlachter, section 2.2 and of 2.3 what is about single places, by their equation numbers, and that a place fits a log
+-- exactly when it is a region of it. Their section 2.1 is in TokenGame.antt, 2.3 in SeparationProblems.antt, 3.1.1 in ParikhClosure.antt.
 use mathlib.Core.Path.{_≡_, refl, sym, ap, ap₂, _∙_, subst}
 use mathlib.Core.Logic.{_↔_, Iff·trans}
 use mathlib.Core.List.{[], _∷_, _++_, List·Memᴰ·head, List·Memᴰ·eq-of-singleton}

@@ -19,7 +19,7 @@ use Rattle.nets.specs.Comparison.{Judged, judged}
 use Rattle.nets.specs.TokenGame.{Places, placesOf, Language, languageOf, language-permits}
 use Rattle.nets.specs.Regions.{_⊆_, PrefixClosed, prefixes-closed, product, product-permits, language-product, Constraint, Region, constraint-allowed, language-fewer, synthesized-contains, region-permits, log-regions, EveryNetPermits, every-net}
 
--- a place witnesses the separation problem ⟨v, e⟩, or solves it; if v = Ψ(w), it inhibits e after reading w
+-- a place witnesses the separation problem ⟨v, e⟩, or solves it; if v = Ψ(w) for a word w that it permits, it inhibits e after reading w
 abbrev pub Witnesses : ℕ → Place → Step → Type 0
 Witnesses n p s = product n p s <ℤ pos 0
 

@@ -5,12 +5,12 @@ use mathlib.Core.Logic.{inr}
 use mathlib.Core.List.{List, _∷_}
 use Prim.Native.Nat.{ℕ, _≤_, _<_}
 use native.Mathlib.Omega.{arith}
-use lib.ListN.{length, take}
+use lib.ListN.{length, take, drop}
 use lib.Dec.{leb}
 use borrow.Author.Tests.{lt-leb, le-leb, leb-true}
 use Rattle.laws.specs.Booleans.{impossible}
 use Rattle.laws.specs.Lists.{among}
-use Rattle.laws.specs.Parts.{front, take-front}
+use Rattle.laws.specs.Parts.{front, take-front, front-rest}
 use Rattle.refusals.specs.Table.{OUTPUT-SHORT}
 use Rattle.refusals.specs.Results.{Result, value, refused, bind, require, bind-value, passed, numberIn, Refuses, refuses-value, refuses-require, refuses-then, numbers-listed}
 use Rattle.refusals.specs.Answers.{refusal, fitted, answerOf, answer, outputOf, written, numberOf}
@@ -70,10 +70,18 @@ answer-length result output n e =
     let v = length→value (fitted result (length output)) n e in
     (v .0, fitted→ result (length output) (v .0) (v .1) .0, (v .2, ap (λ (m : Result (List ℕ)). outputOf m output) (v .1)))
 
--- it lies in the output
+-- they lie in the output
 pub answer-within : (result : Result (List ℕ)) (room n : ℕ) → answer result room ≡ Length n → n ≤ room
 unfolding answer
 answer-within result room n e = let v = length→value (fitted result room) n e in omega (arith, v .2, fitted→ result room (v .0) (v .1) .1)
+
+-- behind them the output is as it was
+pub answer-rest : (result : Result (List ℕ)) (output : List ℕ) (n : ℕ) → answer result (length output) ≡ Length n
+    → (length (written result output) ≡ length output) × (drop n (written result output) ≡ drop n output)
+answer-rest result output n e =
+    let a = answer-length result output n e in
+    let fits : length (a .0) ≤ length output = omega (arith, answer-within result (length output) n e, a .2 .0) in
+    front-rest (a .0) output (written result output) n (a .2 .0) (a .2 .1) fits
 
 -- and the bytes in front of the output are the result
 pub answer-fitted : (result : Result (List ℕ)) (output : List ℕ) (n : ℕ) → answer result (length output) ≡ Length n

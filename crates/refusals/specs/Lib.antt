@@ -2,3 +2,4 @@ pub mod Table
 pub mod Results
 pub mod Answers
 pub mod Laws
+pub mod Exactly

@@ -1,11 +1,12 @@
 -- The algebra of refusals: what a call owes is a value or a refusal. A call is a chain of tests and values, read from top to bottom, and the first
 -- refusal is its answer.
-use mathlib.Core.Path.{_≡_, refl, subst}
-use mathlib.Core.Bool.{Bool, true, false, cond}
+use mathlib.Core.Path.{_≡_, refl, ap, subst}
+use mathlib.Core.Bool.{Bool, true, false, cond, _||_}
 use mathlib.Core.Logic.{_⊎_, inl, inr}
-use mathlib.Core.List.{List, _∷_}
+use mathlib.Core.List.{List, [], _∷_}
 use Prim.Native.Nat.{ℕ}
 use lib.Dec.{T}
+use borrow.Author.Tests.{eq-eqb}
 use Rattle.laws.specs.Booleans.{impossible, yes-true}
 use Rattle.laws.specs.Lists.{all, any, among, among-more, among-all}
 
@@ -78,6 +79,10 @@ module _ {A : Type 0} (ok : Bool) (number spot : ℕ) (m : Result A) where
 pub record Refuses {A : Type 0} (numbers : List ℕ) (m : Result A) : Type 0 where
   pub only : (number spot : ℕ) → m ≡ refused number spot → among number numbers ≡ true
 
+-- the end of a chain
+pub refuses-end : {A : Type 0} (x : A) → Refuses [] (value x)
+refuses-end x = record { only = λ number spot e. impossible cc }
+
 module _ {numbers : List ℕ} where
   pub refuses-value : {A : Type 0} (x : A) → Refuses numbers (value x)
   refuses-value x = record { only = λ number spot e. impossible cc }
@@ -98,6 +103,15 @@ module _ {numbers : List ℕ} where
       go : (k : Result A) → Refuses numbers k → Refuses numbers (bind k f)
       go (value x) r = rest x
       go (refused number spot) r = refuses-with number spot (r .only number spot refl)
+
+  -- a test before the rest: its number more
+  pub refuses-test : {A : Type 0} (ok : Bool) (number spot : ℕ) {m : Result A} → Refuses numbers m → Refuses (number ∷ numbers) (bind (require ok number spot) (λ u. m))
+  unfolding bind require any
+  refuses-test {A} ok number spot {m} rest = record { only = λ n at e. go ok n at e }
+    where
+      go : (b : Bool) (n at : ℕ) → bind (cond b (value (tt {0})) (refused number spot)) (λ u. m) ≡ refused n at → among n (number ∷ numbers) ≡ true
+      go true n at e = among-more number numbers n (rest .only n at e)
+      go false n at e = let same : n ≡ number = cc in ap (λ (b : Bool). b || among n numbers) (eq-eqb n number same)
 
   -- so with a number of every list that has these
   pub refuses-wider : {wider : List ℕ} → T (all (λ k. among k wider) numbers) → {A : Type 0} {m : Result A} → Refuses numbers m → Refuses wider m

@@ -1,5 +1,6 @@
 pub mod Screening
 pub mod Screens
+pub mod Causes
 pub mod RefusalNumbers
 pub mod Positions
 pub mod Replay

@@ -32,5 +32,6 @@ fn main() {
         return;
     };
     let answer = seal_bundle(&bundle, n, &mut file);
-    console::write_answer(answer, &file);
+    let size = console::put_answer(answer, &mut file);
+    console::print_answer(answer, &file[..size]);
 }

@@ -32,5 +32,6 @@ fn main() {
         return;
     };
     let answer = unseal_file(&file, n, &mut bundle);
-    console::write_answer(answer, &bundle);
+    let size = console::put_answer(answer, &mut bundle);
+    console::print_answer(answer, &bundle[..size]);
 }

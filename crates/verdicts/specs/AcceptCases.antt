@@ -1,7 +1,6 @@
 -- Small bundles as samples for the definitions: what the verdict on each is.
 use mathlib.Core.Path.{_≡_, refl}
-use mathlib.Core.List.{List, [], _∷_, flatMap}
-use Prim.Native.Nat.{ℕ}
+use mathlib.Core.List.{[], _∷_, flatMap}
 use Rattle.laws.specs.Lists.{all, any, keep, tabulate, equal}
 use Rattle.laws.specs.Numbers.{numberAt}
 use Rattle.laws.specs.Differences.{sumℤ}

@@ -4,7 +4,7 @@ use mathlib.Core.Path.{_≡_, refl, sym, ap, ap₂, _∙_, subst}
 use mathlib.Core.Bool.{Bool, true}
 use mathlib.Core.Logic.{_↔_}
 use mathlib.Core.List.{List, [], _∷_, _++_, map, flatMap, append-nil}
-use Prim.Native.Nat.{ℕ, _+_, _≤_}
+use Prim.Native.Nat.{ℕ, _≤_}
 use native.Mathlib.Nat.{le-trans}
 use native.Mathlib.Omega.{arith}
 use borrow.Author.Tests.{le-leb, leb-true}
@@ -34,22 +34,22 @@ use Rattle.verdicts.specs.Judging.{solved, atEnd, afterHead, contents, j
 use Rattle.verdicts.specs.declared.Tally.{Tally}
 use Rattle.verdicts.specs.declared.Verdict.the-variants as verdicts
 
-few-rows : (n : ℕ) (log more : Log) → T (rowsInLimit n (log ++ more)) → T (rowsInLimit n log)
+pub few-rows : (n : ℕ) (log more : Log) → T (rowsInLimit n (log ++ more)) → T (rowsInLimit n log)
 few-rows n log more t = le→leb _ MAX-ROWS (le-trans (rows-longer n log more) (leb→le _ MAX-ROWS t))
 
-one-row : (n : ℕ) → T (rowsInLimit n [])
+pub one-row : (n : ℕ) → T (rowsInLimit n [])
 unfolding rows prefixes addRow flatMap any
 one-row n = tt
 
 -- ---- the net permits every word exactly when its places fit
 
-permitted : Head → Bool
+unfoldable pub permitted : Head → Bool
 permitted h = permitsLog (h .events) (toNet h) (h .log)
 
-fitting : Head → Bool
+unfoldable pub fitting : Head → Bool
 fitting h = all (fitsIn h) (toNet h)
 
-permitted-fitting : (h : Head) → LogBelow (h .events) (h .log) → T (fitting h) ↔ T (permitted h)
+pub permitted-fitting : (h : Head) → LogBelow (h .events) (h .log) → T (fitting h) ↔ T (permitted h)
 unfolding fitting permitted
 permitted-fitting h below = permits-fits (h .events) (toNet h) (h .log) below
 
@@ -57,10 +57,10 @@ permitted-fitting h below = permits-fits (h .events) (toNet h) (h .log) below
 
 module _ (h : Head) where
   -- a certificate in its limits that solves its step
-  abbrev Solving : Step → List CertificateFields → CertificateFields → Type 0
+  abbrev pub Solving : Step → List CertificateFields → CertificateFields → Type 0
   Solving s before c = CertificateInLimits h c × T (solvesIn h s c)
 
-  each→all : (ss : List Step) (before cs : List CertificateFields) → EachValid Solving ss before cs
+  pub each→all : (ss : List Step) (before cs : List CertificateFields) → EachValid Solving ss before cs
       → Every (CertificateInLimits h) cs × T (solvesAll (h .events) (h .log) (toNet h) ss (map (toCertificate h) cs))
   unfolding solvesAll
   each→all [] before [] v = (tt, tt)
@@ -69,7 +69,7 @@ module _ (h : Head) where
   each→all (s ∷ ss) before (c ∷ cs) v = let r = each→all ss (before ++ c ∷ []) cs (v .1) in
       ((v .0 .0, r .0), and-i (solvesIn h s c) (solvesAll (h .events) (h .log) (toNet h) ss (map (toCertificate h) cs)) (v .0 .1) (r .1))
 
-  all→each : (ss : List Step) (before cs : List CertificateFields) → Every (CertificateInLimits h) cs → T (solvesAll (h .events) (h .log) (toNet h) ss (map (toCertificate h) cs)) → EachValid Solving ss before cs
+  pub all→each : (ss : List Step) (before cs : List CertificateFields) → Every (CertificateInLimits h) cs → T (solvesAll (h .events) (h .log) (toNet h) ss (map (toCertificate h) cs)) → EachValid Solving ss before cs
   unfolding solvesAll
   all→each [] before [] v t = tt
   all→each [] before (c ∷ cs) v t = absurd t
@@ -92,7 +92,7 @@ certified : Contents → Bool
 certified c = solvesAll (c .head .events) (c .head .log) (toNet (c .head)) (wrongIn (c .head)) (map (toCertificate (c .head)) (c .certificates))
 
 module _ (b : List ℕ) (bytes : Bytes b) where
-  law-contents : Law b contents bytesOf Acceptable
+  pub law-contents : Law b contents bytesOf Acceptable
   unfolding contents afterHead solved bytesOf toBundle accepted permitted fitting certified
   law-contents =
       law-same b

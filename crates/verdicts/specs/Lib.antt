@@ -2,3 +2,6 @@ pub mod Judging
 pub mod AcceptCases
 pub mod Acceptance
 pub mod RefusalNumbers
+pub mod Stopping
+pub mod Reached
+pub mod Causes

@@ -23,7 +23,7 @@ use Rattle.verdicts.specs.Judging.{unsolved, solved, atEnd, afterHead, c
 use Rattle.verdicts.specs.declared.Verdict.the-variants.{Refused}
 
 -- in bundle order
-abbrev fieldNumbers : List ℕ
+abbrev pub fieldNumbers : List ℕ
 fieldNumbers = BUNDLE-END ∷ VALUE ∷ EVENTS ∷ ROWS ∷ PLACE-MISFIT ∷ PLACE-PERMITS ∷ WEIGHTS ∷ BYTES-FOLLOW ∷ []
 
 abbrev pub judgeNumbers : List ℕ
@@ -34,7 +34,7 @@ unfolding unsolved
 unsolved-listed numbers place weights (kind0 j) = place
 unsolved-listed numbers place weights (kind1 w) = weights
 
-judging-refuses : ReaderRefuses fieldNumbers judging
+pub judging-refuses : ReaderRefuses fieldNumbers judging
 unfolding judging contents afterHead solved atEnd any
 judging-refuses =
     reader-then

@@ -1,0 +1,109 @@
+-- Samples of opening, sealing and the log table for the definitions: what is computed, with what is expected.
+use mathlib.Core.Path.{_≡_, refl, ap, _∙_}
+use mathlib.Core.Bool.{true}
+use mathlib.Core.List.{List, [], _∷_, _++_}
+use Prim.Native.Nat.{ℕ}
+use lib.ListN.{take, drop, replicate}
+use Rattle.laws.specs.Lists.{all, any, equal}
+use Rattle.laws.specs.Numbers.{numberAt}
+use Rattle.laws.specs.Pieces.{joined}
+use Rattle.laws.specs.Scans.{firstFalse, firstFailing}
+use Rattle.laws.specs.Sums.{weighted}
+use Rattle.laws.specs.Bits.{withBit}
+use Rattle.limits.specs.Limits.{rightSize}
+use Rattle.refusals.specs.Results.{Result, value, refused, bind, require}
+use Rattle.refusals.specs.Answers.{refusal, fitted}
+use Rattle.nets.specs.Nets.{Word}
+use Rattle.nets.specs.Events.{firstBad}
+use Rattle.block.specs.Block.{plainSum, positionSum, padded, summedBytes, withSums, block, usedCount, usedContents, rightNumber, rightCount, rightPadding, rightSums, fault}
+use Rattle.block.specs.File.{blockCount, blockAt, faultAt, firstFaulty, firstFault, contentsAt, bundleOf, rightLength, opened, partAt, sealedBlockAt, blocksFor, sealedFile, sealed}
+use Rattle.logs.specs.Rows.{rowAt, numbers, rowsOf, flat, findRow, visit, updateAt, follow, addEvent, takeWord}
+use Rattle.logs.specs.Answers.{TABLE, rightEventCount, rightSummary, takenOf, logStarted, freshAnswer, wordTaken, takenAnswer, takenTable}
+use Rattle.logs.specs.declared.Summary.{Summary}
+use Rattle.logs.specs.declared.Taken.{Taken}
+use Rattle.logs.specs.declared.Taken.the-variants as taking
+use Rattle.verdicts.specs.Judging.{judged, verdictOf, verdict}
+use Rattle.verdicts.specs.declared.Verdict.the-variants as judging
+use Rattle.judging.specs.Files.{fileJudged, fileVerdict}
+use Rattle.demands.specs.Samples.{bytesA, countsA, computed}
+
+-- 0 and the bytes, or the refusal's number and spot
+ofResult : Result (List ℕ) → List ℕ
+ofResult (value bytes) = 0 ∷ bytes
+ofResult (refused number spot) = number ∷ spot ∷ []
+
+-- 0 and the summary, or the refusal's number and spot
+ofTaken : Taken → List ℕ
+ofTaken (taking.Next s) = 0 ∷ s .n ∷ s .rows ∷ s .events ∷ []
+ofTaken (taking.Refused r) = r .number ∷ r .spot ∷ []
+
+-- case A, sealed: one block, number 0, 53 bytes used, S = 85, W = 991
+unfoldable pub fileA : List ℕ
+fileA = (0 ∷ 0 ∷ 53 ∷ 0 ∷ []) ++ bytesA ++ replicate 451 0 ++ (85 ∷ 0 ∷ 223 ∷ 3 ∷ [])
+
+-- a table of sevens, as long as a call asks for, and one of zeros
+unfoldable sevens : List ℕ
+sevens = replicate TABLE 7
+
+unfoldable zeros : List ℕ
+zeros = replicate TABLE 0
+
+abbrev summary : ℕ → ℕ → ℕ → Summary
+summary n rows events = record { n = n; rows = rows; events = events }
+
+-- the word 0 0 1 over 2 events, taken into a fresh table: rows 0 0, 1 0, 2 0 and 2 1, with their masks, and zeros behind them
+unfoldable rows001 : List ℕ
+rows001 =
+    0 ∷ 0 ∷ 0 ∷ 0 ∷ 0 ∷ 0 ∷ 0 ∷ 0 ∷ 0 ∷ 0 ∷ 0 ∷ 0 ∷ 1
+    ∷ 1 ∷ 0 ∷ 0 ∷ 0 ∷ 0 ∷ 0 ∷ 0 ∷ 0 ∷ 0 ∷ 0 ∷ 0 ∷ 0 ∷ 1
+    ∷ 2 ∷ 0 ∷ 0 ∷ 0 ∷ 0 ∷ 0 ∷ 0 ∷ 0 ∷ 0 ∷ 0 ∷ 0 ∷ 0 ∷ 2
+    ∷ 2 ∷ 1 ∷ 0 ∷ 0 ∷ 0 ∷ 0 ∷ 0 ∷ 0 ∷ 0 ∷ 0 ∷ 0 ∷ 0 ∷ 0
+    ∷ 0 ∷ []
+
+tableAfter : Summary → List ℕ → Word → List ℕ
+tableAfter s t w = takenTable (takenAnswer s t w) s t w
+
+pub callSamples : List (List ℕ × List ℕ)
+callSamples =
+    -- seal and open: A; 4; 1; 2
+    (ofResult (sealed bytesA), 0 ∷ fileA)
+    ∷ (ofResult (opened fileA), 0 ∷ bytesA)
+    ∷ (ofResult (sealed []), 4 ∷ 0 ∷ [])
+    ∷ (ofResult (opened []), 1 ∷ 0 ∷ [])
+    ∷ (ofResult (opened (take 511 fileA)), 1 ∷ 0 ∷ [])
+    ∷ (ofResult (opened (fileA ++ fileA)), 2 ∷ 0 ∷ [])
+    ∷ (ofResult (opened (1 ∷ drop 1 fileA)), 2 ∷ 0 ∷ [])
+    -- fresh: a summary; 5; 16
+    ∷ (ofTaken (freshAnswer 2 sevens), 0 ∷ 2 ∷ 1 ∷ 0 ∷ [])
+    ∷ (ofTaken (freshAnswer 13 (drop 1 sevens)), 5 ∷ 3328 ∷ [])
+    ∷ (ofTaken (freshAnswer 13 sevens), 16 ∷ 0 ∷ [])
+    -- take: the next summary and the table; 5; 16; 8; 7; 9
+    ∷ (ofTaken (takenAnswer (summary 2 1 0) zeros (0 ∷ 0 ∷ 1 ∷ [])), 0 ∷ 2 ∷ 4 ∷ 3 ∷ [])
+    ∷ (take 53 (tableAfter (summary 2 1 0) zeros (0 ∷ 0 ∷ 1 ∷ [])), rows001)
+    ∷ (ofTaken (takenAnswer (summary 2 0 0) (drop 1 zeros) (2 ∷ [])), 5 ∷ 3328 ∷ [])
+    ∷ (ofTaken (takenAnswer (summary 2 0 1024) zeros (2 ∷ [])), 16 ∷ 0 ∷ [])
+    ∷ (ofTaken (takenAnswer (summary 2 1 1024) zeros (2 ∷ [])), 8 ∷ 0 ∷ [])
+    ∷ (ofTaken (takenAnswer (summary 2 256 0) zeros (1 ∷ 2 ∷ [])), 7 ∷ 1 ∷ [])
+    ∷ (ofTaken (takenAnswer (summary 2 256 0) zeros (1 ∷ [])), 9 ∷ 0 ∷ [])
+    ∷ []
+
+pub call-samples-hold : all (λ c. equal (c .0) (c .1)) callSamples ≡ true
+unfolding callSamples ofResult ofTaken bytesA fileA sevens zeros rows001 tableAfter all any equal numberAt joined firstFalse firstFailing weighted withBit rightSize bind require firstBad plainSum positionSum padded summedBytes withSums block usedCount usedContents rightNumber rightCount rightPadding rightSums fault blockCount blockAt faultAt firstFaulty firstFault contentsAt bundleOf rightLength opened partAt sealedBlockAt blocksFor sealedFile sealed rowAt numbers rowsOf flat findRow visit updateAt follow addEvent takeWord rightEventCount rightSummary takenOf logStarted freshAnswer wordTaken takenAnswer takenTable
+call-samples-hold = refl
+
+-- judging a file: A, sealed, into an output as long as the bundle, and into one that is a byte shorter
+fitsA : fitted (opened fileA) 53 ≡ value bytesA
+unfolding fitted bytesA fileA all equal numberAt joined firstFalse weighted bind require plainSum positionSum usedCount usedContents rightNumber rightCount rightPadding rightSums fault blockCount blockAt faultAt firstFaulty firstFault contentsAt bundleOf rightLength opened
+fitsA = refl
+
+pub judge-file-sample : fileVerdict fileA 53 TABLE ≡ judging.Accepted countsA
+unfolding fileVerdict fileJudged bind verdict
+judge-file-sample = ap (λ (m : Result (List ℕ)). verdictOf (bind m (λ b. judged TABLE b 0))) fitsA ∙ computed .acceptedA
+
+shortA : fitted (opened fileA) 52 ≡ refused 3 53
+unfolding fitted bytesA fileA all equal numberAt joined firstFalse weighted bind require plainSum positionSum usedCount usedContents rightNumber rightCount rightPadding rightSums fault blockCount blockAt faultAt firstFaulty firstFault contentsAt bundleOf rightLength opened
+shortA = refl
+
+pub judge-file-short-sample : fileVerdict fileA 52 TABLE ≡ judging.Refused (refusal 3 53)
+unfolding fileVerdict fileJudged bind verdictOf
+judge-file-short-sample = ap (λ (m : Result (List ℕ)). verdictOf (bind m (λ b. judged TABLE b 0))) shortA

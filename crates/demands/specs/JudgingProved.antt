@@ -1,0 +1,130 @@
+-- Judging, proved: the lines of Judging.antt from the laws of the readers.
+use mathlib.Core.Path.{_≡_, refl, sym, subst}
+use mathlib.Core.Bool.{Bool, true, false, not}
+use mathlib.Core.Logic.{_↔_, Iff·trans, Iff·symm}
+use mathlib.Core.List.{List, [], _∷_}
+use Prim.Native.Nat.{ℕ}
+use native.Mathlib.Omega.{arith}
+use lib.Dec.{T, leb, T-not, not-T}
+use lib.ListN.{length, getD}
+use Rattle.laws.specs.Booleans.{at-least, less, yes-true, no-false}
+use Rattle.laws.specs.Lists.{all, any, not-among}
+use Rattle.laws.specs.Numbers.{Bytes}
+use Rattle.laws.specs.Scans.{firstFailing, failing-exactly}
+use Rattle.limits.specs.Limits.{rightSize, rightSize-bounds, rightSize-intro, rightSize-wrong}
+use Rattle.refusals.specs.Table.{PLACE-MISFIT, PLACE-PERMITS, WEIGHTS, BYTES-FOLLOW}
+use Rattle.refusals.specs.Results.{refused}
+use Rattle.refusals.specs.Answers.{refusal}
+use Rattle.nets.specs.Nets.{Log, Step, Place, fits}
+use Rattle.nets.specs.Fits.{Fits, LogBelow}
+use Rattle.nets.specs.Regions.{region-permits, region-fits}
+use Rattle.logs.specs.Answers.{TABLE}
+use Rattle.bundles.specs.Reading.{byte, number}
+use Rattle.bundles.specs.Layout.{CertificateFields, WeightFields, kind0, kind1, Head, Contents, fitsIn, toNet}
+use Rattle.bundles.specs.Limits.{words-below}
+use Rattle.bundles.specs.Causes.{field-refused, word-8, word-9}
+use Rattle.verdicts.specs.Judging.{unsolved, judging, verdict}
+use Rattle.verdicts.specs.Reached.{UnsolvedNext, NotSolved}
+use Rattle.verdicts.specs.Causes.{judging-10, judging-unsolved, judging-field, judging-13, judge-4, judge-5, judge-later}
+use Rattle.verdicts.specs.declared.Verdict.the-variants as verdicts
+use Rattle.demands.specs.Judging.{Sized, noPlace, LowestMisfit, JudgeExactly, FieldsExactly}
+
+-- ---- The tests before bundle order
+
+sized : (tableSize : ℕ) (b : List ℕ) {X Y : Type 0} → X ↔ Y → ((rightSize (length b) ≡ true) × ((leb TABLE tableSize ≡ true) × X))
+    ↔ (Sized tableSize b × Y)
+sized tableSize b same = (
+  (λ (right, (long, x)). let s = rightSize-bounds (length b) right in
+      (record { some = s .0; most = s .1; table = at-least TABLE tableSize .0 long }, same .0 x)),
+  (λ (s, y). (rightSize-intro (length b) (s .some) (s .most), (at-least TABLE tableSize .1 (s .table), same .1 y))),
+)
+
+-- a refusal in bundle order
+module _ (tableSize : ℕ) (b : List ℕ) (number : ℕ) (not-4 : 4 ≡ number → ⊥) (not-5 : 5 ≡ number → ⊥) where
+  in-bundle : (spot : ℕ) {Y : Type 0} → (judging b 0 ≡ refused number spot) ↔ Y → (verdict tableSize b ≡ verdicts.Refused (refusal number spot))
+      ↔ (Sized tableSize b × Y)
+  in-bundle spot same = Iff·trans (judge-later tableSize b number not-4 not-5 spot) (sized tableSize b same)
+
+-- ---- A place that does not fit
+
+fits-exactly : (n : ℕ) (log : Log) → LogBelow n log → (p : Place) → T (fits n log p) ↔ Fits n log p
+fits-exactly n log below p = Iff·trans (Iff·symm (region-fits n log below p)) (region-permits n log below p)
+
+misfit-exactly : (h : Head) → LogBelow (h .events) (h .log) → (j : ℕ) → ((j ≡ firstFailing (fitsIn h) (toNet h)) × (all (fitsIn h) (toNet h) ≡ false))
+    ↔ LowestMisfit h j
+misfit-exactly h below j =
+    let law = failing-exactly (fitsIn h) noPlace (toNet h) j in
+    let fit = fits-exactly (h .events) (h .log) below in (
+      (λ c. let r = law .0 c in record {
+        within = r .0;
+        misfit = λ f. T-not (fitsIn h (getD (toNet h) j noPlace)) (subst (λ (x : Bool). T (not x)) (sym (r .1)) tt)
+            (fit (getD (toNet h) j noPlace) .1 f);
+        lower = λ i less. fit (getD (toNet h) i noPlace) .0 (subst T (sym (r .2 i less)) tt);
+      }),
+      (λ m. law .1 (
+        m .within,
+        no-false (fitsIn h (getD (toNet h) j noPlace))
+            (not-T (fitsIn h (getD (toNet h) j noPlace)) (λ t. m .misfit (fit (getD (toNet h) j noPlace) .0 t))),
+        λ i less. yes-true
+            (fitsIn h (getD (toNet h) i noPlace)) (fit (getD (toNet h) i noPlace) .1 (m .lower i less)),
+      )),
+    )
+
+-- ---- Each number
+
+module _ (b : List ℕ) (spot : ℕ) where
+  -- the kind of a certificate that does not solve its step, by the number
+  place-kind : NotSolved b PLACE-PERMITS spot ↔ ((d : Contents) × (s : Step) × (j : ℕ) × UnsolvedNext b d s (kind0 j)
+      × (spot ≡ length (d .certificates)))
+  unfolding unsolved
+  place-kind = ((λ (d, s, c, u, n, at). go d s c u n at), (λ (d, s, j, u, at). (d, s, kind0 j, u, refl, at)))
+    where
+      go : (d : Contents) (s : Step) (c : CertificateFields) → UnsolvedNext b d s c → PLACE-PERMITS ≡ unsolved c → spot ≡ length (d .certificates)
+          → (d : Contents) × (s : Step) × (j : ℕ) × UnsolvedNext b d s (kind0 j) × (spot ≡ length (d .certificates))
+      go d s (kind0 j) u n at = (d, s, j, u, at)
+      go d s (kind1 w) u n at = absurd (omega (arith, n))
+
+  weights-kind : NotSolved b WEIGHTS spot ↔ ((d : Contents) × (s : Step) × (w : WeightFields) × UnsolvedNext b d s (kind1 w)
+      × (spot ≡ length (d .certificates)))
+  unfolding unsolved
+  weights-kind = ((λ (d, s, c, u, n, at). go d s c u n at), (λ (d, s, w, u, at). (d, s, kind1 w, u, refl, at)))
+    where
+      go : (d : Contents) (s : Step) (c : CertificateFields) → UnsolvedNext b d s c → WEIGHTS ≡ unsolved c → spot ≡ length (d .certificates)
+          → (d : Contents) × (s : Step) × (w : WeightFields) × UnsolvedNext b d s (kind1 w) × (spot ≡ length (d .certificates))
+      go d s (kind0 j) u n at = absurd (omega (arith, n))
+      go d s (kind1 w) u n at = (d, s, w, u, at)
+
+pub judge-exactly : (tableSize : ℕ) (b : List ℕ) → Bytes b → JudgeExactly tableSize b
+unfolding any
+judge-exactly tableSize b bytes = record {
+  bundle-length = λ spot. Iff·trans (judge-4 tableSize b spot)
+      ((λ (at, e). (at, rightSize-wrong (length b) .0 e)), (λ (at, c). (at, rightSize-wrong (length b) .1 c)));
+  table-short = λ spot. Iff·trans (judge-5 tableSize b spot) (
+    (λ (right, (at, short)). let s = rightSize-bounds (length b) right in (at, s .0, s .1, less TABLE tableSize .0 short)),
+    (λ (at, some, most, short). (rightSize-intro (length b) some most, (at, less TABLE tableSize .1 short))),
+  );
+  fields = λ number listed spot. in-bundle tableSize b number (not-among (6 ∷ 7 ∷ 8 ∷ 9 ∷ []) 4 number refl listed)
+      (not-among (6 ∷ 7 ∷ 8 ∷ 9 ∷ []) 5 number refl listed) spot (judging-field b bytes number spot listed);
+  place = λ spot. in-bundle tableSize b PLACE-MISFIT (λ e. omega (arith, e)) (λ e. omega (arith, e)) spot (Iff·trans (judging-10 b bytes spot) (
+    (λ (h, rest, t, at, fails). (h, rest, t, misfit-exactly h (words-below _ _ (t .limits .words)) spot .0 (at, fails))),
+    (λ (h, rest, t, m). let c = misfit-exactly h (words-below _ _ (t .limits .words)) spot .1 m in (h, rest, t, c .0, c .1)),
+  ));
+  listed-place = λ spot. in-bundle tableSize b PLACE-PERMITS (λ e. omega (arith, e)) (λ e. omega (arith, e)) spot
+      (Iff·trans (judging-unsolved b bytes PLACE-PERMITS spot refl (λ e. omega (arith, e)) (λ e. omega (arith, e))) (place-kind b spot));
+  weights = λ spot. in-bundle tableSize b WEIGHTS (λ e. omega (arith, e)) (λ e. omega (arith, e)) spot
+      (Iff·trans (judging-unsolved b bytes WEIGHTS spot refl (λ e. omega (arith, e)) (λ e. omega (arith, e))) (weights-kind b spot));
+  bytes-follow = λ spot. in-bundle tableSize b BYTES-FOLLOW (λ e. omega (arith, e)) (λ e. omega (arith, e)) spot (judging-13 b bytes spot);
+}
+
+-- ---- Field by field
+
+pub fields-exactly : (b : List ℕ) (at : ℕ) → FieldsExactly b at
+unfolding byte number
+fields-exactly b at = record {
+  one-byte = λ inRange k spot. Iff·trans (field-refused 1 (getD b at 0) inRange b at k spot)
+      ((λ (here, cause). record { here = here; cause = cause }), (λ f. (f .here, f .cause)));
+  two-bytes = λ inRange k spot. Iff·trans (field-refused 2 _ inRange b at k spot)
+      ((λ (here, cause). record { here = here; cause = cause }), (λ f. (f .here, f .cause)));
+  events = λ rowsFit n log spot. word-8 n b at rowsFit log spot;
+  rows = λ rowsFit n log spot. word-9 n b at rowsFit log spot;
+}

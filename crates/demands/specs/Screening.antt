@@ -1,0 +1,33 @@
+-- SCREENING, in the words of the requirements: exactly when each refusal meets the call, with its spot. What it answers else is in demand 2.
+-- Every line is about any bundle of bytes and any word.
+use mathlib.Core.Path.{_≡_}
+use mathlib.Core.Bool.{true}
+use mathlib.Core.Logic.{_↔_, _⊎_}
+use mathlib.Core.List.{List, [], _∷_}
+use Prim.Native.Nat.{ℕ, _≤_, _<_}
+use lib.ListN.{length, getD}
+use Rattle.laws.specs.Lists.{among}
+use Rattle.refusals.specs.Results.{refused}
+use Rattle.refusals.specs.Answers.{refusal}
+use Rattle.nets.specs.Nets.{Word}
+use Rattle.bundles.specs.Layout.{Head}
+use Rattle.bundles.specs.Readers.{head, anyRows}
+use Rattle.screening.specs.Screening.{screened}
+use Rattle.screening.specs.Causes.{HeadInFront}
+use Rattle.screening.specs.declared.Screened.the-variants as screening
+
+-- ---- Screen: 14, 4, then 6, 7, 8 in bundle order, then 15
+
+pub record ScreenExactly (b : List ℕ) (w : Word) : Type 0 where
+  -- 'screened word above 65,535 events | 14 | 65,535'
+  pub word-length : (spot : ℕ) → (screened b w ≡ screening.Refused (refusal 14 spot)) ↔ ((spot ≡ 65535) × (65535 < length w))
+  -- 'bundle length 0 or above 64,512 | 4 | 0'
+  pub bundle-length : (spot : ℕ) → (screened b w ≡ screening.Refused (refusal 4 spot))
+      ↔ ((spot ≡ 0) × (length w ≤ 65535) × ((length b ≡ 0) ⊎ (64512 < length b)))
+  -- 6, 7 and 8 are those of the reader of the head, field by field as for the judge
+  pub fields : (number : ℕ) → among number (6 ∷ 7 ∷ 8 ∷ []) ≡ true → (spot : ℕ) → (screened b w ≡ screening.Refused (refusal number spot))
+      ↔ ((length w ≤ 65535) × (1 ≤ length b) × (length b ≤ 64512) × (head anyRows b 0 ≡ refused number spot))
+  -- 'screened event not below n | 15 | its position': the first one; the bundle is the bytes of a head in its limits, then any rest
+  pub event : (spot : ℕ) → (screened b w ≡ screening.Refused (refusal 15 spot))
+      ↔ ((length w ≤ 65535) × (length b ≤ 64512) × ((h : Head) × (rest : List ℕ) × HeadInFront b h rest
+      × (spot < length w) × (h .events ≤ getD w spot 0) × ((i : ℕ) → i < spot → getD w i 0 < h .events)))
