@@ -1,5 +1,7 @@
 // What the programs share: reading an input whole, writing bytes, and saying what went wrong. All are inner functions: no contract can say what a
 // program reads or writes, so the work of each program, and the line that it prints, is a function on slices.
+pub mod names; // a file's name in a message
+
 use libc::STDERR_FILENO;
 use libc::STDIN_FILENO;
 use libc::STDOUT_FILENO;
@@ -50,12 +52,20 @@ pub fn read_input(fd: i32, buffer: &mut [u8]) -> Input
     Input::Bytes(done)
 }
 
+// Whether a program that takes no arguments was given one. Then its usage goes to standard error.
+pub fn has_arguments(usage: &[u8]) -> bool {
+    if os::arg_count() <= 1 {
+        return false;
+    }
+    io::write_all(STDERR_FILENO, usage);
+    true
+}
+
 // Reads standard input for a program that takes no arguments. What is wrong goes to standard error.
 pub fn read_standard_input(usage: &[u8], buffer: &mut [u8]) -> Input
     ensures { λ r. ⌜ Within r (length (now (buffer .exit))) ⌝ }
 {
-    if 1 < os::arg_count() {
-        io::write_all(STDERR_FILENO, usage);
+    if has_arguments(usage) {
         return Input::Failed;
     }
     let input = read_input(STDIN_FILENO, buffer);

@@ -62,6 +62,9 @@ fn write_file_verdict(output: &mut [u8; LINE_SIZE], buffer: &[u8], n: usize) -> 
 }
 
 fn main() {
+    if console::has_arguments(b"usage: judge < FILE\n") {
+        return;
+    }
     // A byte more than the longest file, so that a longer one is seen.
     let mut file = [0u8; MAX_FILE_SIZE + 1];
     let mut line = [0u8; LINE_SIZE];

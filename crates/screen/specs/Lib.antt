@@ -1,3 +1,4 @@
+pub mod Options
 pub mod Events
 pub mod Files
 pub mod Capping

@@ -1,6 +1,7 @@
 // Screens a word with a sealed file, `screen FILE [EVENT]...`, each event a decimal number. Prints one line: `permitted`; `stopped`, position
 // and place; or `refused`, number and spot.
 use console::Input;
+use console::names::hide_control_bytes;
 use libc::STDERR_FILENO;
 use limits::MAX_FILE_SIZE;
 use limits::MAX_WORD_EVENTS;
@@ -20,6 +21,7 @@ ghost use Rattle.block.specs.File.{opened};
 ghost use Rattle.block.specs.Whole.{InputRead};
 ghost use Rattle.console.specs.Inputs.{Within};
 ghost use Rattle.lines.specs.Decimals.{isDigit, withDigit};
+ghost use Rattle.screen.specs.Options.{isOption};
 ghost use Rattle.screen.specs.Events.{capped, eventIn};
 ghost use Rattle.screen.specs.Files.{fileScreened};
 ghost use Rattle.screen.specs.Lines.{screenedLine, inputLine};
@@ -109,24 +111,61 @@ fn read_word(word: &mut [u8]) -> Input
 
 // ---- The file
 
-// Reads the file that the first argument names. What is wrong goes to standard error.
-fn read_file(buffer: &mut [u8]) -> Input
-    ensures { λ r. ⌜ Within r (length (now (buffer .exit))) ⌝ }
+// Whether an argument is an option, such as --help: it begins with a hyphen. A file of such a name is named by ./ in front.
+fn is_option(argument: &[u8]) -> bool
+    ensures { λ r. ⌜ r ≡ isOption (now (argument .entry)) ⌝ }
 {
-    let mut path = io::buffer();
-    let n = os::arg(1, &mut path);
+    if argument.len() < 1 {
+        return false;
+    }
+    argument[0] == b'-'
+}
+
+// Says how the program is called.
+fn write_usage() {
+    io::write_all(STDERR_FILENO, b"usage: screen FILE [EVENT]...\n");
+}
+
+// Reads the file's name, the first argument. Where there is none, or an option in its place, the usage goes to standard error.
+fn read_name(name: &mut [u8]) -> Input
+    ensures { λ r. ⌜ Within r (length (now (name .exit))) ⌝ }
+{
+    if os::arg_count() < 2 {
+        write_usage();
+        return Input::Failed;
+    }
+    let n = os::arg(1, name);
     if os::errno() != 0 {
         os::fail(b"argument 1");
         return Input::Failed;
     }
-    let fd = os::open_read(&path[..n]);
+    if is_option(&name[..n]) {
+        write_usage();
+        return Input::Failed;
+    }
+    Input::Bytes(n)
+}
+
+// Says what went wrong with a file. Its name is shown without control bytes.
+fn fail_file(name: &mut [u8]) {
+    hide_control_bytes(name);
+    os::fail(name);
+}
+
+// Reads the file of a name. What is wrong goes to standard error.
+fn read_file(name: &mut [u8], buffer: &mut [u8]) -> Input
+    ensures { λ r. ⌜ Within r (length (now (buffer .exit))) ⌝ }
+{
+    let fd = os::open_read(name);
     if fd < 0 {
-        os::fail(&path[..n]);
+        fail_file(name);
         return Input::Failed;
     }
     let input = console::read_input(fd, buffer);
     if let Input::Failed = input {
-        os::fail(&path[..n]);
+        fail_file(name);
+        libc::close(fd);
+        return input;
     }
     libc::close(fd);
     input
@@ -170,20 +209,20 @@ fn write_file_screened(output: &mut [u8; LINE_SIZE], buffer: &[u8], n: usize, wo
 }
 
 fn main() {
-    if os::arg_count() < 2 {
-        io::write_all(STDERR_FILENO, b"usage: screen FILE [EVENT]...\n");
+    let mut name = io::buffer();
+    let Input::Bytes(size) = read_name(&mut name) else {
         return;
-    }
+    };
     // An event more than the longest word, and a byte more than the longest file, so that longer ones are seen.
     let mut word = [0u8; MAX_WORD_EVENTS + 1];
     let mut file = [0u8; MAX_FILE_SIZE + 1];
     let Input::Bytes(events) = read_word(&mut word) else {
         return;
     };
-    let Input::Bytes(n) = read_file(&mut file) else {
+    let Input::Bytes(n) = read_file(&mut name[..size], &mut file) else {
         return;
     };
     let mut line = [0u8; LINE_SIZE];
-    let size = write_file_screened(&mut line, &file, n, &word[..events]);
-    console::print(&line[..size]);
+    let end = write_file_screened(&mut line, &file, n, &word[..events]);
+    console::print(&line[..end]);
 }

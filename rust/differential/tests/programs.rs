@@ -13,6 +13,7 @@ use differential::{samples, vectors};
 use reference::Screened;
 use std::ffi::OsStr;
 use std::fs::{self, File};
+use std::io::Seek;
 use std::path::{Path, PathBuf};
 
 const NO_ARGUMENTS: [&str; 0] = [];
@@ -276,15 +277,84 @@ fn failed_write() {
     }
 }
 
-/// They take no arguments, and then read nothing.
+// ---- arguments
+
+/// Runs a program with a file as its standard input, and checks that it read
+/// nothing of it: what it would have read is still to come.
+fn run_without_reading<A: AsRef<OsStr>>(name: &str, arguments: &[A]) -> Done {
+    let mut input = File::open(sample("a.sealed")).expect("the sample is there");
+    let done = command(name, arguments)
+        .stdin(input.try_clone().expect("a second handle"))
+        .output()
+        .expect("the program ends");
+    assert_eq!(input.stream_position().ok(), Some(0), "{name} read");
+    Done {
+        output: done.stdout,
+        errors: String::from_utf8(done.stderr).expect("messages are text"),
+    }
+}
+
+/// They take no arguments: one line of usage, no answer, and nothing is read. So
+/// a file's name in place of `<` is not taken for an empty input, nor is the
+/// answer one for another file.
 #[test]
-fn seal_and_unseal_with_arguments() {
-    for (name, input) in [("seal", SAMPLE_A.to_vec()), ("unseal", build(&SAMPLE_A))] {
-        for arguments in [vec!["x"], vec![""], vec!["a.sealed", "b.sealed"]] {
-            let done = run(name, &arguments, &input);
-            expect_message(&done, &format!("usage: {name} <"));
+fn programs_without_arguments() {
+    let damaged = sample("damaged.sealed");
+    let damaged = damaged.to_str().expect("a name in text");
+    for name in ["judge", "seal", "unseal"] {
+        for arguments in [
+            vec![damaged],
+            vec!["--help"],
+            vec![""],
+            vec!["-"],
+            vec!["a.sealed", "b.sealed"],
+        ] {
+            let done = run_without_reading(name, &arguments);
+            expect_message(&done, &format!("usage: {name} < "));
         }
     }
+}
+
+/// An option in place of the file's name, whatever follows.
+#[test]
+fn options_of_screen() {
+    for option in ["--help", "-h", "-", "--version", "-x.sealed"] {
+        for events in [vec![], vec!["0", "1"], vec!["x"]] {
+            let arguments = [vec![option], events].concat();
+            let done = run_without_reading("screen", &arguments);
+            expect_message(&done, "usage: screen FILE ");
+        }
+    }
+    // A file of such a name can be given.
+    let file = written("-a.sealed", &build(&SAMPLE_A));
+    let done = command("screen", &["./-a.sealed", "0"])
+        .current_dir(file.parent().expect("a directory"))
+        .output()
+        .expect("the program ends");
+    assert_eq!(done.stdout, b"permitted\n");
+}
+
+/// A file's name is shown without control bytes, so that a message is one line
+/// and does nothing to a terminal.
+#[test]
+fn names_in_messages() {
+    for (name, shown) in [
+        ("a\u{1b}[31m\nb\t\u{7f}", "a?[31m?b??: No such file"),
+        ("accepted 5 4 5 1\n", "accepted 5 4 5 1?: No such file"),
+        ("größe հով", "größe հով: No such file"),
+    ] {
+        let done = screen_arguments(&[name, "0"]);
+        expect_message(&done, shown);
+        assert!(
+            !done.errors.trim_end().contains(char::is_control),
+            "{done:?}"
+        );
+    }
+    // The control characters 128 to 159 have two bytes; the first stays, alone.
+    let done = command("screen", &["a\u{9b}31m\u{a0}"]).output();
+    let errors = done.expect("the program ends").stderr;
+    let shown = b"a\xc2?31m\xc2\xa0: No such file";
+    assert!(errors.starts_with(shown), "{}", errors.escape_ascii());
 }
 
 // ---- screen
