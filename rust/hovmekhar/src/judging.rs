@@ -10,7 +10,7 @@ pub const MAX_PLACES: usize = 64;
 pub const MAX_TERMS: usize = 64;
 
 /// The counts of an accepted bundle.
-#[derive(Clone, Copy, Debug, PartialEq, Eq)]
+#[derive(Clone, Copy, Debug, PartialEq, Eq, Hash)]
 pub struct Tally {
     /// The rows of the log.
     pub rows: usize,

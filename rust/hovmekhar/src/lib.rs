@@ -41,8 +41,8 @@
 #![deny(unsafe_code)]
 #![deny(unsafe_op_in_unsafe_fn)]
 
-#[cfg(not(target_pointer_width = "64"))]
-compile_error!("the static library is built for targets with 64-bit pointers");
+#[cfg(not(target_arch = "x86_64"))]
+compile_error!("the static library is built for x86-64");
 
 mod blocks;
 // Public for tests that look at every number of an answer; not part of the API.
@@ -58,5 +58,5 @@ pub use blocks::{open, open_vec, seal, seal_vec};
 pub use blocks::{BLOCK_SIZE, CONTENTS_SIZE, MAX_BLOCKS, MAX_BUNDLE_SIZE, MAX_FILE_SIZE};
 pub use judging::{judge, judge_file, judge_file_vec, judge_vec, Tally, MAX_PLACES, MAX_TERMS};
 pub use logs::{Summary, MAX_EVENTS, MAX_LOG_EVENTS, MAX_ROWS, ROW_SIZE, TABLE_SIZE};
-pub use refusal::Refusal;
+pub use refusal::{Kind, Refusal};
 pub use screening::{screen, Screened, MAX_WORD_EVENTS};

@@ -43,7 +43,8 @@ pub const MAX_LOG_EVENTS: usize = 1_024;
 /// assert_eq!(row, [1, 1, 0, 0, 0, 0, 0, 0, 0, 0, 0, 0, 0b1100]);
 /// # Ok::<(), hovmekhar::Refusal>(())
 /// ```
-#[derive(Clone, Copy, Debug, PartialEq, Eq)]
+#[derive(Clone, Copy, Debug, PartialEq, Eq, Hash)]
+#[must_use = "the next word is taken with the new summary"]
 pub struct Summary {
     /// The event count, 1 to 12.
     pub n: usize,

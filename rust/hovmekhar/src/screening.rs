@@ -7,7 +7,8 @@ use crate::Refusal;
 pub const MAX_WORD_EVENTS: usize = 65_535;
 
 /// What a net says to a word.
-#[derive(Clone, Copy, Debug, PartialEq, Eq)]
+#[derive(Clone, Copy, Debug, PartialEq, Eq, Hash)]
+#[must_use = "a word that is stopped must not pass"]
 pub enum Screened {
     /// Every place permits every step.
     Permitted,
