@@ -43,6 +43,26 @@ pub const MAX_LOG_EVENTS: usize = 1_024;
 /// assert_eq!(row, [1, 1, 0, 0, 0, 0, 0, 0, 0, 0, 0, 0, 0b1100]);
 /// # Ok::<(), hovmekhar::Refusal>(())
 /// ```
+///
+/// A summary that is dropped would have the next word taken with an old one, so the
+/// compiler warns of it; here the warning is an error:
+///
+/// ```compile_fail
+/// #![deny(unused_must_use)]
+/// # use hovmekhar::{Refusal, Summary};
+/// fn log(summary: Summary, table: &mut [u16]) -> Result<Summary, Refusal> {
+///     summary.take(&[0, 1], table)?;
+///     summary.take(&[1, 0], table)
+/// }
+/// ```
+///
+/// ```
+/// #![deny(unused_must_use)]
+/// # use hovmekhar::{Refusal, Summary};
+/// fn log(summary: Summary, table: &mut [u16]) -> Result<Summary, Refusal> {
+///     summary.take(&[0, 1], table)?.take(&[1, 0], table)
+/// }
+/// ```
 #[derive(Clone, Copy, Debug, PartialEq, Eq, Hash)]
 #[must_use = "the next word is taken with the new summary"]
 pub struct Summary {

@@ -7,6 +7,25 @@ use crate::Refusal;
 pub const MAX_WORD_EVENTS: usize = 65_535;
 
 /// What a net says to a word.
+///
+/// The compiler warns of an answer that is not looked at, since a stopped word
+/// would pass; here the warning is an error:
+///
+/// ```compile_fail
+/// #![deny(unused_must_use)]
+/// fn gate(bundle: &[u8], word: &[u8]) -> Result<(), hovmekhar::Refusal> {
+///     hovmekhar::screen(bundle, word)?;
+///     Ok(())
+/// }
+/// ```
+///
+/// ```
+/// #![deny(unused_must_use)]
+/// fn gate(bundle: &[u8], word: &[u8]) -> Result<bool, hovmekhar::Refusal> {
+///     let screened = hovmekhar::screen(bundle, word)?;
+///     Ok(screened == hovmekhar::Screened::Permitted)
+/// }
+/// ```
 #[derive(Clone, Copy, Debug, PartialEq, Eq, Hash)]
 #[must_use = "a word that is stopped must not pass"]
 pub enum Screened {

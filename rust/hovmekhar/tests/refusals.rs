@@ -1,0 +1,56 @@
+//! The kinds of refusals, and what they say.
+
+use hovmekhar::{Kind, Refusal};
+use std::collections::HashSet;
+
+/// Each number of the refusal table has its kind, and no other number has one.
+#[test]
+fn kinds_and_numbers() {
+    let numbers: Vec<u8> = Kind::ALL.iter().map(|kind| kind.number()).collect();
+    assert_eq!(numbers, (1..=16).collect::<Vec<u8>>());
+    for number in 0..=u8::MAX {
+        let kind = Refusal { number, spot: 3 }.kind();
+        assert_eq!(
+            kind.map(Kind::number),
+            numbers.contains(&number).then_some(number)
+        );
+        assert_eq!(Kind::of(number), kind);
+    }
+}
+
+/// Each kind has its own text and, but for two that ask the same, its own advice.
+#[test]
+fn texts() {
+    let texts: HashSet<&str> = Kind::ALL.iter().map(|kind| kind.text()).collect();
+    assert_eq!(texts.len(), Kind::ALL.len());
+    let advice: HashSet<&str> = Kind::ALL.iter().map(|kind| kind.advice()).collect();
+    assert_eq!(advice.len(), Kind::ALL.len() - 1);
+    for kind in Kind::ALL {
+        assert_eq!(kind.to_string(), kind.text());
+        assert!(!kind.text().is_empty() && !kind.advice().is_empty());
+    }
+}
+
+/// A refusal's own sentence has its number and its spot.
+#[test]
+fn sentences() {
+    for kind in Kind::ALL {
+        let number = kind.number();
+        let said = Refusal { number, spot: 777 }.to_string();
+        assert!(said.starts_with(&format!("refusal {number}: ")), "{said}");
+        assert!(said.contains("777"), "{said}");
+    }
+}
+
+/// Answers can be keys.
+#[test]
+fn answers_are_hashed() {
+    let bundle = [1, 0, 1, 0, 0, 0, 0, 1, 0, 0, 0];
+    let (tally, _) = hovmekhar::judge_vec(&bundle).expect("accepted");
+    assert!(HashSet::from([tally]).contains(&tally));
+    let screened = hovmekhar::screen(&bundle, &[0]).expect("screened");
+    assert!(HashSet::from([screened]).contains(&screened));
+    let mut table = [0; hovmekhar::TABLE_SIZE];
+    let summary = hovmekhar::Summary::fresh(1, &mut table).expect("a log");
+    assert!(HashSet::from([summary]).contains(&summary));
+}
