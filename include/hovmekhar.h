@@ -1,6 +1,7 @@
 /*
  * Hovmekhar: opening and sealing of files, the log table, judging, and the
- * screening of words. C11 and C++.
+ * screening of words. C11 and C++. The library, libhovmekhar.a, is compiled for
+ * x86-64 Linux.
  *
  * A sealed file is 1 to 128 blocks of 512 bytes. Numbers of two bytes have the
  * low byte first. A block holds:
@@ -50,7 +51,7 @@
  * tells whether the places of a bundle permit a lent word. It reads the bundle up
  * to its last place, whether or not the judge accepts it.
  *
- * Every call returns 0 for a result, else the number of a refusal (see
+ * Every call returns HOV_OK for a result, else the number of a refusal (see
  * enum hov_refusal); screening has a second result, HOV_STOPPED. A refusal's spot
  * is in answer[0]; where a result is, each call says. Numbers of answer that a
  * call does not use stay as they were.
@@ -77,6 +78,12 @@
 #ifdef __cplusplus
 extern "C" {
 #endif
+
+/** The version, as text and in its three numbers. */
+#define HOV_VERSION "0.1.0"
+#define HOV_VERSION_MAJOR 0
+#define HOV_VERSION_MINOR 1
+#define HOV_VERSION_PATCH 0
 
 /** Bytes of a block. */
 #define HOV_BLOCK_SIZE 512
@@ -116,6 +123,9 @@ extern "C" {
 
 /** The largest number of events in a word that is screened. */
 #define HOV_MAX_WORD_EVENTS 65535
+
+/** What a call returns for a result. */
+#define HOV_OK 0
 
 /** What hov_screen returns for a word that is stopped; it is no refusal. */
 #define HOV_STOPPED 256
@@ -245,9 +255,9 @@ enum hov_refusal {
  * Opens a sealed file: checks every block, then writes the bundle to the front
  * of the output and leaves the rest of the output as it was.
  *
- * Returns 0, with the bundle's length in answer[0], or the first refusal that
- * applies in the order HOV_FILE_LENGTH, HOV_BLOCK, HOV_OUTPUT_SHORT, with its
- * spot in answer[0]. answer[1] to answer[3] stay as they were.
+ * Returns HOV_OK, with the bundle's length in answer[0], or the first refusal
+ * that applies in the order HOV_FILE_LENGTH, HOV_BLOCK, HOV_OUTPUT_SHORT, with
+ * its spot in answer[0]. answer[1] to answer[3] stay as they were.
  *
  * An output of HOV_MAX_BUNDLE_SIZE bytes is long enough for every file.
  */
@@ -259,9 +269,9 @@ uint32_t hov_open(const uint8_t *file, size_t file_len,
  * Seals a bundle: writes the sealed file to the front of the output and leaves
  * the rest of the output as it was.
  *
- * Returns 0, with the file's length in answer[0], or the first refusal that
- * applies in the order HOV_BUNDLE_LENGTH, HOV_OUTPUT_SHORT, with its spot in
- * answer[0]. answer[1] to answer[3] stay as they were.
+ * Returns HOV_OK, with the file's length in answer[0], or the first refusal
+ * that applies in the order HOV_BUNDLE_LENGTH, HOV_OUTPUT_SHORT, with its spot
+ * in answer[0]. answer[1] to answer[3] stay as they were.
  *
  * An output of HOV_MAX_FILE_SIZE bytes is long enough for every bundle.
  */
@@ -274,8 +284,9 @@ uint32_t hov_seal(const uint8_t *bundle, size_t bundle_len,
  * table to zero and leaves the rest as it was. The table then has one row, that
  * of the empty prefix. table_len counts numbers, not bytes.
  *
- * Returns 0, with the summary of the log in answer[0] to answer[2]: the event
- * count n, the rows, 1, and the events so far, 0. answer[3] stays as it was.
+ * Returns HOV_OK, with the summary of the log in answer[0] to answer[2]: the
+ * event count n, the rows, 1, and the events so far, 0. answer[3] stays as it
+ * was.
  *
  * Or returns the first refusal that applies in the order HOV_NUMBERS_SHORT,
  * HOV_STATE_RANGE, with its spot in answer[0]. answer[1] to answer[3] stay as they
@@ -295,9 +306,9 @@ uint32_t hov_fresh(size_t n,
  * the word, that event's bit is set in the row's mask. No other number of the
  * table changes.
  *
- * Returns 0, with the next summary in answer[0] to answer[2]: the event count
- * n, the rows and the events so far, to be handed to the next call. answer[3]
- * stays as it was.
+ * Returns HOV_OK, with the next summary in answer[0] to answer[2]: the event
+ * count n, the rows and the events so far, to be handed to the next call.
+ * answer[3] stays as it was.
  *
  * Or returns the first refusal that applies in the order HOV_NUMBERS_SHORT,
  * HOV_STATE_RANGE, HOV_EVENTS, HOV_VALUE, HOV_ROWS, with its spot in answer[0].
@@ -317,10 +328,11 @@ uint32_t hov_take(size_t n, size_t rows, size_t events,
  * Judges a bundle: it is accepted when every place fits and every certificate
  * holds. table_len counts numbers, not bytes.
  *
- * Returns 0 when it is accepted, with four counts in answer[0] to answer[3]: the
- * rows, the allowed steps, the certificates of kind 0 and those of kind 1. The
- * first HOV_TABLE_SIZE numbers of the table are then the rows of the log and
- * zeros behind them, whatever they were before, and the rest is as it was.
+ * Returns HOV_OK when it is accepted, with four counts in answer[0] to
+ * answer[3]: the rows, the allowed steps, the certificates of kind 0 and those
+ * of kind 1. The first HOV_TABLE_SIZE numbers of the table are then the rows of
+ * the log and zeros behind them, whatever they were before, and the rest is as
+ * it was.
  *
  * Or returns the first refusal that applies, with its spot in answer[0];
  * answer[1] to answer[3] stay as they were. HOV_BUNDLE_LENGTH comes first, then
@@ -340,8 +352,8 @@ uint32_t hov_judge(const uint8_t *bundle, size_t bundle_len,
  * the front of the output, then judges that bundle as hov_judge does. table_len
  * counts numbers, not bytes.
  *
- * Returns 0 when the bundle is accepted, with its four counts in answer[0] to
- * answer[3] and the rows of its log in the table, as for hov_judge.
+ * Returns HOV_OK when the bundle is accepted, with its four counts in answer[0]
+ * to answer[3] and the rows of its log in the table, as for hov_judge.
  *
  * Or returns the first refusal that applies, with its spot in answer[0];
  * answer[1] to answer[3] stay as they were. HOV_FILE_LENGTH, HOV_BLOCK and
@@ -361,10 +373,10 @@ uint32_t hov_judge_file(const uint8_t *file, size_t file_len,
  * one that hov_judge accepts. Its rows are not counted, and what follows the last
  * place is not looked at.
  *
- * Returns 0 when every place permits every step of the word; answer[0] to
- * answer[3] stay as they were. Returns HOV_STOPPED when some step is refused, with
- * the position of the first refused step in answer[0], counted from 0, and in
- * answer[1] the number of the lowest place that refuses it. answer[2] and
+ * Returns HOV_OK when every place permits every step of the word; answer[0] to
+ * answer[3] stay as they were. Returns HOV_STOPPED when some step is refused,
+ * with the position of the first refused step in answer[0], counted from 0, and
+ * in answer[1] the number of the lowest place that refuses it. answer[2] and
  * answer[3] stay as they were.
  *
  * Or returns the first refusal that applies, with its spot in answer[0];
@@ -379,6 +391,54 @@ uint32_t hov_judge_file(const uint8_t *file, size_t file_len,
 uint32_t hov_screen(const uint8_t *bundle, size_t bundle_len,
                     const uint8_t *word, size_t word_len,
                     uint64_t answer[4]);
+
+/**
+ * What a refusal means, in words for a message: the number is what a call
+ * returned. The spot, which tells where, is in answer[0].
+ */
+static inline const char *hov_refusal_text(uint32_t number)
+{
+    switch (number) {
+    case HOV_FILE_LENGTH:
+        return "the file's length is 0, no multiple of 512, or above 65,536";
+    case HOV_BLOCK:
+        return "a block breaks a rule: its number, its used count, its "
+               "padding or its sums";
+    case HOV_OUTPUT_SHORT:
+        return "the output is shorter than the result";
+    case HOV_BUNDLE_LENGTH:
+        return "the bundle's length is 0 or above 64,512";
+    case HOV_NUMBERS_SHORT:
+        return "the table has fewer than 3,328 numbers";
+    case HOV_BUNDLE_END:
+        return "the bundle ends before or inside a field";
+    case HOV_VALUE:
+        return "a value is outside its range, or names a row, event or "
+               "place that is not there";
+    case HOV_EVENTS:
+        return "the events would pass 1,024";
+    case HOV_ROWS:
+        return "the rows would pass 256";
+    case HOV_PLACE_MISFIT:
+        return "a place does not fit the log: the net is too tight";
+    case HOV_PLACE_PERMITS:
+        return "a certificate of kind 0 whose place permits the step";
+    case HOV_WEIGHTS:
+        return "a certificate of kind 1 whose weights do not hold, or "
+               "with a step that is not allowed";
+    case HOV_BYTES_FOLLOW:
+        return "bytes follow the last certificate";
+    case HOV_WORD_LENGTH:
+        return "the screened word has more than 65,535 events";
+    case HOV_WORD_EVENT:
+        return "an event of the screened word is not below n";
+    case HOV_STATE_RANGE:
+        return "n is not 1 to 12, the rows are not 1 to 256, or the "
+               "events are above 1,024";
+    default:
+        return "no refusal has this number";
+    }
+}
 
 #ifdef __cplusplus
 }
