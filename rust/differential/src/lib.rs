@@ -15,6 +15,7 @@
 //! - [`samples`]: the files in `samples/`.
 //! - [`vectors`]: cases with their answers, from a file.
 //! - [`programs`]: the programs, run as a person or a script runs them.
+//! - [`c_programs`]: programs in C, compiled and linked with the library.
 //! - [`guarded`]: lent buffers with guards on both sides.
 //! - [`run`]: makes each call on both sides, compares, and counts.
 //!
@@ -31,6 +32,7 @@
 
 pub mod bundle_faults;
 pub mod bundles;
+pub mod c_programs;
 pub mod faults;
 pub mod fields;
 pub mod files;

@@ -1,62 +1,24 @@
 //! The header and the static library, from C.
 
-use differential::samples::directory;
-use hovmekhar::Refusal;
-use std::path::{Path, PathBuf};
+use differential::c_programs::{c_compiler, compile, include_directory};
+use hovmekhar::{Kind, Refusal};
+use std::fs;
+use std::path::Path;
 use std::process::Command;
-use std::{env, fs};
-
-fn include_directory() -> PathBuf {
-    Path::new(env!("CARGO_MANIFEST_DIR")).join("../../include")
-}
 
 /// Compiles a program of `tests/c` with the C compiler that also links Rust
-/// programs.
-fn compile(name: &str) -> PathBuf {
+/// programs, runs it, and returns what it printed.
+fn run(name: &str) -> String {
     let source = Path::new(env!("CARGO_MANIFEST_DIR"))
         .join("tests/c")
         .join(name)
         .with_extension("c");
     let program = Path::new(env!("CARGO_TARGET_TMPDIR")).join(name);
-    let compiler = env::var_os("CC").unwrap_or_else(|| "cc".into());
-    let compiled = Command::new(compiler)
-        .args([
-            "-std=c11",
-            "-Wall",
-            "-Wextra",
-            "-Werror",
-            "-pedantic",
-            "-O2",
-        ])
-        .arg("-I")
-        .arg(include_directory())
-        .arg(source)
-        .arg(env!("HOVMEKHAR_ARCHIVE"))
-        .arg("-o")
-        .arg(&program)
-        .output()
-        .expect("the C compiler runs");
-    assert!(
-        compiled.status.success(),
-        "{name}.c does not compile: {}",
-        String::from_utf8_lossy(&compiled.stderr)
-    );
+    compile(&c_compiler(), "c11", &source, &program);
 
-    program
-}
-
-/// Compiles a program, runs it, and returns what it printed.
-fn run(name: &str) -> String {
-    let (status, printed) = answer(Command::new(compile(name)));
-    assert_eq!(status, Some(0), "{name}");
-    printed
-}
-
-/// How a program ended, and what it printed to standard output.
-fn answer(mut program: Command) -> (Option<i32>, String) {
-    let done = program.output().expect("the program runs");
-    let printed = String::from_utf8(done.stdout).expect("the program prints text");
-    (done.status.code(), printed)
+    let done = Command::new(program).output().expect("the program runs");
+    assert_eq!(done.status.code(), Some(0), "{name}");
+    String::from_utf8(done.stdout).expect("the program prints text")
 }
 
 #[test]
@@ -147,6 +109,19 @@ fn pages_around_the_buffers_are_not_touched() {
     );
 }
 
+/// The texts of the refusals are those of the Rust crate, and so is the version.
+#[test]
+fn texts_and_version() {
+    let version = env!("CARGO_PKG_VERSION");
+    let mut expected = format!("{version} {version}\n");
+    for number in 0..=260u32 {
+        let kind = u8::try_from(number).ok().and_then(Kind::of);
+        let text = kind.map_or("no refusal has this number", Kind::text);
+        expected += &format!("{number} {text}\n");
+    }
+    assert_eq!(run("texts"), expected);
+}
+
 /// The header has the same numbers as the Rust crate.
 #[test]
 fn header_and_crate_agree() {
@@ -198,34 +173,9 @@ fn header_and_crate_agree() {
         ("HOV_MAX_PLACES", hovmekhar::MAX_PLACES),
         ("HOV_MAX_TERMS", hovmekhar::MAX_TERMS),
         ("HOV_MAX_WORD_EVENTS", hovmekhar::MAX_WORD_EVENTS),
+        ("HOV_OK", 0),
         ("HOV_STOPPED", hovmekhar::ffi::STOPPED as usize),
     ] {
         assert!(has(&["#define", name, &size.to_string()]), "{name} {size}");
     }
-}
-
-/// The complete example that README.md names, on the sample files.
-#[test]
-fn gate() {
-    let program = compile("gate");
-    let ask = |file: &str, events: &[&str]| {
-        let mut gate = Command::new(&program);
-        gate.arg(directory().join(file)).args(events);
-        answer(gate)
-    };
-    let answers = |lines: &str| (Some(0), format!("accepted 5 4 5 1\n{lines}\n"));
-    assert_eq!(ask("a.sealed", &["0", "1"]), answers("permitted"));
-    assert_eq!(ask("a.sealed", &[]), answers("permitted"));
-    assert_eq!(ask("a.sealed", &["1", "0"]), answers("stopped 1 0"));
-    assert_eq!(ask("a.sealed", &["0", "0", "0"]), answers("stopped 2 1"));
-    let (status, printed) = ask("a.sealed", &["0", "2"]);
-    assert_eq!(status, Some(1));
-    assert_eq!(printed, "accepted 5 4 5 1\nrefused 15 1\n");
-    let refused = |line: &str| (Some(1), format!("{line}\n"));
-    assert_eq!(ask("damaged.sealed", &["0"]), refused("refused 2 0"));
-    assert_eq!(ask("f.sealed", &["0"]), refused("refused 6 3"));
-    for wrong in ["256", "-1", "x", ""] {
-        assert_eq!(ask("a.sealed", &[wrong]), (Some(2), String::new()));
-    }
-    assert_eq!(ask("missing", &[]), (Some(2), String::new()));
 }
