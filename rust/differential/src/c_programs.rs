@@ -7,6 +7,9 @@ use std::process::Command;
 /// Options under which a program has to compile without a warning.
 const STRICT: [&str; 5] = ["-Wall", "-Wextra", "-Werror", "-pedantic", "-O2"];
 
+/// The static library that the tests link.
+pub const ARCHIVE: &str = env!("HOVMEKHAR_ARCHIVE");
+
 /// The root of the repository.
 pub fn root() -> PathBuf {
     Path::new(env!("CARGO_MANIFEST_DIR")).join("../..")
@@ -48,7 +51,7 @@ pub fn compile(compiler: &str, standard: &str, source: &Path, program: &Path) {
         .arg(source)
         // The archive is none.
         .args(["-x", "none"])
-        .arg(env!("HOVMEKHAR_ARCHIVE"))
+        .arg(ARCHIVE)
         .arg("-o")
         .arg(program)
         .output()

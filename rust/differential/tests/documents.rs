@@ -2,9 +2,9 @@
 
 use differential::programs::run;
 use differential::samples::{all, directory};
+use hovmekhar::Kind;
 use std::fs;
 use std::path::{Path, PathBuf};
-use std::process::Command;
 
 fn root() -> PathBuf {
     Path::new(env!("CARGO_MANIFEST_DIR")).join("../..")
@@ -12,61 +12,6 @@ fn root() -> PathBuf {
 
 fn document(name: &str) -> String {
     fs::read_to_string(root().join(name)).unwrap_or_else(|error| panic!("{name}: {error}"))
-}
-
-/// A command of a document, and what it is said to print.
-struct Shown {
-    command: String,
-    printed: String,
-}
-
-/// The commands are indented lines that begin with `$`; the indented lines that
-/// follow one are what it prints.
-fn shown(document: &str) -> Vec<Shown> {
-    let mut all: Vec<Shown> = Vec::new();
-    let mut inside = false;
-    for line in document.lines() {
-        match line.strip_prefix("    ") {
-            Some(text) => {
-                if let Some(command) = text.strip_prefix("$ ") {
-                    all.push(Shown {
-                        command: command.into(),
-                        printed: String::new(),
-                    });
-                    inside = true;
-                } else if inside {
-                    let last = all.last_mut().expect("a command stands before");
-                    last.printed.push_str(text);
-                    last.printed.push('\n');
-                }
-            }
-            None => inside = false,
-        }
-    }
-    all
-}
-
-/// Each command of the README, run in a shell at the root of the repository,
-/// prints to standard output what the README says.
-#[test]
-fn readme_commands() {
-    let readme = document("README.md");
-    let commands = shown(&readme);
-    assert!(commands.len() >= 8, "{} commands", commands.len());
-    for program in ["judge", "screen", "seal", "unseal"] {
-        let path = format!("target/bin/{program}");
-        let used = commands.iter().any(|shown| shown.command.contains(&path));
-        assert!(used, "no command shows {program}");
-    }
-    for Shown { command, printed } in commands {
-        let done = Command::new("sh")
-            .args(["-c", &command])
-            .current_dir(root())
-            .output()
-            .expect("there is a shell");
-        let output = String::from_utf8(done.stdout).expect("commands print text");
-        assert_eq!(output, printed, "{command}");
-    }
 }
 
 /// The annotated bytes of case A, joined, are the bundle of `samples/a.sealed`,
@@ -96,20 +41,37 @@ fn between_ticks(cell: &str) -> Option<&str> {
     cell.strip_prefix('`')?.strip_suffix('`')
 }
 
-/// The README's table of refusals has each number once, in order.
+/// The README's table of refusals has each number once, in order, with the texts
+/// of the library.
 #[test]
 fn refusals_are_described() {
     let readme = document("README.md");
     let start = readme.find("### What a refusal means").expect("the table");
     let table = readme[start..]
         .lines()
-        .skip_while(|line| !line.starts_with('|'));
-    let numbers: Vec<u8> = table
-        .take_while(|line| line.starts_with('|'))
-        .filter_map(|line| line.split('|').nth(1)?.trim().parse().ok())
-        .collect();
-    assert_eq!(numbers, (1..=16).collect::<Vec<u8>>());
-    assert!(all().len() >= 5, "the walk-through uses the samples");
+        .skip_while(|line| !line.starts_with("| 1 |"))
+        .take_while(|line| line.starts_with('|'));
+    let mut kinds = Kind::ALL.iter();
+    for line in table {
+        let cells: Vec<&str> = line.split('|').map(str::trim).collect();
+        let [_, number, means, _, to_do, _] = cells[..] else {
+            panic!("{line}");
+        };
+        let kind = kinds.next().expect("no more rows than refusals");
+        assert_eq!(number, kind.number().to_string(), "{line}");
+        assert_eq!(means, kind.text(), "{line}");
+        assert_eq!(to_do, kind.advice(), "{line}");
+    }
+    assert_eq!(kinds.next(), None, "each refusal has a row");
+}
+
+/// The changes begin with the version that the crates, the header and `hov` have.
+#[test]
+fn changes_begin_with_the_version() {
+    let changes = document("CHANGELOG.md");
+    let heading = changes.lines().find(|line| line.starts_with("## "));
+    let version = heading.and_then(|line| line.strip_prefix("## ")?.split(':').next());
+    assert_eq!(version, Some(env!("CARGO_PKG_VERSION")));
 }
 
 /// What samples/README.md says that the programs do with each file.

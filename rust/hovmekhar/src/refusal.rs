@@ -212,6 +212,19 @@ impl Refusal {
         Kind::of(self.number)
     }
 
+    /// What it says, with its spot and without its number.
+    ///
+    /// ```
+    /// let refusal = hovmekhar::open_vec(&[0; 512]).unwrap_err();
+    /// let sentence = refusal.sentence().to_string();
+    /// assert_eq!(sentence, "block 0 breaks a rule of the file format");
+    /// assert_eq!(refusal.to_string(), format!("refusal 2: {sentence}"));
+    /// ```
+    #[must_use]
+    pub fn sentence(&self) -> impl fmt::Display {
+        Sentence(*self)
+    }
+
     /// Reads what a call of the library returned: 0 for a result, or a refusal's
     /// number, with the spot in the answer.
     pub(crate) fn check(number: u32, answer: Answer) -> Result<(), Refusal> {
@@ -229,51 +242,61 @@ impl Refusal {
 
 impl fmt::Display for Refusal {
     fn fmt(&self, f: &mut fmt::Formatter<'_>) -> fmt::Result {
-        let Refusal { number, spot } = *self;
-        write!(f, "refusal {number}: ")?;
+        write!(f, "refusal {}: {}", self.number, self.sentence())
+    }
+}
+
+/// What a refusal says, without its number.
+struct Sentence(Refusal);
+
+impl fmt::Display for Sentence {
+    fn fmt(&self, f: &mut fmt::Formatter<'_>) -> fmt::Result {
+        let Refusal { number, spot } = self.0;
         match number {
-            Self::FILE_LENGTH => write!(
+            Refusal::FILE_LENGTH => write!(
                 f,
                 "the file length is 0, no multiple of 512, or above 65,536 (spot {spot})"
             ),
-            Self::BLOCK => write!(f, "block {spot} breaks a rule of the file format"),
-            Self::OUTPUT_SHORT => write!(f, "the output is too short, {spot} bytes are needed"),
-            Self::BUNDLE_LENGTH => {
+            Refusal::BLOCK => write!(f, "block {spot} breaks a rule of the file format"),
+            Refusal::OUTPUT_SHORT => write!(f, "the output is too short, {spot} bytes are needed"),
+            Refusal::BUNDLE_LENGTH => {
                 write!(f, "the bundle length is 0 or above 64,512 (spot {spot})")
             }
-            Self::NUMBERS_SHORT => write!(f, "the table is too short, {spot} numbers are needed"),
-            Self::BUNDLE_END => write!(
+            Refusal::NUMBERS_SHORT => {
+                write!(f, "the table is too short, {spot} numbers are needed")
+            }
+            Refusal::BUNDLE_END => write!(
                 f,
                 "the bundle ends before or inside the field at offset {spot}"
             ),
-            Self::VALUE => write!(
+            Refusal::VALUE => write!(
                 f,
                 "the value at {spot} is outside its range, \
                  or names a row, event or place that is not there"
             ),
-            Self::EVENTS => write!(f, "the events would pass 1,024 (spot {spot})"),
-            Self::ROWS => write!(f, "the rows would pass 256 (spot {spot})"),
-            Self::PLACE_MISFIT => write!(f, "place {spot} does not fit the log"),
-            Self::PLACE_PERMITS => write!(
+            Refusal::EVENTS => write!(f, "the events would pass 1,024 (spot {spot})"),
+            Refusal::ROWS => write!(f, "the rows would pass 256 (spot {spot})"),
+            Refusal::PLACE_MISFIT => write!(f, "place {spot} does not fit the log"),
+            Refusal::PLACE_PERMITS => write!(
                 f,
                 "the place listed by certificate {spot} permits the wrong continuation"
             ),
-            Self::WEIGHTS => write!(
+            Refusal::WEIGHTS => write!(
                 f,
                 "certificate {spot} does not hold, or has a step that is not allowed"
             ),
-            Self::BYTES_FOLLOW => write!(
+            Refusal::BYTES_FOLLOW => write!(
                 f,
                 "bytes follow the last certificate, from offset {spot} on"
             ),
-            Self::WORD_LENGTH => {
+            Refusal::WORD_LENGTH => {
                 write!(f, "the word has more than 65,535 events (spot {spot})")
             }
-            Self::WORD_EVENT => write!(
+            Refusal::WORD_EVENT => write!(
                 f,
                 "the event at position {spot} of the word is not below the event count"
             ),
-            Self::STATE_RANGE => write!(
+            Refusal::STATE_RANGE => write!(
                 f,
                 "the event count is not 1 to 12, the rows are not 1 to 256, \
                  or the events are above 1,024 (spot {spot})"

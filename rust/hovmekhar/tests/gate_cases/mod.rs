@@ -1,5 +1,9 @@
 //! What the program `gate` does, in C and in Rust: one table for both.
 
+#[path = "../closed_pipe/mod.rs"]
+mod closed_pipe;
+
+use closed_pipe::closed_pipe;
 use std::fs::{self, File};
 use std::io::{self, Write};
 use std::path::{Path, PathBuf};
@@ -207,16 +211,4 @@ fn full() -> Stdio {
     File::create("/dev/full")
         .expect("a device that is full")
         .into()
-}
-
-/// A standard output that nobody reads.
-fn closed_pipe() -> Stdio {
-    // A program that has ended has closed its standard input.
-    let mut reader = Command::new("true")
-        .stdin(Stdio::piped())
-        .spawn()
-        .expect("`true` runs");
-    let pipe = reader.stdin.take().expect("a pipe");
-    reader.wait().expect("`true` ends");
-    pipe.into()
 }
