@@ -12,26 +12,28 @@ struct Shown {
 }
 
 /// The commands are indented lines that begin with `$`; the indented lines that
-/// follow one are what it prints.
+/// follow one are what it prints, with empty lines between them.
 fn shown(document: &str) -> Vec<Shown> {
     let mut all: Vec<Shown> = Vec::new();
+    // Whether a command stands before, and how many empty lines behind its last.
     let mut inside = false;
+    let mut empty = 0;
     for line in document.lines() {
-        match line.strip_prefix("    ") {
-            Some(text) => {
-                if let Some(command) = text.strip_prefix("$ ") {
-                    all.push(Shown {
-                        command: command.into(),
-                        printed: String::new(),
-                    });
-                    inside = true;
-                } else if inside {
-                    let last = all.last_mut().expect("a command stands before");
-                    last.printed.push_str(text);
-                    last.printed.push('\n');
-                }
-            }
-            None => inside = false,
+        let text = line.strip_prefix("    ");
+        if let Some(command) = text.and_then(|text| text.strip_prefix("$ ")) {
+            all.push(Shown {
+                command: command.into(),
+                printed: String::new(),
+            });
+            (inside, empty) = (true, 0);
+        } else if let (Some(text), true) = (text, inside) {
+            let last = all.last_mut().expect("a command stands before");
+            last.printed += &"\n".repeat(empty);
+            last.printed += &format!("{text}\n");
+            empty = 0;
+        } else {
+            inside = inside && line.is_empty();
+            empty += 1;
         }
     }
     all
@@ -47,6 +49,7 @@ fn commands() {
     for used in [
         "hov judge ",
         "hov screen ",
+        "hov show ",
         "examples/may_run.sh ",
         "target/bin/judge ",
         "target/bin/screen ",

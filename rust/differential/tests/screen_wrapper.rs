@@ -124,6 +124,10 @@ fn refusals_are_errors() {
             sentence.starts_with(&format!("refusal {number}: ")),
             "{sentence}"
         );
-        assert!(sentence.contains(&spot.to_string()), "{sentence}");
+        let one_spot = [Refusal::WORD_LENGTH, Refusal::BUNDLE_LENGTH].contains(&number);
+        assert!(
+            one_spot || sentence.contains(&spot.to_string()),
+            "{sentence}"
+        );
     }
 }

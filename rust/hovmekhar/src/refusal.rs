@@ -212,7 +212,7 @@ impl Refusal {
         Kind::of(self.number)
     }
 
-    /// What it says, with its spot and without its number.
+    /// What it says, with its spot where that tells something, and without its number.
     ///
     /// ```
     /// let refusal = hovmekhar::open_vec(&[0; 512]).unwrap_err();
@@ -253,15 +253,8 @@ impl fmt::Display for Sentence {
     fn fmt(&self, f: &mut fmt::Formatter<'_>) -> fmt::Result {
         let Refusal { number, spot } = self.0;
         match number {
-            Refusal::FILE_LENGTH => write!(
-                f,
-                "the file length is 0, no multiple of 512, or above 65,536 (spot {spot})"
-            ),
             Refusal::BLOCK => write!(f, "block {spot} breaks a rule of the file format"),
             Refusal::OUTPUT_SHORT => write!(f, "the output is too short, {spot} bytes are needed"),
-            Refusal::BUNDLE_LENGTH => {
-                write!(f, "the bundle length is 0 or above 64,512 (spot {spot})")
-            }
             Refusal::NUMBERS_SHORT => {
                 write!(f, "the table is too short, {spot} numbers are needed")
             }
@@ -289,19 +282,16 @@ impl fmt::Display for Sentence {
                 f,
                 "bytes follow the last certificate, from offset {spot} on"
             ),
-            Refusal::WORD_LENGTH => {
-                write!(f, "the word has more than 65,535 events (spot {spot})")
-            }
             Refusal::WORD_EVENT => write!(
                 f,
                 "the event at position {spot} of the word is not below the event count"
             ),
-            Refusal::STATE_RANGE => write!(
-                f,
-                "the event count is not 1 to 12, the rows are not 1 to 256, \
-                 or the events are above 1,024 (spot {spot})"
+            // The others have one spot each, which tells nothing.
+            _ => f.write_str(
+                self.0
+                    .kind()
+                    .map_or("no refusal has this number", Kind::text),
             ),
-            _ => write!(f, "no such number is in the refusal table (spot {spot})"),
         }
     }
 }

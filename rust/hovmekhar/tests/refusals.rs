@@ -31,15 +31,21 @@ fn texts() {
     }
 }
 
-/// A refusal's own sentence has its number and its spot.
+/// A refusal says its number and a sentence, which has the spot, but for those whose
+/// spot is always the same.
 #[test]
 fn sentences() {
     for kind in Kind::ALL {
         let number = kind.number();
-        let said = Refusal { number, spot: 777 }.to_string();
-        assert!(said.starts_with(&format!("refusal {number}: ")), "{said}");
-        assert!(said.contains("777"), "{said}");
+        let refusal = Refusal { number, spot: 777 };
+        let sentence = refusal.sentence().to_string();
+        assert_eq!(refusal.to_string(), format!("refusal {number}: {sentence}"));
+        let one_spot = [1, 4, 14, 16].contains(&number);
+        assert_eq!(sentence == kind.text(), one_spot, "{sentence}");
+        assert_eq!(sentence.contains("777"), !one_spot, "{sentence}");
     }
+    let unknown = Refusal { number: 0, spot: 0 };
+    assert_eq!(unknown.to_string(), "refusal 0: no refusal has this number");
 }
 
 /// Answers can be keys.
