@@ -80,9 +80,9 @@ extern "C" {
 #endif
 
 /** The version, as text and in its three numbers. */
-#define HOV_VERSION "0.1.0"
+#define HOV_VERSION "0.2.0"
 #define HOV_VERSION_MAJOR 0
-#define HOV_VERSION_MINOR 1
+#define HOV_VERSION_MINOR 2
 #define HOV_VERSION_PATCH 0
 
 /** Bytes of a block. */
@@ -149,10 +149,11 @@ enum hov_refusal {
     HOV_FILE_LENGTH = 1,
 
     /**
-     * open: a block breaks a rule of the file format.
-     * Spot: the lowest such block. As it was: the output.
+     * open: the sums of the lowest faulty block are wrong; its number, its used
+     * count and its unused bytes are right.
+     * Spot: that block. As it was: the output.
      */
-    HOV_BLOCK = 2,
+    HOV_BLOCK_SUMS = 2,
 
     /**
      * open, seal: the output is shorter than the result.
@@ -248,7 +249,20 @@ enum hov_refusal {
      * or the events are above 1,024.
      * Spot: 0. As it was: the table.
      */
-    HOV_STATE_RANGE = 16
+    HOV_STATE_RANGE = 16,
+
+    /**
+     * open: the number of the lowest faulty block is not its position.
+     * Spot: the position. As it was: the output.
+     */
+    HOV_BLOCK_NUMBER = 17,
+
+    /**
+     * open: the used count of the lowest faulty block is wrong, or an unused byte
+     * of its contents is not zero; its number is right.
+     * Spot: that block. As it was: the output.
+     */
+    HOV_BLOCK_USE = 18
 };
 
 /**
@@ -256,8 +270,10 @@ enum hov_refusal {
  * of the output and leaves the rest of the output as it was.
  *
  * Returns HOV_OK, with the bundle's length in answer[0], or the first refusal
- * that applies in the order HOV_FILE_LENGTH, HOV_BLOCK, HOV_OUTPUT_SHORT, with
- * its spot in answer[0]. answer[1] to answer[3] stay as they were.
+ * that applies, with its spot in answer[0]: HOV_FILE_LENGTH; then of the lowest
+ * faulty block HOV_BLOCK_NUMBER, HOV_BLOCK_USE or HOV_BLOCK_SUMS, the first
+ * of the three that it has; then HOV_OUTPUT_SHORT. answer[1] to answer[3] stay as
+ * they were.
  *
  * An output of HOV_MAX_BUNDLE_SIZE bytes is long enough for every file.
  */
@@ -356,10 +372,10 @@ uint32_t hov_judge(const uint8_t *bundle, size_t bundle_len,
  * to answer[3] and the rows of its log in the table, as for hov_judge.
  *
  * Or returns the first refusal that applies, with its spot in answer[0];
- * answer[1] to answer[3] stay as they were. HOV_FILE_LENGTH, HOV_BLOCK and
- * HOV_OUTPUT_SHORT come first, in this order, and leave the output and the table
- * as they were. Then those of hov_judge come in its order, and leave the table as
- * it does; the bundle stays in front of the output.
+ * answer[1] to answer[3] stay as they were. Those of hov_open come first, in its
+ * order, and leave the output and the table as they were. Then those of
+ * hov_judge come in its order, and leave the table as it does; the bundle stays in
+ * front of the output.
  *
  * An output of HOV_MAX_BUNDLE_SIZE bytes is long enough for every file.
  */
@@ -401,9 +417,8 @@ static inline const char *hov_refusal_text(uint32_t number)
     switch (number) {
     case HOV_FILE_LENGTH:
         return "the file's length is 0, no multiple of 512, or above 65,536";
-    case HOV_BLOCK:
-        return "a block breaks a rule: its number, its used count, its "
-               "padding or its sums";
+    case HOV_BLOCK_SUMS:
+        return "a block's sums are wrong";
     case HOV_OUTPUT_SHORT:
         return "the output is shorter than the result";
     case HOV_BUNDLE_LENGTH:
@@ -435,6 +450,11 @@ static inline const char *hov_refusal_text(uint32_t number)
     case HOV_STATE_RANGE:
         return "n is not 1 to 12, the rows are not 1 to 256, or the "
                "events are above 1,024";
+    case HOV_BLOCK_NUMBER:
+        return "a block's number is not its position";
+    case HOV_BLOCK_USE:
+        return "a block's used count is wrong, or an unused byte is not "
+               "zero";
     default:
         return "no refusal has this number";
     }

@@ -7,7 +7,7 @@ use lib.Dec.{eqb, leb}
 use Rattle.laws.specs.Lists.{all}
 use Rattle.laws.specs.Sums.{weighted}
 use Rattle.laws.specs.Numbers.{le16, numberAt}
-use Rattle.refusals.specs.Table.{BLOCK}
+use Rattle.refusals.specs.Table.{BLOCK-SUMS, BLOCK-NUMBER, BLOCK-USE}
 
 -- ---- The bytes of a block
 
@@ -64,6 +64,10 @@ rightCount last used = cond last (leb 1 used && leb used 504) (eqb used 504)
 unfoldable pub rightPadding : List ℕ → Bool
 rightPadding b = all isZero (take (504 - usedCount b) (drop (4 + usedCount b) b))
 
+-- both: its used count and its unused contents
+unfoldable pub rightUse : Bool → List ℕ → Bool
+rightUse last b = rightCount last (usedCount b) && rightPadding b
+
 -- its sums are those of bytes 0 to 507
 unfoldable pub rightSums : List ℕ → Bool
 rightSums b = eqb (numberAt b 508) (plainSum (take 508 b)) && eqb (numberAt b 510) (positionSum (take 508 b))
@@ -73,10 +77,9 @@ abbrev pub unless : Bool → ℕ → ℕ → ℕ
 unless true number rest = rest
 unless false number rest = number
 
--- the refusal number of the first rule that a block breaks, 0 where it keeps them all
+-- the refusal number of the first rule that a block breaks, 0 where it keeps them all: 17, 18, 2
 unfoldable pub fault : Bool → ℕ → List ℕ → ℕ
 fault last number b =
-    unless (rightNumber number b) BLOCK
-    (unless (rightCount last (usedCount b)) BLOCK
-    (unless (rightPadding b) BLOCK
-    (unless (rightSums b) BLOCK 0)))
+    unless (rightNumber number b) BLOCK-NUMBER
+    (unless (rightUse last b) BLOCK-USE
+    (unless (rightSums b) BLOCK-SUMS 0))

@@ -1,26 +1,72 @@
 -- Laws of a block: what its rules say, how the code builds it, and that a built block keeps the rules.
 use mathlib.Core.Path.{_≡_, refl, sym, ap, ap₂, _∙_}
 use mathlib.Core.Bool.{Bool, true, false}
+use mathlib.Core.Logic.{_↔_, Iff·trans}
 use mathlib.Core.List.{List, [], _∷_, _++_, append-assoc, append-nil}
 use Prim.Native.Nat.{ℕ, zero, suc, _+_, _-_, _≤_, _<_}
 use native.Mathlib.Omega.{arith}
 use lib.ListN.{length, take, drop, replicate, length-append, length-take, length-drop, length-replicate, replicate-append-replicate}
 use lib.Seq.{take-all, take-at, drop-at}
 use lib.Dec.{eqb, leb}
-use borrow.Author.Tests.{leb-true, eqb-true, eq-eqb, ne-eqb, le-leb}
-use Rattle.laws.specs.Booleans.{and-left, and-right}
+use borrow.Author.Tests.{leb-true, eqb-true, eqb-false, eq-eqb, ne-eqb, le-leb}
+use Rattle.laws.specs.Booleans.{impossible, and-left, and-right}
 use Rattle.laws.specs.Lists.{all}
 use Rattle.laws.specs.Parts.{front, spliced, front-next, adjacent, drop-replicate}
 use Rattle.laws.specs.Numbers.{Bytes, le16, numberAt, numberAt-after, le16-numberAt}
-use Rattle.refusals.specs.Table.{BLOCK}
-use Rattle.block.specs.Block.{plainSum, positionSum, padded, summedBytes, withSums, block, blank, usedCount, usedContents, isZero, rightNumber, rightCount, rightPadding, rightSums, unless, fault}
+use Rattle.refusals.specs.Table.{BLOCK-SUMS, BLOCK-NUMBER, BLOCK-USE}
+use Rattle.block.specs.Block.{plainSum, positionSum, padded, summedBytes, withSums, block, blank, usedCount, usedContents, isZero, rightNumber, rightCount, rightPadding, rightUse, rightSums, unless, fault}
 
 -- ---- What the rules say
 
--- a rule without a fault is kept, and so are those behind it
-unless-none : (kept : Bool) (n rest : ℕ) → 0 < n → unless kept n rest ≡ 0 → (kept ≡ true) × (rest ≡ 0)
-unless-none true n rest h e = (refl, e)
-unless-none false n rest h e = absurd (omega arith)
+-- the number is that of the first rule that is broken
+number-first : (p q s : Bool) → (unless p BLOCK-NUMBER (unless q BLOCK-USE (unless s BLOCK-SUMS 0)) ≡ BLOCK-NUMBER) ↔ (p ≡ false)
+number-first false q s = ((λ e. refl), (λ e. refl))
+number-first true false s = ((λ e. absurd (omega arith)), (λ e. impossible cc))
+number-first true true false = ((λ e. absurd (omega arith)), (λ e. impossible cc))
+number-first true true true = ((λ e. absurd (omega arith)), (λ e. impossible cc))
+
+use-first : (p q s : Bool) → (unless p BLOCK-NUMBER (unless q BLOCK-USE (unless s BLOCK-SUMS 0)) ≡ BLOCK-USE)
+    ↔ ((p ≡ true) × (q ≡ false))
+use-first false q s = ((λ e. absurd (omega arith)), (λ (e, f). impossible cc))
+use-first true false s = ((λ e. (refl, refl)), (λ e. refl))
+use-first true true false = ((λ e. absurd (omega arith)), (λ (e, f). impossible cc))
+use-first true true true = ((λ e. absurd (omega arith)), (λ (e, f). impossible cc))
+
+sums-first : (p q s : Bool) → (unless p BLOCK-NUMBER (unless q BLOCK-USE (unless s BLOCK-SUMS 0)) ≡ BLOCK-SUMS)
+    ↔ ((p ≡ true) × (q ≡ true) × (s ≡ false))
+sums-first false q s = ((λ e. absurd (omega arith)), (λ (e, f, g). impossible cc))
+sums-first true false s = ((λ e. absurd (omega arith)), (λ (e, f, g). impossible cc))
+sums-first true true false = ((λ e. (refl, refl, refl)), (λ e. refl))
+sums-first true true true = ((λ e. absurd (omega arith)), (λ (e, f, g). impossible cc))
+
+none-broken : (p q s : Bool) → (unless p BLOCK-NUMBER (unless q BLOCK-USE (unless s BLOCK-SUMS 0)) ≡ 0)
+    ↔ ((p ≡ true) × (q ≡ true) × (s ≡ true))
+none-broken false q s = ((λ e. absurd (omega arith)), (λ (e, f, g). impossible cc))
+none-broken true false s = ((λ e. absurd (omega arith)), (λ (e, f, g). impossible cc))
+none-broken true true false = ((λ e. absurd (omega arith)), (λ (e, f, g). impossible cc))
+none-broken true true true = ((λ e. (refl, refl, refl)), (λ e. refl))
+
+-- each number says which rules are kept, and which is the first that is broken
+module _ (last : Bool) (number : ℕ) (b : List ℕ) where
+  pub fault-number-exactly : (fault last number b ≡ BLOCK-NUMBER) ↔ (numberAt b 0 ≡ number → ⊥)
+  unfolding fault rightNumber
+  fault-number-exactly = Iff·trans (number-first (rightNumber number b) (rightUse last b) (rightSums b))
+      (eqb-false (numberAt b 0) number, ne-eqb (numberAt b 0) number)
+
+  pub fault-use-exactly : (fault last number b ≡ BLOCK-USE) ↔ ((numberAt b 0 ≡ number) × (rightUse last b ≡ false))
+  unfolding fault rightNumber
+  fault-use-exactly = Iff·trans (use-first (rightNumber number b) (rightUse last b) (rightSums b))
+      ((λ (e, f). (eqb-true _ _ e, f)), (λ (e, f). (eq-eqb _ _ e, f)))
+
+  pub fault-sums-exactly : (fault last number b ≡ BLOCK-SUMS) ↔ ((numberAt b 0 ≡ number) × (rightUse last b ≡ true) × (rightSums b ≡ false))
+  unfolding fault rightNumber
+  fault-sums-exactly = Iff·trans (sums-first (rightNumber number b) (rightUse last b) (rightSums b))
+      ((λ (e, f, g). (eqb-true _ _ e, f, g)), (λ (e, f, g). (eq-eqb _ _ e, f, g)))
+
+  pub fault-none-exactly : (fault last number b ≡ 0) ↔ ((numberAt b 0 ≡ number) × (rightUse last b ≡ true) × (rightSums b ≡ true))
+  unfolding fault rightNumber
+  fault-none-exactly = Iff·trans (none-broken (rightNumber number b) (rightUse last b) (rightSums b))
+      ((λ (e, f, g). (eqb-true _ _ e, f, g)), (λ (e, f, g). (eq-eqb _ _ e, f, g)))
 
 -- the rules of a block, one by one
 pub record Rules (last : Bool) (number : ℕ) (b : List ℕ) : Type 0 where
@@ -31,44 +77,16 @@ pub record Rules (last : Bool) (number : ℕ) (b : List ℕ) : Type 0 where
   pub position : numberAt b 510 ≡ positionSum (take 508 b)
 
 pub rules : (last : Bool) (number : ℕ) (b : List ℕ) → fault last number b ≡ 0 → Rules last number b
-unfolding fault rightNumber rightPadding rightSums
+unfolding rightUse rightPadding rightSums
 rules last number b e =
-    let first = unless-none (rightNumber number b) BLOCK _ (omega arith) e in
-    let second = unless-none (rightCount last (usedCount b)) BLOCK _ (omega arith) (first .1) in
-    let third = unless-none (rightPadding b) BLOCK _ (omega arith) (second .1) in
-    let sums = unless-none (rightSums b) BLOCK 0 (omega arith) (third .1) .0 in
+    let (numbered, contents, sums) = fault-none-exactly last number b .0 e in
     record {
-      numbered = eqb-true _ _ (first .0);
-      counted = second .0;
-      padding = third .0;
+      numbered = numbered;
+      counted = and-left _ _ contents;
+      padding = and-right (rightCount last (usedCount b)) _ contents;
       plain = eqb-true _ _ (and-left _ _ sums);
       position = eqb-true _ _ (and-right (eqb (numberAt b 508) (plainSum (take 508 b))) _ sums);
     }
-
--- one law for each rule that may be the first to break, and one for none
-module _ (last : Bool) (number : ℕ) (b : List ℕ) where
-  pub fault-number : (numberAt b 0 ≡ number → ⊥) → fault last number b ≡ BLOCK
-  unfolding fault rightNumber
-  fault-number other = rw (ne-eqb _ _ other)
-
-  module _ (numbered : numberAt b 0 ≡ number) where
-    pub fault-count : rightCount last (usedCount b) ≡ false → fault last number b ≡ BLOCK
-    unfolding fault rightNumber
-    fault-count e = rw (eq-eqb _ _ numbered, e)
-
-    module _ (counted : rightCount last (usedCount b) ≡ true) where
-      pub fault-padding : rightPadding b ≡ false → fault last number b ≡ BLOCK
-      unfolding fault rightNumber
-      fault-padding e = rw (eq-eqb _ _ numbered, counted, e)
-
-      module _ (padding : rightPadding b ≡ true) where
-        pub fault-sums : rightSums b ≡ false → fault last number b ≡ BLOCK
-        unfolding fault rightNumber
-        fault-sums e = rw (eq-eqb _ _ numbered, counted, padding, e)
-
-        pub fault-none : rightSums b ≡ true → fault last number b ≡ 0
-        unfolding fault rightNumber
-        fault-none e = rw (eq-eqb _ _ numbered, counted, padding, e)
 
 pub rightCount-most : (last : Bool) (used : ℕ) → rightCount last used ≡ true → used ≤ 504
 unfolding rightCount
@@ -171,7 +189,7 @@ module _ (number : ℕ) (contents : List ℕ) (small : number < 65536) (most : l
   block-position = numberAt-after (summedBytes number contents) _ 508 2 (length-summedBytes number contents most) ∙ omega arith
 
   pub block-sound : (last : Bool) → rightCount last (length contents) ≡ true → fault last number (block number contents) ≡ 0
-  unfolding fault rightNumber rightPadding rightSums
+  unfolding fault rightNumber rightUse rightPadding rightSums
   block-sound last counted =
       rw (block-number, eq-eqb number number refl, block-count, counted, block-padding, block-summed, block-plain, block-position, eq-eqb (plainSum (summedBytes number contents)) _ refl, eq-eqb (positionSum (summedBytes number contents)) _ refl)
 

@@ -1,42 +1,58 @@
 -- Exactly when opening and sealing refuse, and what they give else: one law for each test, in its order.
-use mathlib.Core.Path.{_≡_, refl, sym, ap, _∙_, subst}
+use mathlib.Core.Path.{_≡_, refl, sym, ap, _∙_}
 use mathlib.Core.Bool.{Bool, true, false, cond, _&&_}
 use mathlib.Core.Logic.{_↔_, _⊎_, inl, inr, ⊎-elim}
 use mathlib.Core.List.{List, _∷_, []}
-use Prim.Native.Nat.{ℕ, _%_, _<_}
+use Prim.Native.Nat.{ℕ, _+_, _%_, _<_}
 use native.Mathlib.Nat.{eq-or-lt-of-le}
 use native.Mathlib.Omega.{arith}
-use lib.Dec.{T, eqb, leb, eqb→eq}
+use lib.Dec.{eqb, leb}
 use lib.ListN.{length}
 use borrow.Author.Tests.{eqb-true, eqb-false, eq-eqb, ne-eqb, leb-false, le-leb, lt-leb}
-use Rattle.laws.specs.Booleans.{impossible, true-or-false, lt-or-le, or-yes}
-use Rattle.laws.specs.Lists.{any, among}
+use Rattle.laws.specs.Booleans.{impossible, true-or-false, lt-or-le}
+use Rattle.laws.specs.Lists.{any}
+use Rattle.laws.specs.Numbers.{numberAt}
 use Rattle.laws.specs.Scans.{firstFalse-below, firstFalse-most}
 use Rattle.limits.specs.Limits.{MAX-FILE-SIZE, rightSize}
-use Rattle.refusals.specs.Table.{FILE-LENGTH, BLOCK, BUNDLE-LENGTH}
+use Rattle.refusals.specs.Table.{FILE-LENGTH, BLOCK-SUMS, BUNDLE-LENGTH, BLOCK-NUMBER, BLOCK-USE}
 use Rattle.refusals.specs.Results.{value, refused, bind, require, Refuses, refuses-end, refuses-test}
 use Rattle.refusals.specs.Answers.{refusal}
 use Rattle.refusals.specs.Exactly.{Exactly, Gives, exactly-here, exactly-later, gives-later, gives-same, gives-value}
 use Rattle.refusals.specs.declared.Refusal.{Refusal}
-use Rattle.block.specs.Block.{isZero}
-use Rattle.block.specs.File.{blockCount, faultAt, firstFaulty, firstFault, bundleOf, rightLength, opened, sealedFile, sealed}
+use Rattle.block.specs.Block.{isZero, rightUse, rightSums}
+use Rattle.block.specs.File.{blockCount, blockAt, faultAt, firstFaulty, firstFault, bundleOf, rightLength, opened, sealedFile, sealed}
+use Rattle.block.specs.BlockLaws.{fault-number-exactly, fault-use-exactly, fault-sums-exactly, fault-none-exactly}
 use Rattle.block.specs.OpenLaws.{firstFault-at, firstFault-none, firstFault-zero}
-use Rattle.block.specs.RefusalNumbers.{faultNumbers, fault-numbers, faults-refuse}
+use Rattle.block.specs.RefusalNumbers.{faultNumbers, faults-refuse}
 
 -- the lowest block with a fault is block k, and the fault has this number
 abbrev pub LowestFault : List ℕ → ℕ → ℕ → Type 0
 LowestFault file number k = (k < blockCount file) × (faultAt file k ≡ number) × ((j : ℕ) → j < k → faultAt file j ≡ 0)
 
--- a fault has the one number
-pub fault-number : (file : List ℕ) (k : ℕ) → (faultAt file k ≡ BLOCK) ↔ (faultAt file k ≡ 0 → ⊥)
-unfolding faultAt any
-fault-number file k = (
-  (λ e none. omega (arith, e, none)),
-  (λ some. ⊎-elim (λ e. absurd (some (eqb-true _ 0 e))) (λ e. only _ e) (fault-numbers _ _ _)),
-)
-  where
-    only : (n : ℕ) → among n (BLOCK ∷ []) ≡ true → n ≡ BLOCK
-    only n e = ⊎-elim (λ t. eqb→eq n BLOCK t) (λ t. absurd t) (or-yes (eqb n BLOCK) false (subst T (sym e) tt))
+-- block k keeps all rules
+pub faultAt-none : (file : List ℕ) (k : ℕ) → (faultAt file k ≡ 0)
+    ↔ ((numberAt (blockAt file k) 0 ≡ k) × (rightUse (eqb (k + 1) (blockCount file)) (blockAt file k) ≡ true)
+    × (rightSums (blockAt file k) ≡ true))
+unfolding faultAt
+faultAt-none file k = fault-none-exactly _ _ _
+
+-- its number is not k
+pub faultAt-number : (file : List ℕ) (k : ℕ) → (faultAt file k ≡ BLOCK-NUMBER) ↔ (numberAt (blockAt file k) 0 ≡ k → ⊥)
+unfolding faultAt
+faultAt-number file k = fault-number-exactly _ _ _
+
+-- its number is k, and its used count or its padding is wrong
+pub faultAt-use : (file : List ℕ) (k : ℕ) → (faultAt file k ≡ BLOCK-USE)
+    ↔ ((numberAt (blockAt file k) 0 ≡ k) × (rightUse (eqb (k + 1) (blockCount file)) (blockAt file k) ≡ false))
+unfolding faultAt
+faultAt-use file k = fault-use-exactly _ _ _
+
+-- its number, its used count and its padding are right, and its sums are not
+pub faultAt-sums : (file : List ℕ) (k : ℕ) → (faultAt file k ≡ BLOCK-SUMS)
+    ↔ ((numberAt (blockAt file k) 0 ≡ k) × (rightUse (eqb (k + 1) (blockCount file)) (blockAt file k) ≡ true)
+    × (rightSums (blockAt file k) ≡ false))
+unfolding faultAt
+faultAt-sums file k = fault-sums-exactly _ _ _
 
 -- a length that no file has
 pub rightLength-wrong : (n : ℕ) → (rightLength n ≡ false) ↔ ((n ≡ 0) ⊎ ((n % 512 ≡ 0 → ⊥) ⊎ (MAX-FILE-SIZE < n)))

@@ -6,5 +6,6 @@ pub mod SealLaws
 pub mod RoundTrip
 pub mod RefusalNumbers
 pub mod Causes
+pub mod OtherBlocks
 pub mod Rooms
 pub mod Whole

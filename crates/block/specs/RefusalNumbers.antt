@@ -1,4 +1,4 @@
--- The refusal numbers of each call are those of its line in the order of refusals: open 1, 2, 3; seal 4, 3.
+-- The refusal numbers of each call are those of its line in the order of refusals: open 1, then 17, 18 or 2, then 3; seal 4, 3.
 use mathlib.Core.Path.{_≡_, refl}
 use mathlib.Core.Bool.{Bool, true, false, cond}
 use mathlib.Core.Logic.{_⊎_, inl, inr}
@@ -6,31 +6,31 @@ use mathlib.Core.List.{List, [], _∷_}
 use Prim.Native.Nat.{ℕ}
 use lib.Dec.{eqb}
 use Rattle.laws.specs.Lists.{all, any, among}
-use Rattle.refusals.specs.Table.{FILE-LENGTH, BLOCK, OUTPUT-SHORT, BUNDLE-LENGTH}
+use Rattle.refusals.specs.Table.{FILE-LENGTH, BLOCK-SUMS, OUTPUT-SHORT, BUNDLE-LENGTH, BLOCK-NUMBER, BLOCK-USE}
 use Rattle.refusals.specs.Results.{value, _>>_, require, Refuses, refuses-value, refuses-require, refuses-then, refuses-wider}
 use Rattle.refusals.specs.Answers.{refusal, answer, numberOf}
 use Rattle.refusals.specs.Laws.{written-numbers}
-use Rattle.block.specs.Block.{isZero, rightNumber, rightCount, usedCount, rightPadding, rightSums, unless, fault}
+use Rattle.block.specs.Block.{isZero, rightNumber, rightUse, rightSums, unless, fault}
 use Rattle.block.specs.File.{blockCount, faultAt, firstFaulty, firstFault, bundleOf, opened, sealedFile, sealed}
 
--- a block that breaks a rule
+-- the numbers of a block that breaks a rule
 abbrev pub faultNumbers : List ℕ
-faultNumbers = BLOCK ∷ []
+faultNumbers = BLOCK-NUMBER ∷ BLOCK-USE ∷ BLOCK-SUMS ∷ []
 
 abbrev pub openNumbers : List ℕ
-openNumbers = FILE-LENGTH ∷ BLOCK ∷ OUTPUT-SHORT ∷ []
+openNumbers = FILE-LENGTH ∷ BLOCK-NUMBER ∷ BLOCK-USE ∷ BLOCK-SUMS ∷ OUTPUT-SHORT ∷ []
 
 -- a fault's number is 0 or one of them
 pub fault-numbers : (last : Bool) (number : ℕ) (b : List ℕ) → (isZero (fault last number b) ≡ true) ⊎ (among (fault last number b) faultNumbers ≡ true)
 unfolding fault any
-fault-numbers last number b = go (rightNumber number b) (rightCount last (usedCount b)) (rightPadding b) (rightSums b)
+fault-numbers last number b = go (rightNumber number b) (rightUse last b) (rightSums b)
   where
-    go : (p q r s : Bool) → let number = unless p BLOCK (unless q BLOCK (unless r BLOCK (unless s BLOCK 0))) in (isZero number ≡ true) ⊎ (among number faultNumbers ≡ true)
-    go false q r s = inr refl
-    go true false r s = inr refl
-    go true true false s = inr refl
-    go true true true false = inr refl
-    go true true true true = inl refl
+    go : (p q s : Bool) → let number = unless p BLOCK-NUMBER (unless q BLOCK-USE (unless s BLOCK-SUMS 0)) in
+        (isZero number ≡ true) ⊎ (among number faultNumbers ≡ true)
+    go false q s = inr refl
+    go true false s = inr refl
+    go true true false = inr refl
+    go true true true = inl refl
 
 firstFault-numbers : (file : List ℕ) → (isZero (firstFault file .number) ≡ true) ⊎ (among (firstFault file .number) faultNumbers ≡ true)
 unfolding firstFault faultAt
@@ -48,7 +48,7 @@ pub open-refuses : (file : List ℕ) → Refuses openNumbers (opened file)
 unfolding opened all any
 open-refuses file = refuses-then (refuses-require _ FILE-LENGTH 0 (inr refl)) (λ u. refuses-wider tt (faults-refuse file))
 
--- open: a result, or 1, 2 or 3
+-- open: a result, or 1, 17, 18, 2 or 3
 pub open-numbers : (file : List ℕ) (room : ℕ) → among (numberOf (answer (opened file) room)) (0 ∷ openNumbers) ≡ true
 unfolding any
 open-numbers file = written-numbers (open-refuses file) refl

@@ -22,7 +22,7 @@ ghost use Rattle.refusals.specs.Answers.{answer, written};
 ghost use Rattle.block.specs.File.{opened, sealed};
 
 // Opens a sealed file: writes its bundle to the front of the output and returns the bundle's length.
-// Refuses with 1, 2 or 3, and then leaves the output as it was.
+// Refuses with 1; then, for the lowest faulty block, with 17, 18 or 2; then with 3. A refusal leaves the output as it was.
 pub fn open(file: &[u8], output: &mut [u8]) -> Written
     ensures { λ r. ⌜ r ≡ answer (opened (now (file .entry))) (length (now (output .entry))) ⌝ }
     ensures { λ _. ⌜ now (output .exit) ≡ written (opened (now (file .entry))) (now (output .entry)) ⌝ }

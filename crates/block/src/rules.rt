@@ -1,14 +1,16 @@
 // What a block and a file must keep to be taken. (Inner functions.)
 use crate::sums::sums_of;
 use limits::MAX_FILE_SIZE;
-use refusals::BLOCK;
+use refusals::BLOCK_NUMBER;
+use refusals::BLOCK_SUMS;
+use refusals::BLOCK_USE;
 use refusals::Refusal;
 use slices::number_at;
 ghost use mathlib.Core.Path.{_≡_};
 ghost use Prim.Native.Nat.{_*_};
 ghost use lib.ListN.{length};
 ghost use Rattle.laws.specs.Lists.{all};
-ghost use Rattle.block.specs.Block.{isZero, rightCount, rightSums, fault};
+ghost use Rattle.block.specs.Block.{isZero, rightCount, rightUse, rightSums, fault};
 ghost use Rattle.block.specs.File.{blockCount, firstFault, rightLength};
 
 fn all_zero(bytes: &[u8]) -> bool
@@ -37,6 +39,18 @@ fn count_fits(used: usize, last: bool) -> bool
     used == 504
 }
 
+// Whether a block uses as many bytes as it may, and those that it does not use are zero.
+fn use_fits(block: &[u8], last: bool) -> bool
+    requires { ⌜ length (now block) ≡ 512 ⌝ }
+    ensures { λ r. ⌜ r ≡ rightUse last (now (block .entry)) ⌝ }
+{
+    let used = number_at(block, 2);
+    if !count_fits(used, last) {
+        return false;
+    }
+    all_zero(&block[4 + used..508])
+}
+
 fn sums_match(block: &[u8]) -> bool
     requires { ⌜ length (now block) ≡ 512 ⌝ }
     ensures { λ r. ⌜ r ≡ rightSums (now (block .entry)) ⌝ }
@@ -48,23 +62,19 @@ fn sums_match(block: &[u8]) -> bool
     number_at(block, 510) == sums.position
 }
 
-// The refusal's number for the first rule that a block breaks, 0 where it keeps them all.
+// The refusal's number for the first rule that a block breaks, 0 where it keeps them all: 17, 18, 2.
 fn fault_of(block: &[u8], number: usize, last: bool) -> u8
     requires { ⌜ length (now block) ≡ 512 ⌝ }
     ensures { λ r. ⌜ r ≡ fault last number (now (block .entry)) ⌝ }
 {
     if number_at(block, 0) != number {
-        return BLOCK;
+        return BLOCK_NUMBER;
     }
-    let used = number_at(block, 2);
-    if !count_fits(used, last) {
-        return BLOCK;
-    }
-    if !all_zero(&block[4 + used..508]) {
-        return BLOCK;
+    if !use_fits(block, last) {
+        return BLOCK_USE;
     }
     if !sums_match(block) {
-        return BLOCK;
+        return BLOCK_SUMS;
     }
     0
 }

@@ -15,7 +15,7 @@ use Rattle.refusals.specs.Results.{Result, value, refused, bind, require}
 use Rattle.refusals.specs.Answers.{refusal, fitted}
 use Rattle.nets.specs.Nets.{Word}
 use Rattle.nets.specs.Events.{firstBad}
-use Rattle.block.specs.Block.{plainSum, positionSum, padded, summedBytes, withSums, block, usedCount, usedContents, rightNumber, rightCount, rightPadding, rightSums, fault}
+use Rattle.block.specs.Block.{plainSum, positionSum, padded, summedBytes, withSums, block, usedCount, usedContents, rightNumber, rightCount, rightPadding, rightUse, rightSums, fault}
 use Rattle.block.specs.File.{blockCount, blockAt, faultAt, firstFaulty, firstFault, contentsAt, bundleOf, rightLength, opened, partAt, sealedBlockAt, blocksFor, sealedFile, sealed}
 use Rattle.logs.specs.Rows.{rowAt, numbers, rowsOf, flat, findRow, visit, updateAt, follow, addEvent, takeWord}
 use Rattle.logs.specs.Answers.{TABLE, rightEventCount, rightSummary, takenOf, logStarted, freshAnswer, wordTaken, takenAnswer, takenTable}
@@ -25,6 +25,7 @@ use Rattle.logs.specs.declared.Taken.the-variants as taking
 use Rattle.verdicts.specs.Judging.{judged, verdictOf, verdict}
 use Rattle.verdicts.specs.declared.Verdict.the-variants as judging
 use Rattle.judging.specs.Files.{fileJudged, fileVerdict}
+use Rattle.demands.specs.BlockOrder.{withoutBlock, withBlockTwice}
 use Rattle.demands.specs.Samples.{bytesA, countsA, computed}
 
 -- 0 and the bytes, or the refusal's number and spot
@@ -60,19 +61,36 @@ rows001 =
     ∷ 2 ∷ 1 ∷ 0 ∷ 0 ∷ 0 ∷ 0 ∷ 0 ∷ 0 ∷ 0 ∷ 0 ∷ 0 ∷ 0 ∷ 0
     ∷ 0 ∷ []
 
+-- a sealed file of two blocks
+fileTwo : List ℕ
+fileTwo = sealedFile (replicate 505 1)
+
 tableAfter : Summary → List ℕ → Word → List ℕ
 tableAfter s t w = takenTable (takenAnswer s t w) s t w
 
 pub callSamples : List (List ℕ × List ℕ)
 callSamples =
-    -- seal and open: A; 4; 1; 2
+    -- seal and open: A; 4; 1
     (ofResult (sealed bytesA), 0 ∷ fileA)
     ∷ (ofResult (opened fileA), 0 ∷ bytesA)
     ∷ (ofResult (sealed []), 4 ∷ 0 ∷ [])
     ∷ (ofResult (opened []), 1 ∷ 0 ∷ [])
     ∷ (ofResult (opened (take 511 fileA)), 1 ∷ 0 ∷ [])
-    ∷ (ofResult (opened (fileA ++ fileA)), 2 ∷ 0 ∷ [])
-    ∷ (ofResult (opened (1 ∷ drop 1 fileA)), 2 ∷ 0 ∷ [])
+    -- each fault of a block alone: its number; no byte used, a last block in the middle; its sums
+    ∷ (ofResult (opened (block 1 bytesA)), 17 ∷ 0 ∷ [])
+    ∷ (ofResult (opened (replicate 512 0)), 18 ∷ 0 ∷ [])
+    ∷ (ofResult (opened (fileA ++ fileA)), 18 ∷ 0 ∷ [])
+    ∷ (ofResult (opened (take 4 fileA ++ (3 ∷ drop 5 fileA))), 2 ∷ 0 ∷ [])
+    -- within a block 17, 18, 2: all three; 18 and 2, by the used count, and by a byte behind the used ones
+    ∷ (ofResult (opened (replicate 512 1)), 17 ∷ 0 ∷ [])
+    ∷ (ofResult (opened (0 ∷ 0 ∷ 0 ∷ drop 3 fileA)), 18 ∷ 0 ∷ [])
+    ∷ (ofResult (opened (take 507 fileA ++ (1 ∷ drop 508 fileA))), 18 ∷ 0 ∷ [])
+    -- the lowest faulty block is named: 18 in block 0, all three faults in block 1
+    ∷ (ofResult (opened (fileA ++ replicate 512 1)), 18 ∷ 0 ∷ [])
+    -- two blocks that change places, the first one lost, the first one twice
+    ∷ (ofResult (opened (drop 512 fileTwo ++ take 512 fileTwo)), 17 ∷ 0 ∷ [])
+    ∷ (ofResult (opened (withoutBlock 0 fileTwo)), 17 ∷ 0 ∷ [])
+    ∷ (ofResult (opened (withBlockTwice 0 fileTwo)), 17 ∷ 1 ∷ [])
     -- fresh: a summary; 5; 16
     ∷ (ofTaken (freshAnswer 2 sevens), 0 ∷ 2 ∷ 1 ∷ 0 ∷ [])
     ∷ (ofTaken (freshAnswer 13 (drop 1 sevens)), 5 ∷ 3328 ∷ [])
@@ -88,12 +106,12 @@ callSamples =
     ∷ []
 
 pub call-samples-hold : all (λ c. equal (c .0) (c .1)) callSamples ≡ true
-unfolding callSamples ofResult ofTaken bytesA fileA sevens zeros rows001 tableAfter all any equal numberAt joined firstFalse firstFailing weighted withBit rightSize bind require firstBad plainSum positionSum padded summedBytes withSums block usedCount usedContents rightNumber rightCount rightPadding rightSums fault blockCount blockAt faultAt firstFaulty firstFault contentsAt bundleOf rightLength opened partAt sealedBlockAt blocksFor sealedFile sealed rowAt numbers rowsOf flat findRow visit updateAt follow addEvent takeWord rightEventCount rightSummary takenOf logStarted freshAnswer wordTaken takenAnswer takenTable
+unfolding callSamples ofResult ofTaken bytesA fileA fileTwo sevens zeros rows001 tableAfter all any equal numberAt joined firstFalse firstFailing weighted withBit rightSize bind require firstBad plainSum positionSum padded summedBytes withSums block usedCount usedContents rightNumber rightCount rightPadding rightUse rightSums fault blockCount blockAt faultAt firstFaulty firstFault contentsAt bundleOf rightLength opened partAt sealedBlockAt blocksFor sealedFile sealed rowAt numbers rowsOf flat findRow visit updateAt follow addEvent takeWord rightEventCount rightSummary takenOf logStarted freshAnswer wordTaken takenAnswer takenTable
 call-samples-hold = refl
 
 -- judging a file: A, sealed, into an output as long as the bundle, and into one that is a byte shorter
 fitsA : fitted (opened fileA) 53 ≡ value bytesA
-unfolding fitted bytesA fileA all equal numberAt joined firstFalse weighted bind require plainSum positionSum usedCount usedContents rightNumber rightCount rightPadding rightSums fault blockCount blockAt faultAt firstFaulty firstFault contentsAt bundleOf rightLength opened
+unfolding fitted bytesA fileA all equal numberAt joined firstFalse weighted bind require plainSum positionSum usedCount usedContents rightNumber rightCount rightPadding rightUse rightSums fault blockCount blockAt faultAt firstFaulty firstFault contentsAt bundleOf rightLength opened
 fitsA = refl
 
 pub judge-file-sample : fileVerdict fileA 53 TABLE ≡ judging.Accepted countsA
@@ -101,7 +119,7 @@ unfolding fileVerdict fileJudged bind verdict
 judge-file-sample = ap (λ (m : Result (List ℕ)). verdictOf (bind m (λ b. judged TABLE b 0))) fitsA ∙ computed .acceptedA
 
 shortA : fitted (opened fileA) 52 ≡ refused 3 53
-unfolding fitted bytesA fileA all equal numberAt joined firstFalse weighted bind require plainSum positionSum usedCount usedContents rightNumber rightCount rightPadding rightSums fault blockCount blockAt faultAt firstFaulty firstFault contentsAt bundleOf rightLength opened
+unfolding fitted bytesA fileA all equal numberAt joined firstFalse weighted bind require plainSum positionSum usedCount usedContents rightNumber rightCount rightPadding rightUse rightSums fault blockCount blockAt faultAt firstFaulty firstFault contentsAt bundleOf rightLength opened
 shortA = refl
 
 pub judge-file-short-sample : fileVerdict fileA 52 TABLE ≡ judging.Refused (refusal 3 53)

@@ -1,6 +1,7 @@
 -- The user's three demands, as types: the summary. Proved.antt proves each of them; docs/ASSURANCE.md says how to read them.
 -- A page for each group of calls says exactly when which refusal meets a call, and at which spot, in the words of the requirements: Opening.antt
--- (open, seal), Tables.antt (fresh, take, and what stands in a table), Judging.antt and Screening.antt. Here they are gathered by name.
+-- (open, seal), Tables.antt (fresh, take, and what stands in a table), Judging.antt and Screening.antt. Here they are gathered by name. A page for
+-- each change request says what it promised beyond that: BlockOrder.antt (request 1). The demands are stated with the requests' changes in them.
 -- A file, a bundle, an output, a table and a word are lists of numbers; `Bytes` says that each number is below 256.
 use mathlib.Core.Path.{_≡_}
 use mathlib.Core.Bool.{true, false, not}
@@ -66,14 +67,14 @@ pub record Demand1 : Type 0 where
   -- the number of a refusal is one of the call's line, 0 is that of a result, 256 that of a stop
   pub refusal-numbers : (r : Refusal) → (numberOf (writing.Refused r) ≡ r .number) × (takenNumber (taking.Refused r) ≡ r .number)
       × (verdictNumber (judging.Refused r) ≡ r .number) × (screenedNumber (screening.Refused r) ≡ r .number)
-  pub refusals-of-open : (file : List ℕ) (room : ℕ) → among (numberOf (answer (opened file) room)) (0 ∷ 1 ∷ 2 ∷ 3 ∷ []) ≡ true
+  pub refusals-of-open : (file : List ℕ) (room : ℕ) → among (numberOf (answer (opened file) room)) (0 ∷ 1 ∷ 17 ∷ 18 ∷ 2 ∷ 3 ∷ []) ≡ true
   pub refusals-of-seal : (b : List ℕ) (room : ℕ) → among (numberOf (answer (sealed b) room)) (0 ∷ 4 ∷ 3 ∷ []) ≡ true
   pub refusals-of-fresh : (n : ℕ) (table : List ℕ) → among (takenNumber (freshAnswer n table)) (0 ∷ 5 ∷ 16 ∷ []) ≡ true
   pub refusals-of-take : (s : Summary) (table : List ℕ) (w : Word) → among (takenNumber (takenAnswer s table w)) (0 ∷ 5 ∷ 16 ∷ 8 ∷ 7 ∷ 9 ∷ []) ≡ true
   pub refusals-of-judge : (tableSize : ℕ) (b : List ℕ)
       → among (verdictNumber (verdict tableSize b)) (0 ∷ 4 ∷ 5 ∷ 6 ∷ 7 ∷ 8 ∷ 9 ∷ 10 ∷ 11 ∷ 12 ∷ 13 ∷ []) ≡ true
   pub refusals-of-judge-file : (file : List ℕ) (room tableSize : ℕ)
-      → among (verdictNumber (fileVerdict file room tableSize)) (0 ∷ 1 ∷ 2 ∷ 3 ∷ 4 ∷ 5 ∷ 6 ∷ 7 ∷ 8 ∷ 9 ∷ 10 ∷ 11 ∷ 12 ∷ 13 ∷ []) ≡ true
+      → among (verdictNumber (fileVerdict file room tableSize)) (0 ∷ 1 ∷ 17 ∷ 18 ∷ 2 ∷ 3 ∷ 4 ∷ 5 ∷ 6 ∷ 7 ∷ 8 ∷ 9 ∷ 10 ∷ 11 ∷ 12 ∷ 13 ∷ []) ≡ true
   pub refusals-of-screen : (b : List ℕ) (w : Word) → among (screenedNumber (screened b w)) (0 ∷ 256 ∷ 14 ∷ 4 ∷ 6 ∷ 7 ∷ 8 ∷ 15 ∷ []) ≡ true
   -- no refusal of opening or sealing writes to an output; a result stands in front of it, and the rest is left
   pub refused-output : (result : Result (List ℕ)) (output : List ℕ) (r : Refusal) → answer result (length output) ≡ writing.Refused r

@@ -1,9 +1,11 @@
 pub mod Opening
+pub mod BlockOrder
 pub mod Tables
 pub mod Judging
 pub mod Screening
 pub mod Demands
 pub mod OpeningProved
+pub mod BlockOrderProved
 pub mod TablesProved
 pub mod JudgingProved
 pub mod ScreeningProved

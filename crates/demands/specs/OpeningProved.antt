@@ -10,24 +10,26 @@ use lib.Dec.{eqb, leb}
 use lib.ListN.{length, take, drop, getD, length-take, length-drop}
 use lib.Seq.{getD-take, getD-drop, length-take-le}
 use borrow.Author.Tests.{leb-true, le-leb, eqb-true, eq-eqb, ne-eqb}
-use Rattle.laws.specs.Booleans.{and-left, and-right}
+use Rattle.laws.specs.Booleans.{and-left, and-right, fails-exactly}
 use Rattle.laws.specs.Lists.{all, any}
 use Rattle.laws.specs.Numbers.{Bytes, numberAt}
 use Rattle.laws.specs.Pieces.{joined, joined-same}
 use Rattle.limits.specs.Limits.{rightSize-bounds, rightSize-intro, rightSize-wrong}
 use Rattle.laws.specs.Scans.{all-exactly}
 use Rattle.laws.specs.Sums.{sum, sum-same, weighted, weighted-sum}
-use Rattle.refusals.specs.Table.{BLOCK}
+use Rattle.refusals.specs.Table.{BLOCK-SUMS, BLOCK-NUMBER, BLOCK-USE}
 use Rattle.refusals.specs.Results.{value}
+use Rattle.refusals.specs.Answers.{refusal, answer}
+use Rattle.refusals.specs.declared.Written.the-variants as writing
 use Rattle.refusals.specs.Exactly.{answer-refused-exactly, answer-short-exactly, answer-length-exactly}
-use Rattle.block.specs.Block.{isZero, usedCount, rightCount, rightPadding, rightSums, plainSum, positionSum, fault}
+use Rattle.block.specs.Block.{isZero, usedCount, rightCount, rightPadding, rightUse, rightSums, plainSum, positionSum}
 use Rattle.block.specs.File.{blockCount, blockAt, faultAt, contentsAt, bundleOf, rightLength, opened, Sound, sealedFile, sealed}
-use Rattle.block.specs.BlockLaws.{Rules, rules, fault-none, rightCount-most}
+use Rattle.block.specs.BlockLaws.{rightCount-most}
 use Rattle.block.specs.OpenLaws.{contents-part, rightLength-whole}
 use Rattle.block.specs.SealLaws.{blocksFor-is, length-sealedFile}
 use Rattle.block.specs.RoundTrip.{opened-sealed, sealed-opened, sealed-small}
-use Rattle.block.specs.Causes.{fault-number, rightLength-wrong, LowestFault, opened-length-exactly, opened-refuses, opened-fault-exactly, opened-gives, sealed-length-exactly, sealed-refuses, sealed-gives}
-use Rattle.demands.specs.Opening.{WholeBlocks, byteOf, fieldOf, BlockKept, contentsOf, LowestBroken, OpenExactly, sealedSize, SealExactly}
+use Rattle.block.specs.Causes.{faultAt-none, faultAt-number, faultAt-use, faultAt-sums, rightLength-wrong, LowestFault, opened-length-exactly, opened-refuses, opened-fault-exactly, opened-gives, sealed-length-exactly, sealed-refuses, sealed-gives}
+use Rattle.demands.specs.Opening.{WholeBlocks, byteOf, fieldOf, UseKept, SumsKept, BlockKept, contentsOf, LowestFaulty, WrongNumber, WrongUse, WrongSums, OpenExactly, sealedSize, SealExactly}
 
 -- ---- The bytes of a block
 
@@ -36,9 +38,9 @@ module _ (file : List ℕ) (k : ℕ) where
   unfolding blockAt
   block-byte i h = getD-take 512 (drop (512 * k) file) i 0 h ∙ getD-drop (512 * k) file i 0
 
-  block-number : (i : ℕ) → i + 1 < 512 → numberAt (blockAt file k) i ≡ fieldOf file k i
+  block-field : (i : ℕ) → i + 1 < 512 → numberAt (blockAt file k) i ≡ fieldOf file k i
   unfolding numberAt
-  block-number i h = ap₂ (λ (x y : ℕ). x + 256 * y) (block-byte i (omega arith)) (block-byte (i + 1) h)
+  block-field i h = ap₂ (λ (x y : ℕ). x + 256 * y) (block-byte i (omega arith)) (block-byte (i + 1) h)
 
   -- the two sums, of any weights
   block-sum : (w : ℕ → ℕ) → 508 ≤ length (blockAt file k) → weighted w (take 508 (blockAt file k)) ≡ sum 508 (λ i. w i * byteOf file k i)
@@ -66,7 +68,7 @@ module _ (file : List ℕ) (blocks : ℕ) (whole : WholeBlocks file blocks) wher
 
     used-is : usedCount b ≡ used
     unfolding usedCount
-    used-is = block-number file k 2 (omega arith)
+    used-is = block-field file k 2 (omega arith)
 
     sum-S : plainSum (take 508 b) ≡ sum 508 (λ i. byteOf file k i) % 65521
     unfolding plainSum
@@ -131,60 +133,87 @@ module _ (file : List ℕ) (blocks : ℕ) (whole : WholeBlocks file blocks) wher
             ap (byteOf file k) (sym there) ∙ sym (at (i - used) (omega arith))
             ∙ eqb-true _ 0 (all-exactly isZero 0 part .0 e (i - used) (omega (arith, long)))
 
-    -- a block keeps the rules exactly when it has no fault
-    rules-kept : Rules (eqb (k + 1) blocks) k b → BlockKept file blocks k
-    unfolding Counted Unused
-    rules-kept r =
-        let c = counted-exactly .0 (subst (λ (u : ℕ). rightCount (eqb (k + 1) blocks) u ≡ true) used-is (r .counted)) in
-        let most : used ≤ 504 = subst (λ (u : ℕ). u ≤ 504) used-is (rightCount-most _ _ (r .counted)) in
-        record {
-          number = sym (block-number file k 0 (omega arith)) ∙ r .numbered;
-          full = c .0;
-          last = c .1;
-          unused = unused-exactly most .0 (subst (λ (u : ℕ). all isZero (take (504 - u) (drop (4 + u) b)) ≡ true) used-is (r .padding));
-          plain = sym (block-number file k 508 (omega arith)) ∙ r .plain ∙ sum-S;
-          weighted = sym (block-number file k 510 (omega arith)) ∙ r .position ∙ sum-W;
-        }
+    -- the used count and the unused contents
+    use-exactly : (rightUse (eqb (k + 1) blocks) b ≡ true) ↔ UseKept file blocks k
+    unfolding Counted Unused rightUse rightPadding
+    use-exactly = (
+      (λ e.
+          let counted = and-left (rightCount (eqb (k + 1) blocks) (usedCount b)) _ e in
+          let c = counted-exactly .0 (subst (λ (u : ℕ). rightCount (eqb (k + 1) blocks) u ≡ true) used-is counted) in
+          let most : used ≤ 504 = subst (λ (u : ℕ). u ≤ 504) used-is (rightCount-most _ _ counted) in
+          record {
+            full = c .0;
+            last = c .1;
+            unused = unused-exactly most .0 (subst (λ (u : ℕ). all isZero (take (504 - u) (drop (4 + u) b)) ≡ true) used-is
+                (and-right (rightCount (eqb (k + 1) blocks) (usedCount b)) _ e));
+          }),
+      (λ r.
+          let c : rightCount (eqb (k + 1) blocks) used ≡ true = counted-exactly .1 (r .full, r .last) in
+          rw (used-is, c) (unused-exactly (rightCount-most _ _ c) .1 (r .unused))),
+    )
 
-    kept-none : BlockKept file blocks k → fault (eqb (k + 1) blocks) k b ≡ 0
-    unfolding Counted Unused rightPadding rightSums
-    kept-none r =
-        let c : rightCount (eqb (k + 1) blocks) (usedCount b) ≡ true = rw used-is (counted-exactly .1 (r .full, r .last)) in
-        let most : used ≤ 504 = subst (λ (u : ℕ). u ≤ 504) used-is (rightCount-most _ _ c) in
-        fault-none (eqb (k + 1) blocks) k b
-        (block-number file k 0 (omega arith) ∙ r .number)
-        c
-        (rw used-is (unused-exactly most .1 (r .unused)))
-        (rw (
-          eq-eqb _ _ (block-number file k 508 (omega arith) ∙ r .plain ∙ sym sum-S),
-          eq-eqb _ _
-              (block-number file k 510 (omega arith) ∙ r .weighted ∙ sym sum-W),
+    -- the sums
+    sums-exactly : (rightSums b ≡ true) ↔ SumsKept file k
+    unfolding rightSums
+    sums-exactly = (
+      (λ e. record {
+        plain = sym (block-field file k 508 (omega arith)) ∙ eqb-true _ _ (and-left _ _ e) ∙ sum-S;
+        weighted = sym (block-field file k 510 (omega arith)) ∙ eqb-true _ _ (and-right (eqb (numberAt b 508) (plainSum (take 508 b))) _ e) ∙ sum-W;
+      }),
+      (λ r. rw (
+        eq-eqb _ _ (block-field file k 508 (omega arith) ∙ r .plain ∙ sym sum-S),
+        eq-eqb _ _ (block-field file k 510 (omega arith) ∙ r .weighted ∙ sym sum-W),
+      )),
+    )
+
+    -- the number
+    numbered-exactly : (numberAt b 0 ≡ k) ↔ (fieldOf file k 0 ≡ k)
+    numbered-exactly = let same = block-field file k 0 (omega arith) in ((λ e. sym same ∙ e), (λ e. same ∙ e))
+
+    -- a block keeps the rules exactly when it has no fault
+    kept-exactly : (faultAt file k ≡ 0) ↔ BlockKept file blocks k
+    kept-exactly = Iff·trans (faultAt-none file k) (rw count (
+      (λ (n, c, s). record { number = numbered-exactly .0 n; contents = use-exactly .0 c; sums = sums-exactly .0 s }),
+      (λ r. (numbered-exactly .1 (r .number), use-exactly .1 (r .contents), sums-exactly .1 (r .sums))),
+    ))
+
+    -- and a fault's number says which rule is the first that it breaks
+    number-exactly : (faultAt file k ≡ BLOCK-NUMBER) ↔ WrongNumber file k
+    number-exactly = Iff·trans (faultAt-number file k) ((λ other e. other (numbered-exactly .1 e)), (λ other e. other (numbered-exactly .0 e)))
+
+    wrong-use-exactly : (faultAt file k ≡ BLOCK-USE) ↔ WrongUse file blocks k
+    wrong-use-exactly = Iff·trans (faultAt-use file k) (rw count (
+        let fails = fails-exactly _ use-exactly in
+        ((λ (n, e). (numbered-exactly .0 n, fails .0 e)), (λ (n, other). (numbered-exactly .1 n, fails .1 other)))
         ))
 
-    kept-exactly : (faultAt file k ≡ 0) ↔ BlockKept file blocks k
-    unfolding faultAt
-    kept-exactly = rw count ((λ e. rules-kept (rules _ _ _ e)), kept-none)
+    wrong-sums-exactly : (faultAt file k ≡ BLOCK-SUMS) ↔ WrongSums file blocks k
+    wrong-sums-exactly = Iff·trans (faultAt-sums file k) (rw count (
+        let fails = fails-exactly _ sums-exactly in (
+          (λ (n, c, e). (numbered-exactly .0 n, use-exactly .0 c, fails .0 e)),
+          (λ (n, c, other). (numbered-exactly .1 n, use-exactly .1 c, fails .1 other)),
+        )
+        ))
 
-  -- the lowest block with a fault
-  broken-exactly : (number : ℕ) → ((k : ℕ) → k < blocks → (faultAt file k ≡ number) ↔ (faultAt file k ≡ 0 → ⊥)) → (k : ℕ) → LowestFault file number k
-      ↔ LowestBroken file blocks k
-  broken-exactly number faulty k = rw count (
+  -- the lowest block with a fault of a number
+  lowest-exactly : (number : ℕ) (Fault : ℕ → Type 0) → ((k : ℕ) → k < blocks → (faultAt file k ≡ number) ↔ Fault k) → (k : ℕ)
+      → LowestFault file number k ↔ LowestFaulty file blocks k (Fault k)
+  lowest-exactly number Fault faulty k = rw count (
     (λ (within, here, lower). record {
       within = within;
-      broken = λ kept. faulty k within .0 here (kept-exactly k within .1 kept);
+      here = faulty k within .0 here;
       lower = λ j less. kept-exactly j (omega arith) .0 (lower j less);
     }),
     (λ l. (
       l .within,
-      faulty k (l .within) .1 (λ none. l .broken (kept-exactly k (l .within) .0 none)),
-      λ j less. kept-exactly j
-          (omega (arith, l .within)) .1 (l .lower j less),
+      faulty k (l .within) .1 (l .here),
+      λ j less. kept-exactly j (omega (arith, l .within)) .1 (l .lower j less),
     )),
   )
 
 -- ---- Open
 
-whole-exactly : (file : List ℕ) → (rightLength (length file) ≡ true) ↔ ((blocks : ℕ) × WholeBlocks file blocks)
+pub whole-exactly : (file : List ℕ) → (rightLength (length file) ≡ true) ↔ ((blocks : ℕ) × WholeBlocks file blocks)
 unfolding rightLength
 whole-exactly file = (
   (λ e. let w = rightLength-whole (length file) e in (
@@ -237,16 +266,30 @@ bundle-exactly file b = Iff·trans (opened-gives file .line b) (to, from)
         let none : (k : ℕ) → k < blocks → faultAt file k ≡ 0 = λ k h. kept-exactly file blocks w k h .1 (kept k h) in
         (whole-exactly file .1 (blocks, w), rw (count file blocks w) none, is ∙ sym (bundle-is file blocks w none))
 
+-- a line of a fault's number, whatever the fault
+fault-line : (file : List ℕ) (room number : ℕ) (Fault : ℕ → ℕ → Type 0) → (number ≡ 0 → ⊥) → (1 ≡ number → ⊥) → (number ≡ 3 → ⊥)
+    → ((blocks : ℕ) → WholeBlocks file blocks → (k : ℕ) → k < blocks → (faultAt file k ≡ number) ↔ Fault blocks k)
+    → (spot : ℕ) → (answer (opened file) room ≡ writing.Refused (refusal number spot))
+    ↔ ((blocks : ℕ) × WholeBlocks file blocks × LowestFaulty file blocks spot (Fault blocks spot))
+fault-line file room number Fault some other short faulty spot =
+    Iff·trans (answer-refused-exactly (opened file) room (opened-fault-exactly file number some other) short spot) (
+      (λ (e, l).
+          let (blocks, w) = whole-exactly file .0 e in
+          (blocks, w, lowest-exactly file blocks w number (Fault blocks) (faulty blocks w) spot .0 l)),
+      (λ (blocks, w, l). (whole-exactly file .1 (blocks, w), lowest-exactly file blocks w number (Fault blocks) (faulty blocks w) spot .1 l)),
+    )
+
 pub open-exactly : (file : List ℕ) (room : ℕ) → OpenExactly file room
 unfolding any
 open-exactly file room = record {
   file-length = λ spot. Iff·trans (answer-refused-exactly (opened file) room (opened-length-exactly file) (λ e. omega (arith, e)) spot)
       ((λ (at, e). (at, rightLength-wrong (length file) .0 e)), (λ (at, c). (at, rightLength-wrong (length file) .1 c)));
-  block = λ spot. Iff·trans (answer-refused-exactly (opened file) room
-      (opened-fault-exactly file BLOCK (λ e. omega (arith, e)) (λ e. omega (arith, e))) (λ e. omega (arith, e)) spot) (
-        (λ (e, l). let w = whole-exactly file .0 e in (w .0, w .1, broken-exactly file (w .0) (w .1) BLOCK (λ k h. fault-number file k) spot .0 l)),
-        (λ (blocks, w, l). (whole-exactly file .1 (blocks, w), broken-exactly file blocks w BLOCK (λ k h. fault-number file k) spot .1 l)),
-      );
+  block-number = fault-line file room 17 (λ blocks k. WrongNumber file k) (λ e. omega (arith, e)) (λ e. omega (arith, e)) (λ e. omega (arith, e))
+      (number-exactly file);
+  block-use = fault-line file room 18 (λ blocks k. WrongUse file blocks k) (λ e. omega (arith, e)) (λ e. omega (arith, e))
+      (λ e. omega (arith, e)) (wrong-use-exactly file);
+  block-sums = fault-line file room 2 (λ blocks k. WrongSums file blocks k) (λ e. omega (arith, e)) (λ e. omega (arith, e)) (λ e. omega (arith, e))
+      (wrong-sums-exactly file);
   output-short = answer-short-exactly (opened file) room (opened-refuses file) refl;
   result = answer-length-exactly (opened file) room;
   bundle = bundle-exactly file;

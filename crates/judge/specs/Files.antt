@@ -7,7 +7,7 @@ use Rattle.logs.specs.Answers.{TABLE}
 use Rattle.verdicts.specs.Judging.{judged, verdictOf}
 use Rattle.verdicts.specs.declared.Verdict.{Verdict}
 
--- 1, 2, then the judge's refusals
+-- 1, then 17, 18 or 2, then the judge's refusals
 unfoldable pub inputVerdict : List ℕ → Verdict
 inputVerdict input = verdictOf (do
   b ← opened input

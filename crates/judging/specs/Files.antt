@@ -19,7 +19,7 @@ use Rattle.verdicts.specs.RefusalNumbers.{judgeNumbers, judged-refuses, verdict
 use Rattle.verdicts.specs.declared.Verdict.{Verdict}
 use Rattle.verdicts.specs.declared.Verdict.the-variants as verdicts
 
--- a file opened into an output of so much room, its bundle judged with a table of so many numbers: 1, 2, 3, then the judge's refusals
+-- a file opened into an output of so much room, its bundle judged with a table of so many numbers: 1, then 17, 18 or 2, then 3, then the judge's refusals
 unfoldable pub fileJudged : List ℕ → ℕ → ℕ → Read Contents
 fileJudged file room tableSize = do
   b ← fitted (opened file) room
@@ -51,7 +51,7 @@ module _ (file output table : List ℕ) where
 abbrev fileNumbers : List ℕ
 fileNumbers = openNumbers ++ judgeNumbers
 
--- judge_file: a verdict of acceptance, or 1, 2, 3, then 4, 5, .., 13
+-- judge_file: a verdict of acceptance, or 1, then 17, 18 or 2, then 3, then 4, 5, .., 13
 pub judge-file-numbers : (file : List ℕ) (room tableSize : ℕ) → among (verdictNumber (fileVerdict file room tableSize)) (0 ∷ fileNumbers) ≡ true
 unfolding fileVerdict fileJudged all any
 judge-file-numbers file room tableSize =

@@ -1,5 +1,5 @@
 -- Booleans: tests passed or failed, taken apart and put together.
-use mathlib.Core.Path.{_≡_, refl}
+use mathlib.Core.Path.{_≡_, refl, sym}
 use mathlib.Core.Bool.{Bool, true, false, false≢true, not, _&&_, _||_}
 use mathlib.Core.Logic.{_↔_, _⊎_, inl, inr, ⊎-elim}
 use Prim.Native.Nat.{ℕ, _≤_, _<_}
@@ -45,6 +45,11 @@ yes-true false t = absurd t
 pub no-false : (b : Bool) → T (not b) → b ≡ false
 no-false true t = absurd t
 no-false false t = refl
+
+-- a test that passes exactly when A holds fails exactly when it does not
+pub fails-exactly : {A : Type 0} (b : Bool) → (b ≡ true) ↔ A → (b ≡ false) ↔ (A → ⊥)
+fails-exactly true e = ((λ p. absurd (false≢true (sym p))), (λ no. absurd (no (e .0 refl))))
+fails-exactly false e = ((λ p a. false≢true (e .1 a)), (λ no. refl))
 
 -- two tests that pass together are equal
 pub same-test : (a b : Bool) → (T a → T b) → (T b → T a) → a ≡ b

@@ -4,8 +4,8 @@ use Prim.Native.Nat.{ℕ}
 abbrev pub FILE-LENGTH : ℕ
 FILE-LENGTH = 1
 
-abbrev pub BLOCK : ℕ
-BLOCK = 2
+abbrev pub BLOCK-SUMS : ℕ
+BLOCK-SUMS = 2
 
 abbrev pub OUTPUT-SHORT : ℕ
 OUTPUT-SHORT = 3
@@ -48,3 +48,9 @@ WORD-EVENT = 15
 
 abbrev pub STATE-RANGE : ℕ
 STATE-RANGE = 16
+
+abbrev pub BLOCK-NUMBER : ℕ
+BLOCK-NUMBER = 17
+
+abbrev pub BLOCK-USE : ℕ
+BLOCK-USE = 18

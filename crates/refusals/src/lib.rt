@@ -24,8 +24,8 @@ pub fn refused(number: u8, spot: usize) -> Written
 
 // A file's length is 0, no multiple of 512, or above 65,536.
 pub const FILE_LENGTH: u8 = 1;
-// A block breaks a rule.
-pub const BLOCK: u8 = 2;
+// A block's sums are wrong.
+pub const BLOCK_SUMS: u8 = 2;
 // The output is shorter than the result.
 pub const OUTPUT_SHORT: u8 = 3;
 // A bundle's length is 0 or above 64,512.
@@ -54,3 +54,7 @@ pub const WORD_LENGTH: u8 = 14;
 pub const WORD_EVENT: u8 = 15;
 // A state that is handed back to a call is outside its ranges; today this is a summary.
 pub const STATE_RANGE: u8 = 16;
+// A block's number is not its position.
+pub const BLOCK_NUMBER: u8 = 17;
+// A block's used count is wrong, or an unused byte of its contents is not zero.
+pub const BLOCK_USE: u8 = 18;

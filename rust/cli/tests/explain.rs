@@ -288,6 +288,33 @@ fn long_logs() {
     run.finish(&[(8, 5), (9, 10)]);
 }
 
+/// What is said of the lowest block with a fault.
+fn words_of(fault: BlockFault) -> &'static str {
+    match fault {
+        BlockFault::Number
+        | BlockFault::SwappedBlocks
+        | BlockFault::LostBlock
+        | BlockFault::DoubledBlock
+        | BlockFault::Shuffled => "its number is ",
+        BlockFault::UsedBeforeLast | BlockFault::UsedInLast => "its used count is ",
+        BlockFault::UnusedByte | BlockFault::UnusedByteOldSums => "its padding has ",
+        BlockFault::PlainSum | BlockFault::PlainSumNotReduced => "S is ",
+        BlockFault::WeightedSum | BlockFault::WeightedSumNotReduced => "W is ",
+        _ => "block ",
+    }
+}
+
+/// What is said of the order of the blocks, where a fault says it.
+fn order_words_of(fault: BlockFault, spot: usize) -> String {
+    match fault {
+        BlockFault::SwappedBlocks | BlockFault::DoubledBlock | BlockFault::Shuffled => {
+            "the blocks stand in the order ".into()
+        }
+        BlockFault::LostBlock => format!("block {spot} is missing"),
+        _ => String::new(),
+    }
+}
+
 /// Files of a wrong length, and files with wrong blocks: each of them is listed.
 #[test]
 fn faulty_files() {
@@ -306,27 +333,25 @@ fn faulty_files() {
     }
     for fault in BlockFault::ALL {
         for _ in 0..run.cases(60) {
-            let (file, lowest) = fault.file(&mut run.rng);
+            let (file, owed) = fault.file(&mut run.rng);
             let (lines, refusal) = explained(&mut run, &file);
-            let owed = Refusal {
-                number: 2,
-                spot: lowest,
-            };
             assert_eq!(refusal, Some(owed), "{fault:?}, {run}");
-            let blocks = oracle::block_lines(&file);
+            let mut blocks = oracle::block_lines(&file);
+            if owed.number == 17 {
+                blocks.extend(oracle::order_line(&file));
+            }
             assert_eq!(lines[2..lines.len() - 1], blocks, "{fault:?}, {run}");
-            let own = match fault {
-                BlockFault::Number => "its number is ",
-                BlockFault::UsedBeforeLast | BlockFault::UsedInLast => "its used count is ",
-                BlockFault::UnusedByte | BlockFault::UnusedByteOldSums => "its padding has ",
-                BlockFault::PlainSum | BlockFault::PlainSumNotReduced => "S is ",
-                BlockFault::WeightedSum | BlockFault::WeightedSumNotReduced => "W is ",
-                _ => "block ",
-            };
-            assert!(lines[2].contains(own), "{fault:?}: {lines:?}, {run}");
+            let first = &lines[2];
+            let last = &lines[lines.len() - 2];
+            assert!(
+                first.contains(words_of(fault)),
+                "{fault:?}: {lines:?}, {run}"
+            );
+            let order = order_words_of(fault, owed.spot);
+            assert!(last.contains(&order), "{fault:?}: {lines:?}, {run}");
         }
     }
-    run.finish(&[(1, 120), (2, 16 * 60)]);
+    run.finish(&[(1, 120), (17, 5 * 60), (18, 4 * 60), (2, 4 * 60)]);
 }
 
 /// Noise in place of bundles and files: a page in any case.
@@ -361,7 +386,8 @@ fn noise() {
             explained_bundle(&mut run, &longest_n);
         }
     }
-    run.finish(&[(1, 200), (2, 200), (6, 100), (7, 500), (10, 10), (12, 20)]);
+    // Noise has another number than 0 in its first block.
+    run.finish(&[(1, 200), (17, 200), (6, 100), (7, 500), (10, 10), (12, 20)]);
 }
 
 /// The largest numbers: places and weights of 65,535 only, on the longest words.

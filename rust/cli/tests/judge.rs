@@ -20,22 +20,26 @@ use support::{
     command, directory, hov, hov_in, hov_unread, hov_with, refused, sample, start, Done,
 };
 
-const SAMPLES: [&str; 5] = [
+const SAMPLES: [&str; 7] = [
     "samples/a.sealed",
     "samples/damaged.sealed",
     "samples/e.sealed",
     "samples/f.sealed",
+    "samples/joined.sealed",
     "samples/several.sealed",
+    "samples/shuffled.sealed",
 ];
 
 #[test]
 fn sample_files() {
     let lines = "\
 accepted 5 4 5 1 samples/a.sealed
-refused 2 0 samples/damaged.sealed: block 0 breaks a rule of the file format; it was damaged on the way: have it sent again
+refused 2 0 samples/damaged.sealed: the sums of block 0 are wrong; bytes were damaged on the way: have it sent again
 accepted 1 0 1 0 samples/e.sealed
 refused 6 3 samples/f.sealed: the bundle ends before or inside the field at offset 3; the modeller's file lacks what the counts before announce
+refused 18 0 samples/joined.sealed: the used count of block 0 is wrong, or an unused byte of it is not zero; it was cut short, or written by something else: have it sent again
 accepted 43 42 177 39 samples/several.sealed
+refused 17 1 samples/shuffled.sealed: the block at position 1 has another number; the blocks came in the wrong order, or one is missing: have it sent again in order
 ";
     let arguments = [["judge"].as_slice(), &SAMPLES].concat();
     assert_eq!(hov(&arguments), Done::new(1, lines, ""));
@@ -52,7 +56,11 @@ fn any_file(run: &mut Run, case: usize) -> Vec<u8> {
         0 | 1 => build(&certified.bundle.bytes()),
         2 => build(&altered(rng, &certified.bundle)),
         3 => rng.choose(&LengthFault::ALL).file(rng),
-        4 => rng.choose(&BlockFault::ALL).file(rng).0,
+        4 => {
+            BlockFault::ALL[case / 8 % BlockFault::ALL.len()]
+                .file(rng)
+                .0
+        }
         _ => {
             let fault = rng.choose(&BundleFault::ALL);
             let faulty = fault.bytes(rng, &certified);
@@ -103,7 +111,9 @@ fn many_files() {
             "{run}"
         );
     }
-    run.finish(&[(0, 250), (1, 100), (2, 100), (6, 10), (7, 50), (12, 5)]);
+    let blocks = [(17, 25), (18, 20), (2, 20)];
+    let others = [(0, 250), (1, 100), (6, 10), (7, 50), (12, 5)];
+    run.finish(&[blocks.as_slice(), &others].concat());
 }
 
 /// Trouble with some files: the others are still judged, and 3 wins over 1.

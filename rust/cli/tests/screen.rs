@@ -36,8 +36,14 @@ fn sample_words() {
     // The judge refuses this one.
     assert_eq!(screen("samples/f.sealed", &["0", "0"]), permitted);
     let damaged = "samples/damaged.sealed";
-    let line = "refused 2 0 samples/damaged.sealed: block 0 breaks a rule of the file format; it was damaged on the way: have it sent again\n";
+    let line = "refused 2 0 samples/damaged.sealed: the sums of block 0 are wrong; bytes were damaged on the way: have it sent again\n";
     assert_eq!(screen(damaged, &["0"]), Done::new(1, line, ""));
+    let shuffled = "samples/shuffled.sealed";
+    let line = refused(17, 1, shuffled);
+    assert_eq!(screen(shuffled, &["0"]), Done::new(1, &line, ""));
+    let joined = "samples/joined.sealed";
+    let line = refused(18, 0, joined);
+    assert_eq!(screen(joined, &["0"]), Done::new(1, &line, ""));
 }
 
 /// Every number of 1 to 20 digits is taken, and none that is n or more is an event.

@@ -90,17 +90,18 @@ fn standard_input_and_output() {
     );
 }
 
-/// A refusal: its line on standard error, and nothing written, be the output there
-/// before or not.
-#[test]
-fn refusals() {
-    let directory = directory("refusals");
-    write(directory.join("there"), b"as it was");
-    let before = fs::metadata(directory.join("there")).expect("it is there");
+/// Inputs that are refused: the command, the name, the bytes, and the refusal.
+type Input = (&'static str, &'static str, Vec<u8>, u8, usize);
+
+fn refused_inputs() -> [Input; 9] {
     let longest = vec![0; MAX_BUNDLE_SIZE];
     let mut damaged = build(&longest);
     damaged[3 * 512 + 7] = 1;
-    let inputs: [(&str, &str, Vec<u8>, u8, usize); 7] = [
+    let mut cut = build(&longest);
+    cut[127 * 512 + 3] = 2;
+    let mut swapped = build(&longest);
+    swapped[5 * 512..7 * 512].rotate_left(512);
+    [
         ("seal", "empty", vec![], 4, 0),
         ("seal", "long", [longest.as_slice(), &[0]].concat(), 4, 0),
         ("seal", "longer", vec![0; 1_000_000], 4, 0),
@@ -114,8 +115,19 @@ fn refusals() {
             0,
         ),
         ("unseal", "damaged", damaged, 2, 3),
-    ];
-    for (command, name, bytes, number, spot) in inputs {
+        ("unseal", "cut", cut, 18, 127),
+        ("unseal", "swapped", swapped, 17, 5),
+    ]
+}
+
+/// A refusal: its line on standard error, and nothing written, be the output there
+/// before or not.
+#[test]
+fn refusals() {
+    let directory = directory("refusals");
+    write(directory.join("there"), b"as it was");
+    let before = fs::metadata(directory.join("there")).expect("it is there");
+    for (command, name, bytes, number, spot) in refused_inputs() {
         write(directory.join(name), &bytes);
         let line = refused(number, spot, name);
         for output in ["there", "new", "-"] {
@@ -138,7 +150,7 @@ fn refusals() {
 #[test]
 fn generated_files() {
     let mut run = Run::start("hov_generated_files");
-    for _ in 0..run.cases(40) {
+    for case in 0..run.cases(40) {
         let bundle = random_bundle(&mut run.rng, 1);
         let file = build(&bundle);
         let sealed = hov_with(&["seal", "-", "-"], &bundle);
@@ -150,12 +162,14 @@ fn generated_files() {
         let unsealed = hov_with(&["unseal", "-", "-"], &file);
         assert_eq!(unsealed, (1, vec![], refused(1, 0, "-")), "{run}");
         run.count(1);
-        let (file, lowest) = run.rng.choose(&BlockFault::ALL).file(&mut run.rng);
+        let fault = BlockFault::ALL[case % BlockFault::ALL.len()];
+        let (file, owed) = fault.file(&mut run.rng);
         let unsealed = hov_with(&["unseal", "-", "-"], &file);
-        assert_eq!(unsealed, (1, vec![], refused(2, lowest, "-")), "{run}");
-        run.count(2);
+        let line = refused(owed.number, owed.spot, "-");
+        assert_eq!(unsealed, (1, vec![], line), "{fault:?}, {run}");
+        run.count(owed.number);
     }
-    run.finish(&[(0, 40), (1, 40), (2, 40)]);
+    run.finish(&[(0, 40), (1, 40), (17, 10), (18, 8), (2, 8)]);
 }
 
 /// The input is read whole before the output is touched.

@@ -68,14 +68,109 @@ here the bundle ends, before the kind of certificate 0
 fn damaged_sample() {
     let page = "\
 samples/damaged.sealed: 512 bytes, 1 block
-refused 2 0: block 0 breaks a rule of the file format
+refused 2 0: the sums of block 0 are wrong
   block 0: S is 85 in place of 86; W is 991 in place of 996
-what to do: it was damaged on the way: have it sent again
+what to do: bytes were damaged on the way: have it sent again
 ";
     assert_eq!(
         hov(&["show", "samples/damaged.sealed"]),
         Done::new(1, page, "")
     );
+}
+
+#[test]
+fn joined_sample() {
+    let page = "\
+samples/joined.sealed: 1024 bytes, 2 blocks
+refused 18 0: the used count of block 0 is wrong, or an unused byte of it is not zero
+  block 0: its used count is 53 in place of 504
+  block 1: its number is 0 in place of 1
+what to do: it was cut short, or written by something else: have it sent again
+";
+    assert_eq!(
+        hov(&["show", "samples/joined.sealed"]),
+        Done::new(1, page, "")
+    );
+}
+
+#[test]
+fn shuffled_sample() {
+    let page = "\
+samples/shuffled.sealed: 2048 bytes, 4 blocks
+refused 17 1: the block at position 1 has another number
+  block 1: its number is 2 in place of 1
+  block 2: its number is 1 in place of 2
+the blocks stand in the order 0 2 1 3
+what to do: the blocks came in the wrong order, or one is missing: have it sent again in order
+";
+    assert_eq!(
+        hov(&["show", "samples/shuffled.sealed"]),
+        Done::new(1, page, "")
+    );
+}
+
+/// What is said about the order of the blocks, between the blocks and what to do.
+fn order_shown(file: &[u8]) -> String {
+    let (status, page, errors) = hov_with(&["show", "-"], file);
+    assert_eq!((status, errors.as_str()), (1, ""));
+    let page = String::from_utf8(page).expect("pages are text");
+    let lines = page.lines().skip(2).filter(|line| !line.starts_with(' '));
+    let mut lines: Vec<&str> = lines.collect();
+    let last = lines.pop().expect("a last line");
+    assert!(last.starts_with("what to do: "), "{page}");
+    lines.join("\n")
+}
+
+/// Blocks of a sound file of four, in this order.
+#[test]
+fn order_of_blocks() {
+    let sound = build(&[7; 4 * 504]);
+    for (order, line) in [
+        (
+            [0, 2, 1, 3].as_slice(),
+            "the blocks stand in the order 0 2 1 3",
+        ),
+        (&[3, 2, 1, 0], "the blocks stand in the order 3 2 1 0"),
+        // Lost.
+        (&[1, 2, 3], "block 0 is missing"),
+        (&[0, 2, 3], "block 1 is missing"),
+        (&[3, 0, 2], "block 1 is missing"),
+        (&[1], "block 0 is missing"),
+        // More than one of them.
+        (&[0, 3], ""),
+        (&[2, 3], ""),
+        // Doubled: nothing is known to be missing, but where a block stands in the
+        // place of another one.
+        (&[0, 1, 1, 2], "the blocks stand in the order 0 1 1 2"),
+        (&[0, 0], "the blocks stand in the order 0 0"),
+        (
+            &[0, 1, 1, 3],
+            "the blocks stand in the order 0 1 1 3; block 2 is missing",
+        ),
+    ] {
+        let blocks = order
+            .iter()
+            .map(|&block: &usize| &sound[block * 512..][..512]);
+        let file = blocks.collect::<Vec<_>>().concat();
+        assert_eq!(order_shown(&file), line, "{order:?}");
+    }
+}
+
+/// Where nothing is known about the order, nothing is said.
+#[test]
+fn no_order_of_blocks() {
+    // A number that was damaged is not that of a block that was moved.
+    let mut damaged = build(&[7; 3]);
+    damaged[0] = 1;
+    assert_eq!(order_shown(&damaged), "");
+    // The refusal is for something else.
+    let mut swapped = build(&[7; 4 * 504]);
+    swapped[512..3 * 512].rotate_left(512);
+    for byte in [2, 4] {
+        let mut lower = swapped.clone();
+        lower[byte] ^= 1;
+        assert_eq!(order_shown(&lower), "", "byte {byte}");
+    }
 }
 
 #[test]
@@ -136,7 +231,7 @@ fn missing_certificates() {
         (
             "samples/damaged.sealed",
             "0",
-            "no certificates read, then refusal 2: block 0 breaks a rule of the file format",
+            "no certificates read, then refusal 2: the sums of block 0 are wrong",
         ),
     ] {
         let error = format!("hov: {file}: no certificate {number}: {why}\n");

@@ -45,7 +45,8 @@ fn help() {
 
 #[test]
 fn version() {
-    assert_eq!(hov(&["--version"]), Done::new(0, "hov 0.1.0\n", ""));
+    let line = concat!("hov ", env!("CARGO_PKG_VERSION"), "\n");
+    assert_eq!(hov(&["--version"]), Done::new(0, line, ""));
 }
 
 /// Arguments that are wrong, and the usage that is shown for them.

@@ -1,10 +1,11 @@
-//! Files that have to be refused, each with one fault.
+//! Files that have to be refused, each with a fault.
 
 use crate::files::{
-    block_count, block_mut, build, bundle_length, make_sum_small, random_bundle, write_sums, Field,
-    BLOCK, CONTENTS, MAX_BLOCKS, MODULUS,
+    block_count, block_mut, broken_rule, build, bundle_length, make_sum_small, random_bundle,
+    write_sums, Field, BLOCK, CONTENTS, MAX_BLOCKS, MAX_BUNDLE_SIZE, MODULUS,
 };
 use crate::rng::Rng;
+use reference::Refusal;
 
 /// A length that no file may have: refusal 1.
 #[derive(Clone, Copy, Debug, PartialEq, Eq)]
@@ -59,28 +60,32 @@ impl LengthFault {
     }
 }
 
-/// A way for blocks to break a rule: refusal 2. Only the rule that is named is
-/// broken, as far as that is possible; in particular the sums are right unless
-/// they are the fault.
+/// A way for blocks to break a rule: refusal 17, 18 or 2, at the lowest faulty
+/// block. Only the rule that is named is broken, as far as that is possible; in
+/// particular the sums are right unless they are the fault.
+///
+/// Where a fault has one number, it is said here and in [`BlockFault::file`]. Where
+/// it depends on the bytes, it is found by [`broken_rule`], a plain reading of the
+/// rules.
 #[derive(Clone, Copy, Debug, PartialEq, Eq)]
 pub enum BlockFault {
-    /// Another block number.
+    /// Another block number: 17.
     Number,
-    /// A block other than the last does not use 504 bytes.
+    /// A block other than the last does not use 504 bytes: 18.
     UsedBeforeLast,
-    /// The last block uses no byte, or more than 504.
+    /// The last block uses no byte, or more than 504: 18.
     UsedInLast,
-    /// An unused byte is not zero; the sums count it.
+    /// An unused byte is not zero; the sums count it: 18.
     UnusedByte,
-    /// An unused byte is not zero; the sums are those of before.
+    /// An unused byte is not zero; the sums are those of before: 18.
     UnusedByteOldSums,
-    /// Another plain sum.
+    /// Another plain sum: 2.
     PlainSum,
-    /// Another weighted sum.
+    /// Another weighted sum: 2.
     WeightedSum,
-    /// The plain sum plus the modulus, congruent but not reduced.
+    /// The plain sum plus the modulus, congruent but not reduced: 2.
     PlainSumNotReduced,
-    /// The weighted sum plus the modulus, congruent but not reduced.
+    /// The weighted sum plus the modulus, congruent but not reduced: 2.
     WeightedSumNotReduced,
     /// One byte anywhere is another.
     AlteredByte,
@@ -88,19 +93,30 @@ pub enum BlockFault {
     SwappedBytes,
     /// Two bytes of different blocks have changed places.
     SwappedBytesOfTwoBlocks,
-    /// Two blocks have changed places.
+    /// Two blocks have changed places: 17 at the lower.
     SwappedBlocks,
+    /// A block that is not the last is missing: 17 at its position.
+    LostBlock,
+    /// A block that is not the last stands twice: 17 at the position behind it.
+    DoubledBlock,
+    /// All blocks stand in another order: 17 at the lowest position whose block is
+    /// not its own.
+    Shuffled,
     /// Everything after number and used count is noise.
     Noise,
     /// Two blocks each have an altered byte.
     TwoBlocks,
     /// Each block from some on has an altered byte, with even chances.
     ManyBlocks,
+    /// A block has another number, wrong contents or wrong sums, or several of
+    /// these, and so has the block behind it; each further one, with even chances.
+    /// The lowest is named, with 17 before 18 before 2.
+    SeveralFaults,
 }
 
 impl BlockFault {
     /// All of them.
-    pub const ALL: [BlockFault; 16] = [
+    pub const ALL: [BlockFault; 20] = [
         BlockFault::Number,
         BlockFault::UsedBeforeLast,
         BlockFault::UsedInLast,
@@ -114,120 +130,83 @@ impl BlockFault {
         BlockFault::SwappedBytes,
         BlockFault::SwappedBytesOfTwoBlocks,
         BlockFault::SwappedBlocks,
+        BlockFault::LostBlock,
+        BlockFault::DoubledBlock,
+        BlockFault::Shuffled,
         BlockFault::Noise,
         BlockFault::TwoBlocks,
         BlockFault::ManyBlocks,
+        BlockFault::SeveralFaults,
     ];
 
-    /// A file with this fault, and the lowest block that has it.
-    pub fn file(self, rng: &mut Rng) -> (Vec<u8>, usize) {
+    /// A file with this fault, and what it has to be refused with.
+    pub fn file(self, rng: &mut Rng) -> (Vec<u8>, Refusal) {
         let mut file = build(&self.bundle(rng));
-        let blocks = file.len() / BLOCK;
-        let lowest = match self {
-            BlockFault::Number => {
-                let index = rng.below(blocks);
-                let next_or_high_byte = rng.choose(&[index + 1, index + 256, 65_535]);
-                let number = other_than(index, rng, &[0, next_or_high_byte]);
-                let block = block_mut(&mut file, index);
-                Field::Number.write(block, number);
-                write_sums(block);
-                index
-            }
-            BlockFault::UsedBeforeLast => {
-                let index = rng.below(blocks - 1);
-                let used = other_than(CONTENTS, rng, &[0, 1, 503, 505, 512, 760, 65_535]);
-                write_used(block_mut(&mut file, index), used);
-                index
-            }
-            BlockFault::UsedInLast => {
-                let index = blocks - 1;
-                let above = rng.within(CONTENTS + 1..=65_535);
-                let used = rng.choose(&[0, 505, 506, 512, 760, 65_535, above]);
-                write_used(block_mut(&mut file, index), used);
-                index
-            }
+        let (number, spot) = match self {
+            BlockFault::Number => (17, alter_number(&mut file, rng)),
+            BlockFault::UsedBeforeLast => (18, alter_used_before_last(&mut file, rng)),
+            BlockFault::UsedInLast => (18, alter_used_in_last(&mut file, rng)),
             BlockFault::UnusedByte => {
-                set_unused_byte(block_mut(&mut file, blocks - 1), rng);
-                write_sums(block_mut(&mut file, blocks - 1));
-                blocks - 1
+                let last = alter_unused_byte(&mut file, rng);
+                write_sums(block_mut(&mut file, last));
+                (18, last)
             }
-            BlockFault::UnusedByteOldSums => {
-                set_unused_byte(block_mut(&mut file, blocks - 1), rng);
-                blocks - 1
+            BlockFault::UnusedByteOldSums => (18, alter_unused_byte(&mut file, rng)),
+            BlockFault::PlainSum => (2, alter_sum(&mut file, rng, Field::PlainSum)),
+            BlockFault::WeightedSum => (2, alter_sum(&mut file, rng, Field::WeightedSum)),
+            BlockFault::PlainSumNotReduced => (2, add_modulus(&mut file, rng, Field::PlainSum)),
+            BlockFault::WeightedSumNotReduced => {
+                (2, add_modulus(&mut file, rng, Field::WeightedSum))
             }
-            BlockFault::PlainSum | BlockFault::WeightedSum => {
-                let sum = match self {
-                    BlockFault::PlainSum => Field::PlainSum,
-                    _ => Field::WeightedSum,
-                };
-                let index = rng.below(blocks);
-                let block = block_mut(&mut file, index);
-                let right = sum.read(block);
-                let near = [0, right.saturating_sub(1), (right + 1).min(65_535), 65_535];
-                sum.write(block, other_than(right, rng, &near));
-                index
+            BlockFault::SwappedBlocks => (17, swap_blocks(&mut file, rng)),
+            BlockFault::LostBlock => (17, lose_block(&mut file, rng)),
+            BlockFault::DoubledBlock => (17, double_block(&mut file, rng)),
+            BlockFault::Shuffled => (17, shuffle_blocks(&mut file, rng)),
+            BlockFault::SeveralFaults => alter_several(&mut file, rng),
+            BlockFault::AlteredByte
+            | BlockFault::SwappedBytes
+            | BlockFault::SwappedBytesOfTwoBlocks
+            | BlockFault::Noise
+            | BlockFault::TwoBlocks
+            | BlockFault::ManyBlocks => {
+                let lowest = self.alter_bytes(&mut file, rng);
+                let number = broken_rule(&file, lowest);
+                (number.expect("the block is faulty"), lowest)
             }
-            BlockFault::PlainSumNotReduced | BlockFault::WeightedSumNotReduced => {
-                let sum = match self {
-                    BlockFault::PlainSumNotReduced => Field::PlainSum,
-                    _ => Field::WeightedSum,
-                };
-                let index = rng.below(blocks);
-                let block = block_mut(&mut file, index);
-                make_sum_small(rng, block, sum);
-                sum.write(block, sum.read(block) + MODULUS);
-                index
-            }
-            BlockFault::AlteredByte => {
-                let index = rng.below(blocks);
-                alter_byte(block_mut(&mut file, index), rng);
-                index
-            }
-            BlockFault::SwappedBytes => {
-                let index = rng.below(blocks);
-                swap_bytes(block_mut(&mut file, index), rng);
-                index
-            }
-            BlockFault::SwappedBytesOfTwoBlocks => {
-                let (low, high) = rng.two_below(blocks);
-                loop {
-                    let in_low = low * BLOCK + rng.below(BLOCK);
-                    let in_high = high * BLOCK + rng.below(BLOCK);
-                    if file[in_low] != file[in_high] {
-                        file.swap(in_low, in_high);
-                        break low;
-                    }
-                }
-            }
-            BlockFault::SwappedBlocks => {
-                let (low, high) = rng.two_below(blocks);
-                let (front, back) = file.split_at_mut(high * BLOCK);
-                block_mut(front, low).swap_with_slice(block_mut(back, 0));
-                low
-            }
-            BlockFault::Noise => {
-                let index = rng.below(blocks);
-                block_mut(&mut file, index)[4..].copy_from_slice(&rng.bytes(BLOCK - 4));
-                index
-            }
+        };
+        (file, Refusal { number, spot })
+    }
+
+    /// Makes a fault whose number depends on the bytes, and returns the lowest
+    /// faulty block.
+    fn alter_bytes(self, file: &mut [u8], rng: &mut Rng) -> usize {
+        let blocks = file.len() / BLOCK;
+        match self {
+            BlockFault::SwappedBytesOfTwoBlocks => swap_bytes_of_two_blocks(file, rng),
             BlockFault::TwoBlocks => {
                 let (low, high) = rng.two_below(blocks);
-                alter_byte(block_mut(&mut file, low), rng);
-                alter_byte(block_mut(&mut file, high), rng);
+                alter_byte(block_mut(file, low), rng);
+                alter_byte(block_mut(file, high), rng);
                 low
             }
-            BlockFault::ManyBlocks => {
+            _ => {
                 let lowest = rng.below(blocks);
-                alter_byte(block_mut(&mut file, lowest), rng);
-                for index in lowest + 1..blocks {
-                    if rng.below(2) == 0 {
-                        alter_byte(block_mut(&mut file, index), rng);
+                let block = block_mut(file, lowest);
+                match self {
+                    BlockFault::SwappedBytes => swap_bytes(block, rng),
+                    BlockFault::Noise => block[4..].copy_from_slice(&rng.bytes(BLOCK - 4)),
+                    _ => alter_byte(block, rng),
+                }
+                if self == BlockFault::ManyBlocks {
+                    for higher in lowest + 1..blocks {
+                        if rng.below(2) == 0 {
+                            alter_byte(block_mut(file, higher), rng);
+                        }
                     }
                 }
                 lowest
             }
-        };
-        (file, lowest)
+        }
     }
 
     /// A bundle whose file can have this fault.
@@ -236,8 +215,17 @@ impl BlockFault {
             BlockFault::UsedBeforeLast
             | BlockFault::SwappedBytesOfTwoBlocks
             | BlockFault::SwappedBlocks
+            | BlockFault::LostBlock
+            | BlockFault::Shuffled
             | BlockFault::TwoBlocks
-            | BlockFault::ManyBlocks => random_bundle(rng, 2),
+            | BlockFault::ManyBlocks
+            | BlockFault::SeveralFaults => random_bundle(rng, 2),
+            BlockFault::DoubledBlock => {
+                // One block more is still not too many.
+                let mut bundle = random_bundle(rng, 2);
+                bundle.truncate(MAX_BUNDLE_SIZE - CONTENTS);
+                bundle
+            }
             BlockFault::UnusedByte | BlockFault::UnusedByteOldSums => {
                 let last = rng.within(1..=CONTENTS - 1);
                 let length = bundle_length(block_count(rng, 1), last);
@@ -250,6 +238,160 @@ impl BlockFault {
             _ => random_bundle(rng, 1),
         }
     }
+}
+
+// Each of these makes a fault in a sound file, and returns the lowest faulty block.
+
+fn alter_number(file: &mut [u8], rng: &mut Rng) -> usize {
+    let index = rng.below(file.len() / BLOCK);
+    let block = block_mut(file, index);
+    write_other_number(block, index, rng);
+    write_sums(block);
+    index
+}
+
+fn alter_used_before_last(file: &mut [u8], rng: &mut Rng) -> usize {
+    let index = rng.below(file.len() / BLOCK - 1);
+    write_used(block_mut(file, index), wrong_used(false, rng));
+    index
+}
+
+fn alter_used_in_last(file: &mut [u8], rng: &mut Rng) -> usize {
+    let index = file.len() / BLOCK - 1;
+    write_used(block_mut(file, index), wrong_used(true, rng));
+    index
+}
+
+/// The sums are as they were.
+fn alter_unused_byte(file: &mut [u8], rng: &mut Rng) -> usize {
+    let index = file.len() / BLOCK - 1;
+    set_unused_byte(block_mut(file, index), rng);
+    index
+}
+
+fn alter_sum(file: &mut [u8], rng: &mut Rng, sum: Field) -> usize {
+    let index = rng.below(file.len() / BLOCK);
+    write_other_sum(block_mut(file, index), rng, sum);
+    index
+}
+
+fn add_modulus(file: &mut [u8], rng: &mut Rng, sum: Field) -> usize {
+    let index = rng.below(file.len() / BLOCK);
+    let block = block_mut(file, index);
+    make_sum_small(rng, block, sum);
+    sum.write(block, sum.read(block) + MODULUS);
+    index
+}
+
+fn swap_blocks(file: &mut [u8], rng: &mut Rng) -> usize {
+    let (low, high) = rng.two_below(file.len() / BLOCK);
+    let (front, back) = file.split_at_mut(high * BLOCK);
+    block_mut(front, low).swap_with_slice(block_mut(back, 0));
+    low
+}
+
+fn lose_block(file: &mut Vec<u8>, rng: &mut Rng) -> usize {
+    let index = rng.below(file.len() / BLOCK - 1);
+    file.drain(index * BLOCK..(index + 1) * BLOCK);
+    index
+}
+
+fn double_block(file: &mut Vec<u8>, rng: &mut Rng) -> usize {
+    let index = rng.below(file.len() / BLOCK - 1);
+    let behind = (index + 1) * BLOCK;
+    let block = file[index * BLOCK..behind].to_vec();
+    file.splice(behind..behind, block);
+    index + 1
+}
+
+fn shuffle_blocks(file: &mut Vec<u8>, rng: &mut Rng) -> usize {
+    let own: Vec<usize> = (0..file.len() / BLOCK).collect();
+    let mut order = own.clone();
+    while order == own {
+        order = rng.shuffled(&own);
+    }
+    let blocks = order.iter().map(|&from| block_mut(file, from).to_vec());
+    *file = blocks.collect::<Vec<_>>().concat();
+    let lowest = own
+        .into_iter()
+        .find(|&position| order[position] != position);
+    lowest.expect("it is another order")
+}
+
+fn swap_bytes_of_two_blocks(file: &mut [u8], rng: &mut Rng) -> usize {
+    let (low, high) = rng.two_below(file.len() / BLOCK);
+    loop {
+        let in_low = low * BLOCK + rng.below(BLOCK);
+        let in_high = high * BLOCK + rng.below(BLOCK);
+        if file[in_low] != file[in_high] {
+            file.swap(in_low, in_high);
+            return low;
+        }
+    }
+}
+
+/// Returns the number too.
+fn alter_several(file: &mut [u8], rng: &mut Rng) -> (u8, usize) {
+    let blocks = file.len() / BLOCK;
+    let lowest = rng.below(blocks - 1);
+    let number = make_faulty(file, lowest, rng);
+    for higher in lowest + 1..blocks {
+        if higher == lowest + 1 || rng.below(2) == 0 {
+            make_faulty(file, higher, rng);
+        }
+    }
+    (number, lowest)
+}
+
+/// Gives a block another number, wrong contents or wrong sums, or several of these,
+/// and returns what it has to be refused with.
+fn make_faulty(file: &mut [u8], index: usize, rng: &mut Rng) -> u8 {
+    let is_last = index + 1 == file.len() / BLOCK;
+    let block = block_mut(file, index);
+    let faults = rng.within(1..=7);
+    let [number, contents, sums] = [1, 2, 4].map(|fault| faults & fault != 0);
+    if number {
+        write_other_number(block, index, rng);
+    }
+    if contents {
+        let has_unused = Field::Used.read(block) < CONTENTS;
+        if has_unused && rng.below(2) == 0 {
+            set_unused_byte(block, rng);
+        } else {
+            Field::Used.write(block, wrong_used(is_last, rng));
+        }
+    }
+    write_sums(block);
+    if sums {
+        let sum = rng.choose(&[Field::PlainSum, Field::WeightedSum]);
+        write_other_sum(block, rng, sum);
+    }
+    match (number, contents) {
+        (true, _) => 17,
+        (false, true) => 18,
+        (false, false) => 2,
+    }
+}
+
+fn write_other_number(block: &mut [u8], index: usize, rng: &mut Rng) {
+    let next_or_high_byte = rng.choose(&[index + 1, index + 256, 65_535]);
+    let number = other_than(index, rng, &[0, next_or_high_byte]);
+    Field::Number.write(block, number);
+}
+
+fn write_other_sum(block: &mut [u8], rng: &mut Rng, sum: Field) {
+    let right = sum.read(block);
+    let near = [0, right.saturating_sub(1), (right + 1).min(65_535), 65_535];
+    sum.write(block, other_than(right, rng, &near));
+}
+
+/// A used count that the last block, or another one, can't have.
+fn wrong_used(is_last: bool, rng: &mut Rng) -> usize {
+    if is_last {
+        let above = rng.within(CONTENTS + 1..=65_535);
+        return rng.choose(&[0, 505, 506, 512, 760, 65_535, above]);
+    }
+    other_than(CONTENTS, rng, &[0, 1, 503, 505, 512, 760, 65_535])
 }
 
 /// One of these values or any value of two bytes, but not `right`.

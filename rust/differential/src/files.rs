@@ -1,10 +1,11 @@
 //! Bundles and sound files.
 //!
-//! The builder here is a third reading of the rules, kept as close to their
-//! wording as possible and without regard to speed. The tests know from it what
-//! a call has to answer, apart from what the reference says.
+//! The builder and the checks here are a third reading of the rules, kept as close
+//! to their wording as possible and without regard to speed. The tests know from it
+//! what a call has to answer, apart from what the reference says.
 
 use crate::rng::Rng;
+use reference::Refusal;
 use std::ops::Range;
 
 /// Bytes of a block.
@@ -101,6 +102,51 @@ pub fn block_mut(file: &mut [u8], index: usize) -> &mut [u8] {
 
 fn block_range(index: usize) -> Range<usize> {
     index * BLOCK..(index + 1) * BLOCK
+}
+
+/// The number of the refusal that a block of a file calls for, if it calls for one:
+/// 17 when its number is not its position; else 18 when its used count is wrong, or
+/// a byte of its contents that is not used is not zero; else 2 when a sum is wrong.
+pub fn broken_rule(file: &[u8], position: usize) -> Option<u8> {
+    let block = &file[block_range(position)];
+    let is_last = block_range(position).end == file.len();
+
+    if Field::Number.read(block) != position {
+        return Some(17);
+    }
+
+    let used = Field::Used.read(block);
+    if !is_last && used != CONTENTS {
+        return Some(18);
+    }
+    if is_last && !(1..=CONTENTS).contains(&used) {
+        return Some(18);
+    }
+    for unused in used..CONTENTS {
+        if block[4 + unused] != 0 {
+            return Some(18);
+        }
+    }
+
+    let (plain, weighted) = sums(block);
+    if Field::PlainSum.read(block) != plain {
+        return Some(2);
+    }
+    if Field::WeightedSum.read(block) != weighted {
+        return Some(2);
+    }
+    None
+}
+
+/// What a file of a right length has to be refused with for its blocks: what the
+/// lowest faulty one calls for. Nothing when every block is sound.
+pub fn refused_block(file: &[u8]) -> Option<Refusal> {
+    for spot in 0..file.len() / BLOCK {
+        if let Some(number) = broken_rule(file, spot) {
+            return Some(Refusal { number, spot });
+        }
+    }
+    None
 }
 
 /// What a bundle is filled with.

@@ -28,6 +28,8 @@ fn round_trip() {
         "sealed 600 bytes: 0, 1024\n\
          opened: 0, 600, equal\n\
          altered: 2, 1, output as it was\n\
+         another number: 17, 1, output as it was\n\
+         unused byte: 18, 1, output as it was\n\
          short: 3, 600, output as it was\n\
          empty: 1, 0\n\
          nothing to seal: 4, 0\n"
@@ -102,7 +104,7 @@ fn screening() {
 fn pages_around_the_buffers_are_not_touched() {
     assert_eq!(
         run("pages"),
-        "1280 calls on files\n\
+        "1792 calls on files\n\
          5100 calls on tables\n\
          2196 judged\n\
          4046 screened\n"
@@ -132,7 +134,7 @@ fn header_and_crate_agree() {
 
     for (name, number) in [
         ("HOV_FILE_LENGTH", Refusal::FILE_LENGTH),
-        ("HOV_BLOCK", Refusal::BLOCK),
+        ("HOV_BLOCK_SUMS", Refusal::BLOCK_SUMS),
         ("HOV_OUTPUT_SHORT", Refusal::OUTPUT_SHORT),
         ("HOV_BUNDLE_LENGTH", Refusal::BUNDLE_LENGTH),
         ("HOV_NUMBERS_SHORT", Refusal::NUMBERS_SHORT),
@@ -146,6 +148,8 @@ fn header_and_crate_agree() {
         ("HOV_BYTES_FOLLOW", Refusal::BYTES_FOLLOW),
         ("HOV_WORD_LENGTH", Refusal::WORD_LENGTH),
         ("HOV_WORD_EVENT", Refusal::WORD_EVENT),
+        ("HOV_STATE_RANGE", Refusal::STATE_RANGE),
+        ("HOV_BLOCK_NUMBER", Refusal::BLOCK_NUMBER),
     ] {
         assert!(
             has(&[name, "=", &format!("{number},")]),
@@ -154,9 +158,9 @@ fn header_and_crate_agree() {
     }
     // The last one of the enum, without a comma.
     assert!(has(&[
-        "HOV_STATE_RANGE",
+        "HOV_BLOCK_USE",
         "=",
-        &Refusal::STATE_RANGE.to_string()
+        &Refusal::BLOCK_USE.to_string()
     ]));
 
     for (name, size) in [

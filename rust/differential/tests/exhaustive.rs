@@ -1,10 +1,12 @@
-//! Every value of each field, every single bit, and sums in steps of one; every
+//! Every value of each field, every altered byte, and sums in steps of one; every
 //! pair of short words, and every event.
 
-use differential::files::{build, write_sums, Field, BLOCK, CONTENTS, MODULUS};
+use differential::files::{
+    broken_rule, build, refused_block, write_sums, Field, BLOCK, CONTENTS, MODULUS,
+};
 use differential::logs::{table_of, MAX_EVENTS, TABLE};
 use differential::run::{refusal, Run};
-use reference::{log_rows, Summary};
+use reference::{log_rows, Refusal, Summary};
 
 /// Every value of each two-byte field of a file of one block. The sums are made
 /// right again where number or used count is altered.
@@ -24,32 +26,53 @@ fn every_value_of_each_field() {
             }
             let expected = match field {
                 Field::Used if (1..=CONTENTS).contains(&value) => Ok(value),
-                Field::Used => refusal(2, 0),
+                Field::Used => refusal(18, 0),
                 _ if value == right => Ok(CONTENTS),
-                _ => refusal(2, 0),
+                Field::Number => refusal(17, 0),
+                Field::PlainSum | Field::WeightedSum => refusal(2, 0),
             };
             let done = run.open(&file, CONTENTS);
             assert_eq!(done.outcome, expected, "{field:?} = {value}, {run}");
         }
     }
-    run.finish(&[(0, 3 + 504), (2, 3 * 65_535 + 65_032)]);
+    run.finish(&[(0, 3 + 504), (17, 65_535), (18, 65_032), (2, 2 * 65_535)]);
 }
 
-/// Every single altered bit of a file of two blocks.
+/// The number for a file of two blocks, the last used up to 100, with this byte
+/// altered. Another used count in the last block can be one that it may have; then it
+/// depends on what is no longer used.
+fn number_with_altered(file: &[u8], byte: usize) -> u8 {
+    let (block, at) = (byte / BLOCK, byte % BLOCK);
+    match at {
+        0..=1 => 17,
+        2..=3 if block == 0 => 18,
+        2..=3 => broken_rule(file, block).expect("its sums are wrong"),
+        104..=507 if block == 1 => 18,
+        _ => 2,
+    }
+}
+
+/// Every other value of every byte of a file of two blocks.
 #[test]
-fn every_single_bit() {
-    let mut run = Run::start("every_single_bit");
-    let sound = build(&run.rng.bytes(CONTENTS + 100));
-    for byte in 0..sound.len() {
-        for bit in 0..8 {
-            let mut file = sound.clone();
-            file[byte] ^= 1 << bit;
+fn every_altered_byte() {
+    let mut run = Run::start("every_altered_byte");
+    let mut file = build(&run.rng.bytes(CONTENTS + 100));
+    for byte in 0..file.len() {
+        for change in 1..=255 {
+            file[byte] ^= change;
+            let number = number_with_altered(&file, byte);
+            let spot = byte / BLOCK;
+            let refused = Refusal { number, spot };
+            let place = format!("byte {byte}, change {change}, {run}");
+            assert_eq!(refused_block(&file), Some(refused), "{place}");
             let done = run.open(&file, 2 * CONTENTS);
-            let expected = refusal(2, byte / BLOCK);
-            assert_eq!(done.outcome, expected, "byte {byte}, bit {bit}, {run}");
+            assert_eq!(done.outcome, Err(refused), "{place}");
+            file[byte] ^= change;
         }
     }
-    run.finish(&[(2, 8_192)]);
+    // Of block 0 its used count, of block 1 the 404 bytes that are not used.
+    let contents = (2 + 404) * 255;
+    run.finish(&[(17, 4 * 255), (18, contents), (2, (1_024 - 8 - 404) * 255)]);
 }
 
 /// Seals and opens bundles of one block whose sum goes up by one, from below the

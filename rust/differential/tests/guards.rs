@@ -60,13 +60,14 @@ fn call_between_guards<T: Item>(
 }
 
 /// One call for each answer that opening and sealing have, and outputs longer
-/// than the result. The noise is longer than any output.
+/// than the result. The faulty files have another number, contents or sums. The noise
+/// is longer than any output.
 fn block_cases<'a>(
     bundle: &'a [u8],
     file: &'a [u8],
-    faulty_file: &'a [u8],
+    faulty: &'a [Vec<u8>; 3],
     noise: &'a [u8],
-) -> [Case<'a, u8>; 10] {
+) -> [Case<'a, u8>; 12] {
     let open = |input, output_len, number, written| Case {
         call: Box::new(ffi::open),
         input,
@@ -87,7 +88,9 @@ fn block_cases<'a>(
         open(file, bundle.len(), 0, bundle.len()),
         open(file, bundle.len() + 9, 0, bundle.len()),
         open(&file[1..], bundle.len(), 1, 0),
-        open(faulty_file, bundle.len(), 2, 0),
+        open(&faulty[0], bundle.len(), 17, 0),
+        open(&faulty[1], bundle.len(), 18, 0),
+        open(&faulty[2], bundle.len(), 2, 0),
         open(file, bundle.len() - 1, 3, 0),
         open(file, 0, 3, 0),
         seal(bundle, file.len(), 0, file.len()),
@@ -105,11 +108,14 @@ fn guards_of_files_stay_as_they_were() {
             let last = run.rng.within(1..=CONTENTS);
             let bundle = run.rng.bytes(bundle_length(blocks, last));
             let file = build(&bundle);
-            let mut faulty_file = file.clone();
-            faulty_file[(blocks - 1) * BLOCK + 4] ^= 1;
+            let faulty = [0, 3, 4].map(|byte| {
+                let mut faulty = file.clone();
+                faulty[(blocks - 1) * BLOCK + byte] ^= 2;
+                faulty
+            });
             let noise = run.rng.bytes(file.len() + 9);
 
-            for case in block_cases(&bundle, &file, &faulty_file, &noise) {
+            for case in block_cases(&bundle, &file, &faulty, &noise) {
                 let this = ALIGNMENTS + alignment;
                 let other = ALIGNMENTS + run.rng.below(ALIGNMENTS);
                 call_between_guards(&mut run, &case, this, other);
@@ -117,8 +123,10 @@ fn guards_of_files_stay_as_they_were() {
             }
         }
     }
-    // For each of 64 alignments 3 sizes, each of the 10 cases twice.
-    run.finish(&[(0, 1_536), (1, 384), (2, 384), (3, 1_152), (4, 384)]);
+    // For each of 64 alignments 3 sizes, each of the 12 cases twice.
+    let blocks = [(17, 384), (18, 384), (2, 384)];
+    let others = [(0, 1_536), (1, 384), (3, 1_152), (4, 384)];
+    run.finish(&[blocks.as_slice(), &others].concat());
 }
 
 /// One call for each answer that the calls on a log table have, and tables longer

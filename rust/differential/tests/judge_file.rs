@@ -86,7 +86,7 @@ fn refused_bundles() {
 }
 
 /// Judges a file that does not open, with an output and a table of any length:
-/// 1 and 2 come first, and both buffers stay as they were.
+/// 1, 17, 18 and 2 come first, and both buffers stay as they were.
 fn judge_damaged(run: &mut Run, file: &[u8], expected: Outcome<Tally>) {
     let output_lens = output_lengths(&mut run.rng, file.len());
     let output_len = run.rng.choose(&output_lens);
@@ -108,9 +108,9 @@ fn damaged_files() {
     }
     for fault in BlockFault::ALL {
         for _ in 0..run.cases(50) {
-            let (file, lowest) = fault.file(&mut run.rng);
-            judge_damaged(&mut run, &file, refusal(2, lowest));
+            let (file, refused) = fault.file(&mut run.rng);
+            judge_damaged(&mut run, &file, Err(refused));
         }
     }
-    run.finish(&[(1, 300), (2, 800)]);
+    run.finish(&[(1, 300), (17, 250), (18, 200), (2, 200)]);
 }

@@ -87,7 +87,7 @@ fn vectors_agree() {
 fn any_file(run: &mut Run) -> Vec<u8> {
     match run.rng.below(8) {
         0 => LengthFault::OneByteMore.file(&mut run.rng),
-        1 => BlockFault::AlteredByte.file(&mut run.rng).0,
+        1 => run.rng.choose(&BlockFault::ALL).file(&mut run.rng).0,
         _ => build(&any_bundle(run)),
     }
 }
@@ -119,7 +119,7 @@ fn files_agree() {
         let result = outcome(result.map(|(counts, _)| counts));
         assert_eq!(result, judged.outcome, "{run}");
     }
-    run.finish(&[(0, 80), (1, 80), (2, 60), (7, 40)]);
+    run.finish(&[(0, 80), (1, 80), (17, 10), (18, 6), (2, 20), (7, 40)]);
 }
 
 /// Each refusal that judging can give is an error with its number, its spot and a

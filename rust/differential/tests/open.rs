@@ -2,8 +2,8 @@
 
 use differential::faults::{BlockFault, LengthFault};
 use differential::files::{
-    block_count, block_mut, build, bundle_length, make_sum_small, random_bundle, Field, Filling,
-    BLOCK, CONTENTS, MAX_BLOCKS,
+    block_count, block_mut, build, bundle_length, make_sum_small, random_bundle, refused_block,
+    Field, Filling, BLOCK, CONTENTS, MAX_BLOCKS,
 };
 use differential::run::{output_lengths, refusal, Run};
 
@@ -64,6 +64,7 @@ fn files_cut_between_blocks() {
     for _ in 0..run.cases(100) {
         let bundle = random_bundle(&mut run.rng, 2);
         let file = build(&bundle);
+        assert_eq!(refused_block(&file), None, "{run}");
         let left = run.rng.within(1..=file.len() / BLOCK - 1);
         open_sound(&mut run, &file[..left * BLOCK], &bundle[..left * CONTENTS]);
     }
@@ -85,33 +86,46 @@ fn wrong_lengths() {
     run.finish(&[(1, 1_500)]);
 }
 
-/// A faulty block is refused whatever the output's length is: refusal 2 comes
-/// before refusal 3.
+/// A faulty block is refused whatever the output's length is: refusals 17, 18 and 2
+/// come before refusal 3. What a fault says is also what a plain reading says.
 #[test]
 fn faulty_blocks() {
     let mut run = Run::start("faulty_blocks");
     for fault in BlockFault::ALL {
         for _ in 0..run.cases(400) {
-            let (file, lowest) = fault.file(&mut run.rng);
+            let (file, refused) = fault.file(&mut run.rng);
+            assert_eq!(refused_block(&file), Some(refused), "{fault:?}, {run}");
+            assert!(file.len() <= MAX_BLOCKS * BLOCK, "{fault:?}, {run}");
             let lengths = output_lengths(&mut run.rng, file.len() / BLOCK * CONTENTS);
             let output_len = run.rng.choose(&lengths);
             let done = run.open(&file, output_len);
-            assert_eq!(done.outcome, refusal(2, lowest), "{fault:?}, {run}");
+            assert_eq!(done.outcome, Err(refused), "{fault:?}, {run}");
         }
     }
-    run.finish(&[(2, 6_400)]);
+    run.finish(&[(17, 2_000), (18, 1_600), (2, 1_600)]);
 }
 
+/// Noise, in one case of three with the number of block 0 right, and in one with its
+/// used count right too.
 #[test]
 fn noise() {
     let mut run = Run::start("noise");
-    for _ in 0..run.cases(1_000) {
+    for case in 0..run.cases(1_500) {
         let blocks = block_count(&mut run.rng, 1);
-        let file = run.rng.bytes(blocks * BLOCK);
+        let mut file = run.rng.bytes(blocks * BLOCK);
+        if case % 3 > 0 {
+            Field::Number.write(&mut file, 0);
+        }
+        if case % 3 > 1 {
+            Field::Used.write(&mut file, CONTENTS);
+        }
+        // The number or the used count can be right by chance.
+        let refused = refused_block(&file).expect("noise is not sound");
+        assert_eq!(refused.spot, 0, "{run}");
         let lengths = output_lengths(&mut run.rng, blocks * CONTENTS);
         let output_len = run.rng.choose(&lengths);
         let done = run.open(&file, output_len);
-        assert_eq!(done.outcome, refusal(2, 0), "{run}");
+        assert_eq!(done.outcome, Err(refused), "{run}");
     }
-    run.finish(&[(2, 1_000)]);
+    run.finish(&[(17, 480), (18, 450), (2, 500)]);
 }

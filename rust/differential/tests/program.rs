@@ -7,7 +7,7 @@ use differential::limits::{LARGEST, MOST_WORDS};
 use differential::nets::small_certified;
 use differential::programs::{command, errors_when_full, path, run, run_in_pieces, MAX_FILE_SIZE};
 use differential::rng::Rng;
-use differential::run::{refusal, Run};
+use differential::run::Run;
 use differential::{samples, vectors};
 use std::fs::File;
 
@@ -56,11 +56,11 @@ fn lengths() {
         (0, "refused 1 0"),
         (1, "refused 1 0"),
         (511, "refused 1 0"),
-        (512, "refused 2 0"),
+        (512, "refused 17 0"),
         (513, "refused 1 0"),
-        (MAX_FILE_SIZE - 512, "refused 2 0"),
+        (MAX_FILE_SIZE - 512, "refused 17 0"),
         (MAX_FILE_SIZE - 1, "refused 1 0"),
-        (MAX_FILE_SIZE, "refused 2 0"),
+        (MAX_FILE_SIZE, "refused 17 0"),
         (MAX_FILE_SIZE + 1, "refused 1 0"),
         (MAX_FILE_SIZE + 512, "refused 1 0"),
         (1_000_000, "refused 1 0"),
@@ -120,22 +120,23 @@ fn pieces() {
 #[test]
 fn generated_files() {
     let mut run = Run::start("generated_files");
-    for _ in 0..run.cases(100) {
+    for case in 0..run.cases(100) {
         let certified = small_certified(&mut run.rng);
         let file = build(&certified.bundle.bytes());
         expect(&file, &vectors::line(Ok(certified.counts)));
         run.count(0);
-        let fault = run.rng.choose(&BlockFault::ALL);
-        let (file, lowest) = fault.file(&mut run.rng);
-        expect(&file, &vectors::line(refusal(2, lowest)));
-        run.count(2);
+        let fault = BlockFault::ALL[case % BlockFault::ALL.len()];
+        let (file, refused) = fault.file(&mut run.rng);
+        expect(&file, &vectors::line(Err(refused)));
+        run.count(refused.number);
     }
-    run.finish(&[(0, 100), (2, 100)]);
+    run.finish(&[(0, 100), (17, 25), (18, 20), (2, 20)]);
 }
 
+/// The answers of another implementation.
 #[test]
-fn base() {
-    let cases = vectors::read(include_str!("data/base.txt"));
+fn cases_with_answers() {
+    let cases = vectors::read(include_str!("data/01.txt"));
     assert_eq!(cases.judge.len(), 120);
     for case in cases.judge {
         expect(&case.file, &case.line);

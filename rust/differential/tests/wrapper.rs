@@ -65,7 +65,7 @@ fn open_agrees() {
             assert!(output.iter().all(|&byte| byte == 0), "{run}");
         }
     }
-    run.finish(&[(0, 100), (1, 200), (2, 200), (3, 50)]);
+    run.finish(&[(0, 100), (1, 200), (17, 40), (18, 30), (2, 60), (3, 50)]);
 }
 
 #[test]
@@ -111,7 +111,7 @@ fn vectors_agree() {
         }
         assert_eq!(outcome(result.map(|f| f.len())), done.outcome, "{run}");
     }
-    run.finish(&[(0, 700), (1, 200), (2, 200), (4, 100)]);
+    run.finish(&[(0, 700), (1, 200), (17, 40), (18, 30), (2, 60), (4, 100)]);
 }
 
 /// A number of the range; one in ten is one of the wrong ones instead.
@@ -175,41 +175,39 @@ fn take_agrees() {
     run.finish(&[(0, 400), (5, 100), (7, 50), (8, 10), (9, 50), (16, 200)]);
 }
 
-/// Each refusal that these calls can give is an error with its number, its spot
-/// and a sentence with both.
+/// Each refusal that the calls on files can give is an error with its number, its
+/// spot and a sentence with both.
 #[test]
-fn refusals_are_errors() -> Result<(), Box<dyn Error>> {
+fn refusals_of_files_are_errors() -> Result<(), Box<dyn Error>> {
     let file = hovmekhar::seal_vec(&[5; 600])?;
     let mut faulty = file.clone();
-    faulty[700] ^= 1;
+    faulty[4] ^= 1;
+    let mut padded = file.clone();
+    padded[700] ^= 1;
+    let swapped = [&file[512..], &file[..512]].concat();
     let mut output = [0; 599];
-    for (result, number, spot) in [
-        (
-            hovmekhar::open(&file[1..], &mut output),
-            Refusal::FILE_LENGTH,
-            0,
-        ),
-        (hovmekhar::open(&faulty, &mut output), Refusal::BLOCK, 1),
-        (
-            hovmekhar::open(&file, &mut output),
-            Refusal::OUTPUT_SHORT,
-            600,
-        ),
-        (
-            hovmekhar::seal(&[5; 600], &mut output),
-            Refusal::OUTPUT_SHORT,
-            1_024,
-        ),
-        (hovmekhar::seal(&[], &mut output), Refusal::BUNDLE_LENGTH, 0),
-        (
-            hovmekhar::seal(&[5; 64_513], &mut output),
-            Refusal::BUNDLE_LENGTH,
-            0,
-        ),
+    for (file, number, spot) in [
+        (&file[1..], Refusal::FILE_LENGTH, 0),
+        (&faulty, Refusal::BLOCK_SUMS, 0),
+        (&padded, Refusal::BLOCK_USE, 1),
+        (&swapped, Refusal::BLOCK_NUMBER, 0),
+        (&file, Refusal::OUTPUT_SHORT, 600),
     ] {
-        check_error(result, number, spot);
+        check_error(hovmekhar::open(file, &mut output), number, spot);
     }
+    for (length, number, spot) in [
+        (600, Refusal::OUTPUT_SHORT, 1_024),
+        (0, Refusal::BUNDLE_LENGTH, 0),
+        (64_513, Refusal::BUNDLE_LENGTH, 0),
+    ] {
+        check_error(hovmekhar::seal(&vec![5; length], &mut output), number, spot);
+    }
+    Ok(())
+}
 
+/// So it is with the calls on a log table.
+#[test]
+fn refusals_of_logs_are_errors() -> Result<(), Box<dyn Error>> {
     let mut table = [0; TABLE_SIZE];
     let summary = Summary::fresh(3, &mut table)?;
     for (result, number, spot) in [
@@ -256,15 +254,15 @@ fn check_error<R: Debug>(result: Result<R, Refusal>, number: u8, spot: usize) {
 fn every_number_has_a_sentence() {
     let spot = 40_961;
     let mut sentences = HashSet::new();
-    for number in 1..=17 {
+    for number in 1..=19 {
         let sentence = Refusal { number, spot }.to_string();
         let start = format!("refusal {number}: ");
         assert!(sentence.starts_with(&start), "{sentence}");
-        let one_spot = [1, 4, 14, 16, 17].contains(&number);
+        let one_spot = [1, 4, 14, 16, 19].contains(&number);
         assert_eq!(sentence.contains("40961"), !one_spot, "{sentence}");
         assert_eq!(
             sentence.contains("no refusal has this number"),
-            number == 17,
+            number == 19,
             "{sentence}"
         );
         assert!(

@@ -26,7 +26,8 @@ pub const MAX_BUNDLE_SIZE: usize = MAX_BLOCKS * CONTENTS_SIZE;
 /// # Errors
 ///
 /// The first of these that applies; `output` is then as it was:
-/// [`Refusal::FILE_LENGTH`], [`Refusal::BLOCK`], [`Refusal::OUTPUT_SHORT`].
+/// [`Refusal::FILE_LENGTH`]; of the lowest faulty block [`Refusal::BLOCK_NUMBER`],
+/// [`Refusal::BLOCK_USE`], [`Refusal::BLOCK_SUMS`]; [`Refusal::OUTPUT_SHORT`].
 ///
 /// ```
 /// let file = hovmekhar::seal_vec(&[1, 0, 0])?;
@@ -71,8 +72,7 @@ pub fn seal(bundle: &[u8], output: &mut [u8]) -> Result<usize, Refusal> {
 ///
 /// # Errors
 ///
-/// The first of these that applies: [`Refusal::FILE_LENGTH`],
-/// [`Refusal::BLOCK`].
+/// As for [`open`], without [`Refusal::OUTPUT_SHORT`].
 pub fn open_vec(file: &[u8]) -> Result<Vec<u8>, Refusal> {
     let capacity = file.len() / BLOCK_SIZE * CONTENTS_SIZE;
     // A longer file is refused, so it needs no longer output.

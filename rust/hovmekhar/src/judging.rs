@@ -138,7 +138,7 @@ pub fn judge_vec(bundle: &[u8]) -> Result<(Tally, Vec<u16>), Refusal> {
 ///
 /// file[4] ^= 1;
 /// let refusal = hovmekhar::judge_file(&file, &mut output, &mut table).unwrap_err();
-/// assert_eq!(refusal, Refusal { number: Refusal::BLOCK, spot: 0 });
+/// assert_eq!(refusal, Refusal { number: Refusal::BLOCK_SUMS, spot: 0 });
 /// # Ok::<(), Refusal>(())
 /// ```
 pub fn judge_file(file: &[u8], output: &mut [u8], table: &mut [u16]) -> Result<Tally, Refusal> {

@@ -29,10 +29,10 @@
 //!
 //! file[4] ^= 1;
 //! let refusal = hovmekhar::open_vec(&file).unwrap_err();
-//! assert_eq!(refusal.number, Refusal::BLOCK);
+//! assert_eq!(refusal.number, Refusal::BLOCK_SUMS);
 //! assert_eq!(
 //!     refusal.to_string(),
-//!     "refusal 2: block 0 breaks a rule of the file format"
+//!     "refusal 2: the sums of block 0 are wrong"
 //! );
 //! # Ok::<(), Refusal>(())
 //! ```

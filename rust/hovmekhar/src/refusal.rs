@@ -23,8 +23,8 @@ use std::fmt;
 pub enum Kind {
     /// [`Refusal::FILE_LENGTH`]
     FileLength = 1,
-    /// [`Refusal::BLOCK`]
-    Block = 2,
+    /// [`Refusal::BLOCK_SUMS`]
+    BlockSums = 2,
     /// [`Refusal::OUTPUT_SHORT`]
     OutputShort = 3,
     /// [`Refusal::BUNDLE_LENGTH`]
@@ -53,13 +53,17 @@ pub enum Kind {
     WordEvent = 15,
     /// [`Refusal::STATE_RANGE`]
     StateRange = 16,
+    /// [`Refusal::BLOCK_NUMBER`]
+    BlockNumber = 17,
+    /// [`Refusal::BLOCK_USE`]
+    BlockUse = 18,
 }
 
 impl Kind {
     /// All of them, by their numbers.
     pub const ALL: &'static [Kind] = &[
         Kind::FileLength,
-        Kind::Block,
+        Kind::BlockSums,
         Kind::OutputShort,
         Kind::BundleLength,
         Kind::NumbersShort,
@@ -74,6 +78,8 @@ impl Kind {
         Kind::WordLength,
         Kind::WordEvent,
         Kind::StateRange,
+        Kind::BlockNumber,
+        Kind::BlockUse,
     ];
 
     /// The refusal of a number, if one has it.
@@ -94,7 +100,7 @@ impl Kind {
     pub const fn text(self) -> &'static str {
         match self {
             Kind::FileLength => "the file's length is 0, no multiple of 512, or above 65,536",
-            Kind::Block => "a block breaks a rule: its number, its used count, its padding or its sums",
+            Kind::BlockSums => "a block's sums are wrong",
             Kind::OutputShort => "the output is shorter than the result",
             Kind::BundleLength => "the bundle's length is 0 or above 64,512",
             Kind::NumbersShort => "the table has fewer than 3,328 numbers",
@@ -109,6 +115,8 @@ impl Kind {
             Kind::WordLength => "the screened word has more than 65,535 events",
             Kind::WordEvent => "an event of the screened word is not below n",
             Kind::StateRange => "n is not 1 to 12, the rows are not 1 to 256, or the events are above 1,024",
+            Kind::BlockNumber => "a block's number is not its position",
+            Kind::BlockUse => "a block's used count is wrong, or an unused byte is not zero",
         }
     }
 
@@ -117,7 +125,7 @@ impl Kind {
     pub const fn advice(self) -> &'static str {
         match self {
             Kind::FileLength => "it was cut, or is no sealed file: have it sent again",
-            Kind::Block => "it was damaged on the way: have it sent again",
+            Kind::BlockSums => "bytes were damaged on the way: have it sent again",
             Kind::OutputShort | Kind::NumbersShort => {
                 "only from a program that lends too little: lend so much"
             }
@@ -137,6 +145,10 @@ impl Kind {
             Kind::StateRange => {
                 "only from a program that keeps a log: the summary was not one of ours"
             }
+            Kind::BlockNumber => {
+                "the blocks came in the wrong order, or one is missing: have it sent again in order"
+            }
+            Kind::BlockUse => "it was cut short, or written by something else: have it sent again",
         }
     }
 }
@@ -159,7 +171,7 @@ impl fmt::Display for Kind {
 /// ```
 #[derive(Clone, Copy, Debug, PartialEq, Eq, Hash)]
 pub struct Refusal {
-    /// The number, 1 to 16.
+    /// The number, 1 to 18.
     pub number: u8,
     /// Where or how much, according to the number.
     pub spot: usize,
@@ -168,8 +180,9 @@ pub struct Refusal {
 impl Refusal {
     /// The file's length is 0, no multiple of 512, or above 65,536. Spot: 0.
     pub const FILE_LENGTH: u8 = Kind::FileLength.number();
-    /// A block breaks a rule of the file format. Spot: the lowest such block.
-    pub const BLOCK: u8 = Kind::Block.number();
+    /// The sums of the lowest faulty block are wrong; its number, its used count and
+    /// its unused bytes are right. Spot: that block.
+    pub const BLOCK_SUMS: u8 = Kind::BlockSums.number();
     /// The output is shorter than the result. Spot: the length needed.
     pub const OUTPUT_SHORT: u8 = Kind::OutputShort.number();
     /// The bundle's length is 0 or above 64,512. Spot: 0.
@@ -204,6 +217,11 @@ impl Refusal {
     /// A summary's event count is not 1 to 12, its rows are not 1 to 256, or its
     /// events are above 1,024. Spot: 0.
     pub const STATE_RANGE: u8 = Kind::StateRange.number();
+    /// The number of the lowest faulty block is not its position. Spot: the position.
+    pub const BLOCK_NUMBER: u8 = Kind::BlockNumber.number();
+    /// The used count of the lowest faulty block is wrong, or an unused byte of it is
+    /// not zero; its number is right. Spot: that block.
+    pub const BLOCK_USE: u8 = Kind::BlockUse.number();
 
     /// Which refusal it is; nothing for a number that is not in the table, which no
     /// call gives.
@@ -215,10 +233,10 @@ impl Refusal {
     /// What it says, with its spot where that tells something, and without its number.
     ///
     /// ```
-    /// let refusal = hovmekhar::open_vec(&[0; 512]).unwrap_err();
+    /// let refusal = hovmekhar::open_vec(&[1; 512]).unwrap_err();
     /// let sentence = refusal.sentence().to_string();
-    /// assert_eq!(sentence, "block 0 breaks a rule of the file format");
-    /// assert_eq!(refusal.to_string(), format!("refusal 2: {sentence}"));
+    /// assert_eq!(sentence, "the block at position 0 has another number");
+    /// assert_eq!(refusal.to_string(), format!("refusal 17: {sentence}"));
     /// ```
     #[must_use]
     pub fn sentence(&self) -> impl fmt::Display {
@@ -232,7 +250,7 @@ impl Refusal {
             return Ok(());
         }
         Err(Refusal {
-            // The refusal table ends at 16 and `usize` has 64 bits here, so both
+            // The refusal table ends at 18 and `usize` has 64 bits here, so both
             // conversions keep the value.
             number: number as u8,
             spot: answer[0] as usize,
@@ -253,7 +271,12 @@ impl fmt::Display for Sentence {
     fn fmt(&self, f: &mut fmt::Formatter<'_>) -> fmt::Result {
         let Refusal { number, spot } = self.0;
         match number {
-            Refusal::BLOCK => write!(f, "block {spot} breaks a rule of the file format"),
+            Refusal::BLOCK_SUMS => write!(f, "the sums of block {spot} are wrong"),
+            Refusal::BLOCK_NUMBER => write!(f, "the block at position {spot} has another number"),
+            Refusal::BLOCK_USE => write!(
+                f,
+                "the used count of block {spot} is wrong, or an unused byte of it is not zero"
+            ),
             Refusal::OUTPUT_SHORT => write!(f, "the output is too short, {spot} bytes are needed"),
             Refusal::NUMBERS_SHORT => {
                 write!(f, "the table is too short, {spot} numbers are needed")

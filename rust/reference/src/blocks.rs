@@ -28,8 +28,11 @@ const MODULUS: u32 = 65_521;
 /// # Errors
 ///
 /// The first that applies; `output` is then as it was:
-/// 1 when the file's length is wrong, 2 with the lowest block that breaks a
-/// rule, 3 with the length needed when `output` is shorter than the bundle.
+/// 1 when the file's length is wrong; then, with the position of the lowest block
+/// that breaks a rule, 17 when its number is not its position, else 18 when its
+/// used count is wrong or an unused byte of its contents is not zero, else 2 when
+/// a sum is wrong; 3 with the length needed when `output` is shorter than the
+/// bundle.
 pub fn open(file: &[u8], output: &mut [u8]) -> Result<usize, Refusal> {
     if file.is_empty() || file.len() % BLOCK != 0 || file.len() > MAX_FILE_SIZE {
         return Err(Refusal { number: 1, spot: 0 });
@@ -37,9 +40,9 @@ pub fn open(file: &[u8], output: &mut [u8]) -> Result<usize, Refusal> {
 
     let last = file.len() / BLOCK - 1;
     for (index, block) in file.chunks_exact(BLOCK).enumerate() {
-        if !is_sound(block, index, index == last) {
+        if let Some(number) = broken_rule(block, index, index == last) {
             return Err(Refusal {
-                number: 2,
+                number,
                 spot: index,
             });
         }
@@ -88,7 +91,21 @@ pub fn seal(bundle: &[u8], output: &mut [u8]) -> Result<usize, Refusal> {
     Ok(length)
 }
 
-fn is_sound(block: &[u8], index: usize, is_last: bool) -> bool {
+/// The refusal number of the first rule that a block breaks, if it breaks one.
+fn broken_rule(block: &[u8], index: usize, is_last: bool) -> Option<u8> {
+    if usize::from(number_at(block, NUMBER)) != index {
+        Some(17)
+    } else if !contents_are_right(block, is_last) {
+        Some(18)
+    } else if sums(block) != (number_at(block, PLAIN_SUM), number_at(block, WEIGHTED_SUM)) {
+        Some(2)
+    } else {
+        None
+    }
+}
+
+/// Whether the used count is right and every byte that is not used is zero.
+fn contents_are_right(block: &[u8], is_last: bool) -> bool {
     let used = used_count(block);
     let used_is_right = if is_last {
         (1..=CONTENTS).contains(&used)
@@ -96,11 +113,9 @@ fn is_sound(block: &[u8], index: usize, is_last: bool) -> bool {
         used == CONTENTS
     };
     used_is_right
-        && usize::from(number_at(block, NUMBER)) == index
         && block[CONTENTS_START + used..COVERED.end]
             .iter()
             .all(|&byte| byte == 0)
-        && sums(block) == (number_at(block, PLAIN_SUM), number_at(block, WEIGHTED_SUM))
 }
 
 fn write_block(block: &mut [u8], number: u16, part: &[u8]) {

@@ -1,17 +1,46 @@
 //! The blocks of a sealed file, and the rules that they break.
 
-use hovmekhar::{BLOCK_SIZE, CONTENTS_SIZE, MAX_FILE_SIZE};
+use super::page::spaced;
+use hovmekhar::{Refusal, BLOCK_SIZE, CONTENTS_SIZE, MAX_FILE_SIZE};
 
 const CONTENTS: usize = 4;
 const SUMS: usize = CONTENTS + CONTENTS_SIZE;
 const MODULUS: usize = 65_521;
 
+/// A rule that a block breaks.
+pub struct Rule {
+    /// The number of the refusal.
+    pub number: u8,
+    /// What is stored and what is right.
+    pub words: String,
+}
+
 /// A block that breaks a rule.
 pub struct Broken {
-    /// Its number, from 0.
+    /// Its position, from 0.
     pub block: usize,
-    /// Each rule that it breaks, with what is stored and what is right.
-    pub rules: Vec<String>,
+    /// The first rule that it breaks, in the order in which the library looks at them.
+    pub first: Rule,
+    /// The other rules that it breaks.
+    pub others: Vec<Rule>,
+}
+
+impl Broken {
+    /// What the library refuses a file with in which no block before this one is
+    /// broken.
+    pub fn refusal(&self) -> Refusal {
+        Refusal {
+            number: self.first.number,
+            spot: self.block,
+        }
+    }
+
+    /// What is wrong, in a line.
+    pub fn words(&self) -> String {
+        let rules = [&self.first].into_iter().chain(&self.others);
+        let words: Vec<&str> = rules.map(|rule| rule.words.as_str()).collect();
+        words.join("; ")
+    }
 }
 
 /// Whether a file of this length has blocks.
@@ -23,28 +52,68 @@ pub fn is_length(length: usize) -> bool {
 pub fn broken(file: &[u8]) -> Vec<Broken> {
     let last = (file.len() / BLOCK_SIZE).saturating_sub(1);
     let blocks = file.chunks_exact(BLOCK_SIZE).enumerate();
-    let broken = blocks.map(|(block, bytes)| Broken {
-        block,
-        rules: broken_rules(bytes, block, block == last),
+    let broken = blocks.filter_map(|(block, bytes)| {
+        let mut rules = broken_rules(bytes, block, block == last).into_iter();
+        let first = rules.next()?;
+        Some(Broken {
+            block,
+            first,
+            others: rules.collect(),
+        })
     });
-    broken.filter(|broken| !broken.rules.is_empty()).collect()
+    broken.collect()
 }
 
-fn broken_rules(block: &[u8], number: usize, is_last: bool) -> Vec<String> {
+/// The rules that a block breaks, in the order in which the library looks at them.
+fn broken_rules(block: &[u8], position: usize, is_last: bool) -> Vec<Rule> {
     let mut rules = Vec::new();
+    let mut add = |number, words| rules.push(Rule { number, words });
     let stored = number_at(block, 0);
-    if stored != number {
-        rules.push(format!("its number is {stored} in place of {number}"));
+    if stored != position {
+        let words = format!("its number is {stored} in place of {position}");
+        add(Refusal::BLOCK_NUMBER, words);
     }
-    rules.extend(used_or_padding(block, is_last));
+    if let Some(words) = used_or_padding(block, is_last) {
+        add(Refusal::BLOCK_USE, words);
+    }
     let (plain, weighted) = sums(block);
     for (name, at, right) in [("S", SUMS, plain), ("W", SUMS + 2, weighted)] {
         let stored = number_at(block, at);
         if stored != right {
-            rules.push(format!("{name} is {stored} in place of {right}"));
+            let words = format!("{name} is {stored} in place of {right}");
+            add(Refusal::BLOCK_SUMS, words);
         }
     }
     rules
+}
+
+/// What the numbers of the blocks say about their order, where they say something:
+/// the order in which they stand, when no number is too large for so many blocks;
+/// and which one is missing, when the highest number calls for one block that is not
+/// there. Numbers in a file with wrong sums may be damaged, so that no block counts as
+/// missing then.
+pub fn order(file: &[u8]) -> Option<String> {
+    let blocks = file.chunks_exact(BLOCK_SIZE);
+    let numbers: Vec<usize> = blocks.map(|block| number_at(block, 0)).collect();
+    let &highest = numbers.iter().max()?;
+    let mut says = Vec::new();
+    if highest < numbers.len() {
+        says.push(format!(
+            "the blocks stand in the order {}",
+            spaced(&numbers)
+        ));
+    }
+    let mut missing = (0..highest).filter(|number| !numbers.contains(number));
+    if let (Some(missing), None) = (missing.next(), missing.next()) {
+        if file.chunks_exact(BLOCK_SIZE).all(has_right_sums) {
+            says.push(format!("block {missing} is missing"));
+        }
+    }
+    (!says.is_empty()).then(|| says.join("; "))
+}
+
+fn has_right_sums(block: &[u8]) -> bool {
+    sums(block) == (number_at(block, SUMS), number_at(block, SUMS + 2))
 }
 
 /// What is wrong with the used count, else with the contents that are not used.

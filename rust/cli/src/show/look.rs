@@ -12,6 +12,8 @@ pub struct Look {
     verdict: Result<Tally, Refusal>,
     /// The blocks that break a rule.
     broken: Vec<Broken>,
+    /// What the numbers of the blocks say about their order, for a refusal for one.
+    order: Option<String>,
     /// The bundle, where the library opens the file.
     reading: Option<Reading>,
 }
@@ -28,11 +30,16 @@ impl Look {
             true => blocks::broken(file),
             false => Vec::new(),
         };
+        let order = match verdict {
+            Err(refusal) if refusal.number == Refusal::BLOCK_NUMBER => blocks::order(file),
+            _ => None,
+        };
         let bundle = hovmekhar::open_vec(file);
         Self {
             length: file.len(),
             verdict,
             broken,
+            order,
             reading: bundle.ok().map(|bundle| Reading::of(&bundle)),
         }
     }
@@ -69,8 +76,7 @@ impl Look {
             return Err(Refusal { number, spot });
         }
         if let Some(lowest) = self.broken.first() {
-            let (number, spot) = (Refusal::BLOCK, lowest.block);
-            return Err(Refusal { number, spot });
+            return Err(lowest.refusal());
         }
         match &self.reading {
             // Sound blocks that the library does not open: no refusal has number 0.
@@ -151,11 +157,15 @@ impl Look {
         size
     }
 
-    /// What is wrong with each block, and what to do about a refusal.
+    /// What is wrong with each block and with their order, and what to do about a
+    /// refusal.
     fn what_to_do(&self) -> Page {
         let mut page = Page::default();
-        for Broken { block, rules } in &self.broken {
-            page.line(format_args!("  block {block}: {}", rules.join("; ")));
+        for broken in &self.broken {
+            page.line(format_args!("  block {}: {}", broken.block, broken.words()));
+        }
+        if let Some(order) = &self.order {
+            page.line(format_args!("{order}"));
         }
         let kind = self.verdict.err().and_then(|refusal| refusal.kind());
         if let Some(kind) = kind {
@@ -232,7 +242,7 @@ mod tests {
             by_place: 1,
             by_weights: 0,
         };
-        let refusals = [(6, 2), (7, 3), (2, 0), (1, 0), (12, 0)];
+        let refusals = [(6, 2), (7, 3), (2, 0), (17, 0), (18, 0), (1, 0), (12, 0)];
         let refusals = refusals.map(|(number, spot)| Err(Refusal { number, spot }));
         for verdict in refusals.into_iter().chain([Ok(tally)]) {
             let look = disagreeing(verdict);

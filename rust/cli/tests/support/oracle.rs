@@ -300,6 +300,41 @@ pub fn block_lines(file: &[u8]) -> Vec<String> {
     lines
 }
 
+/// The line about the order of the blocks of a file that is refused for a number:
+/// where all numbers are below the block count, the numbers; and the only number that
+/// a block before another one lacks, unless a sum is wrong.
+pub fn order_line(file: &[u8]) -> Option<String> {
+    let blocks: Vec<&[u8]> = file.chunks(BLOCK).collect();
+    let mut numbers = Vec::new();
+    let mut damaged = false;
+    for block in &blocks {
+        numbers.push(files::Field::Number.read(block));
+        let plain = files::Field::PlainSum.read(block);
+        let weighted = files::Field::WeightedSum.read(block);
+        damaged |= (plain, weighted) != files::sums(block);
+    }
+    let mut sorted = numbers.clone();
+    sorted.sort_unstable();
+    // Between a number and the next one, and before the first.
+    let mut lacking = sorted[0];
+    let mut lacks = lacking.saturating_sub(1);
+    for pair in sorted.windows(2) {
+        if pair[1] > pair[0] + 1 {
+            lacking += pair[1] - pair[0] - 1;
+            lacks = pair[1] - 1;
+        }
+    }
+    let order = format!("the blocks stand in the order {}", spaced(&numbers));
+    let missing = format!("block {lacks} is missing");
+    let in_order = numbers.iter().all(|&number| number < blocks.len());
+    match (in_order, lacking == 1 && !damaged) {
+        (true, true) => Some(format!("{order}; {missing}")),
+        (true, false) => Some(order),
+        (false, true) => Some(missing),
+        (false, false) => None,
+    }
+}
+
 fn used_or_padding(block: &[u8], is_last: bool) -> Option<String> {
     let used = files::Field::Used.read(block);
     if is_last && !(1..=CONTENTS).contains(&used) {

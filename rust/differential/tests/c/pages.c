@@ -89,7 +89,12 @@ static void make_file_calls(const uint8_t *bundle, size_t bundle_len, size_t fil
     }
     make(hov_open, file, file_len, bundle_len - 1, HOV_OUTPUT_SHORT);
     file[file_len - 1] ^= 1;
-    make(hov_open, file, file_len, bundle_len, HOV_BLOCK);
+    make(hov_open, file, file_len, bundle_len, HOV_BLOCK_SUMS);
+    uint8_t *last = file + file_len - HOV_BLOCK_SIZE;
+    last[3] = 255;
+    make(hov_open, file, file_len, bundle_len, HOV_BLOCK_USE);
+    last[1] = 255;
+    make(hov_open, file, file_len, bundle_len, HOV_BLOCK_NUMBER);
 }
 
 /* A table of this length, in numbers. */

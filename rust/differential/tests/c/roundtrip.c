@@ -23,6 +23,15 @@ static const char *output_state(void)
     return "output as it was";
 }
 
+/* Opens the file with this byte altered, and makes it right again. */
+static void open_altered(const char *name, size_t at)
+{
+    file[at] ^= 1;
+    uint32_t number = hov_open(file, sizeof file, output, sizeof output, answer);
+    printf("%s: %" PRIu32 ", %" PRIu64 ", %s\n", name, number, answer[0], output_state());
+    file[at] ^= 1;
+}
+
 int main(void)
 {
     for (size_t i = 0; i < sizeof bundle; i++) {
@@ -37,10 +46,9 @@ int main(void)
            memcmp(output, bundle, sizeof bundle) == 0 ? "equal" : "not equal");
 
     memset(output, 0, sizeof output);
-    file[HOV_BLOCK_SIZE + 4] ^= 1;
-    number = hov_open(file, sizeof file, output, sizeof output, answer);
-    printf("altered: %" PRIu32 ", %" PRIu64 ", %s\n", number, answer[0], output_state());
-    file[HOV_BLOCK_SIZE + 4] ^= 1;
+    open_altered("altered", HOV_BLOCK_SIZE + 4);
+    open_altered("another number", HOV_BLOCK_SIZE);
+    open_altered("unused byte", HOV_BLOCK_SIZE + 4 + HOV_CONTENTS_SIZE - 1);
 
     number = hov_open(file, sizeof file, output, sizeof bundle - 1, answer);
     printf("short: %" PRIu32 ", %" PRIu64 ", %s\n", number, answer[0], output_state());

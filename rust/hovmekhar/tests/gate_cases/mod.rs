@@ -41,8 +41,9 @@ fn expected(status: i32, output: &str, errors: &str) -> Done {
     }
 }
 
-const BLOCK: &str =
-    "gate: a block breaks a rule: its number, its used count, its padding or its sums";
+const BLOCK_SUMS: &str = "gate: a block's sums are wrong";
+const BLOCK_NUMBER: &str = "gate: a block's number is not its position";
+const BLOCK_USE: &str = "gate: a block's used count is wrong, or an unused byte is not zero";
 const BUNDLE_END: &str = "gate: the bundle ends before or inside a field";
 const FILE_LENGTH: &str = "gate: the file's length is 0, no multiple of 512, or above 65,536";
 const WORD_EVENT: &str = "gate: an event of the screened word is not below n";
@@ -73,7 +74,9 @@ const CASES: &[Case] = &[
     ("e.sealed", &["0"], 1, "accepted 1 0 1 0\nstopped 0 0", ""),
     ("several.sealed", &["0"], 0, "accepted 43 42 177 39\npermitted", ""),
     ("f.sealed", &["0"], 1, "refused 6 3", BUNDLE_END),
-    ("damaged.sealed", &["0"], 1, "refused 2 0", BLOCK),
+    ("damaged.sealed", &["0"], 1, "refused 2 0", BLOCK_SUMS),
+    ("shuffled.sealed", &["0"], 1, "refused 17 1", BLOCK_NUMBER),
+    ("joined.sealed", &["0"], 1, "refused 18 0", BLOCK_USE),
     // A file that is no sealed file.
     ("README.md", &[], 1, "refused 1 0", FILE_LENGTH),
     // Events that are numbers, but not of this net.
@@ -185,7 +188,7 @@ fn check_lengths(program: &Path) {
     // The first block says that it is the last, so that block 1 would be too many.
     let of_length = |length: usize| [a.clone(), vec![0; length - a.len()]].concat();
     let length = expected(1, "refused 1 0", FILE_LENGTH);
-    let block = expected(1, "refused 2 0", BLOCK);
+    let block = expected(1, "refused 18 0", BLOCK_USE);
     assert_eq!(ask(&[], &[]), length);
     assert_eq!(ask(&a[..511], &[]), length);
     assert_eq!(ask(&of_length(513), &[]), length);
