@@ -7,8 +7,9 @@
  * each of 1 to 3 decimal digits and at most 255; no event is the empty word.
  *
  * Prints "accepted" with four counts, then "permitted", or "stopped" with a
- * position and a place. The first call that refuses ends it with "refused", a
- * number and a spot; what the number means goes to standard error.
+ * position, a place and how many tokens it lacks. The first call that refuses ends
+ * it with "refused", a number and a spot; what the number means goes to standard
+ * error.
  *
  * Ends with 0 for a word that is permitted, 1 for one that is stopped and for a
  * refusal, 2 for wrong arguments, 3 for trouble with reading or writing.
@@ -83,7 +84,8 @@ static int ask(size_t file_len, size_t word_len)
 
     number = hov_screen(bundle, bundle_len, word, word_len, answer);
     if (number == HOV_STOPPED) {
-        printf("stopped %" PRIu64 " %" PRIu64 "\n", answer[0], answer[1]);
+        printf("stopped %" PRIu64 " %" PRIu64 " %" PRIu64 "\n", answer[0], answer[1],
+               answer[2]);
         return NOT_PERMITTED;
     }
     if (number != HOV_OK) {

@@ -47,9 +47,11 @@
  * k * (v(i) + [e = i]), where [ ] is 1 if true, else 0.
  *
  * The steps of a word are its events, each after the counts of the events before
- * it. A net permits a word when every place permits each of its steps. Screening
- * tells whether the places of a bundle permit a lent word. It reads the bundle up
- * to its last place, whether or not the judge accepts it.
+ * it. A net permits a word when every place permits each of its steps. The shortfall
+ * of a place that refuses a step is how far its surplus is below 0: out(e) less the
+ * tokens that are there before the step. Screening tells whether the places of a
+ * bundle permit a lent word. It reads the bundle up to its last place, whether or
+ * not the judge accepts it.
  *
  * Every call returns HOV_OK for a result, else the number of a refusal (see
  * enum hov_refusal); screening has a second result, HOV_STOPPED. A refusal's spot
@@ -80,9 +82,9 @@ extern "C" {
 #endif
 
 /** The version, as text and in its three numbers. */
-#define HOV_VERSION "0.2.0"
+#define HOV_VERSION "0.3.0"
 #define HOV_VERSION_MAJOR 0
-#define HOV_VERSION_MINOR 2
+#define HOV_VERSION_MINOR 3
 #define HOV_VERSION_PATCH 0
 
 /** Bytes of a block. */
@@ -391,9 +393,9 @@ uint32_t hov_judge_file(const uint8_t *file, size_t file_len,
  *
  * Returns HOV_OK when every place permits every step of the word; answer[0] to
  * answer[3] stay as they were. Returns HOV_STOPPED when some step is refused,
- * with the position of the first refused step in answer[0], counted from 0, and
- * in answer[1] the number of the lowest place that refuses it. answer[2] and
- * answer[3] stay as they were.
+ * with the position of the first refused step in answer[0], counted from 0, in
+ * answer[1] the number of the lowest place that refuses it, and in answer[2] the
+ * shortfall of that place, at least 1 and at most 65,535. answer[3] stays as it was.
  *
  * Or returns the first refusal that applies, with its spot in answer[0];
  * answer[1] to answer[3] stay as they were. HOV_WORD_LENGTH comes first, then

@@ -25,8 +25,8 @@ unfoldable pub withVerdict : List ℕ → Verdict → List ℕ
 withVerdict numbers (verdicts.Accepted c) = set (set (set (set numbers 0 (c .rows)) 1 (c .allowed)) 2 (c .«by_place»)) 3 (c .«by_weights»)
 withVerdict numbers (verdicts.Refused r) = set numbers 0 (r .spot)
 
--- the stop's position and place, or a refusal's spot in the first; the others stay
+-- the stop's position, place and shortfall in the first three, or a refusal's spot in the first; the others stay
 unfoldable pub withScreened : List ℕ → Screened → List ℕ
 withScreened numbers screening.Permitted = numbers
-withScreened numbers (screening.Stopped stop) = set (set numbers 0 (stop .position)) 1 (stop .place)
+withScreened numbers (screening.Stopped stop) = set (set (set numbers 0 (stop .position)) 1 (stop .place)) 2 (stop .shortfall)
 withScreened numbers (screening.Refused r) = set numbers 0 (r .spot)

@@ -14,6 +14,7 @@ fn handed(screened: Screened, answer: &mut [u64; 4]) -> u32
         Screened::Stopped(stop) => {
             answer[0] = stop.position as u64;
             answer[1] = stop.place as u64;
+            answer[2] = stop.shortfall;
             256
         }
         Screened::Refused(r) => {
@@ -23,8 +24,8 @@ fn handed(screened: Screened, answer: &mut [u64; 4]) -> u32
     }
 }
 
-// Screens a word with a bundle. Returns 256 where the word is stopped: answer[0] and [1] are then the position of the first refused step and the
-// lowest place that refuses it.
+// Screens a word with a bundle. Returns 256 where the word is stopped: answer[0] to [2] are then the position of the first refused step, the
+// lowest place that refuses it, and how many tokens that place lacks there.
 #[no_mangle]
 pub extern "C" fn hov_screen(bundle: &[u8], word: &[u8], answer: &mut [u64; 4]) -> u32
     ensures { λ r. ⌜ r ≡ screenedNumber (screened (now (bundle .entry)) (now (word .entry))) ⌝ }

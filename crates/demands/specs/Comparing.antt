@@ -12,7 +12,7 @@ use Rattle.laws.specs.Numbers.{Bytes}
 use Rattle.limits.specs.Limits.{MAX-BUNDLE-SIZE, MAX-WORD-EVENTS}
 use Rattle.refusals.specs.Results.{value, refused}
 use Rattle.nets.specs.Nets as nets
-use Rattle.nets.specs.Nets.{Word, stepAfter, permits, permitted, stopped, firstRefusing, screen}
+use Rattle.nets.specs.Nets.{Word, stepAfter, permits, permitted, stoppedAt, screen}
 use Rattle.nets.specs.Words.{Prefix, prefix→}
 use Rattle.nets.specs.Fits.{LogBelow, prefix-below}
 use Rattle.nets.specs.TokenGame.{placesOf}
@@ -118,17 +118,17 @@ module _ (b : List ℕ) (bytes : Bytes b) where
 
     -- screening it: permitted exactly when the net permits it, and otherwise stopped at the added event
     screened-at-end : (w : Word) → Prefix (logIn b) w → (e : ℕ) → e < eventsIn b
-        → screen (eventsIn b) (netIn b) (w ++ e ∷ []) ≡ cond (permits (eventsIn b) (netIn b) (w ++ e ∷ [])) permitted (stopped (length w) (firstRefusing (eventsIn b) (netIn b) (stepAfter (eventsIn b) w e)))
+        → screen (eventsIn b) (netIn b) (w ++ e ∷ []) ≡ cond (permits (eventsIn b) (netIn b) (w ++ e ∷ [])) permitted (stoppedAt (eventsIn b) (netIn b) (length w) (stepAfter (eventsIn b) w e))
         → ScreenedAtEnd (screened b (w ++ e ∷ [])) (eventsIn b) (netIn b) w e
-    unfolding replayed
+    unfolding replayed stoppedAt
     screened-at-end w m e h is =
         let readable = longer-readable w m e h in
-        let j = firstRefusing (eventsIn b) (netIn b) (stepAfter (eventsIn b) w e) in
+        let stop = stoppedAt (eventsIn b) (netIn b) (length w) (stepAfter (eventsIn b) w e) in
         record {
           permitted = permitted-exactly b (w ++ e ∷ []) readable;
           stopped = λ t.
-              let stops : screen (eventsIn b) (netIn b) (w ++ e ∷ []) ≡ stopped (length w) j = is ∙ ap (λ (p : Bool). cond p permitted (stopped (length w) j)) (no-false (permits (eventsIn b) (netIn b) (w ++ e ∷ [])) t) in
-              (j, screened-replayed b (w ++ e ∷ []) readable ∙ ap replayed stops);
+              let stops : screen (eventsIn b) (netIn b) (w ++ e ∷ []) ≡ stop = is ∙ ap (λ (p : Bool). cond p permitted stop) (no-false (permits (eventsIn b) (netIn b) (w ++ e ∷ [])) t) in
+              screened-replayed b (w ++ e ∷ []) readable ∙ ap replayed stops;
         }
 
 -- ---- two accepted bundles

@@ -1,7 +1,7 @@
 -- The user's three demands, as types: the summary. Proved.antt proves each of them; docs/ASSURANCE.md says how to read them.
 -- A page for each group of calls says exactly when which refusal meets a call, and at which spot, in the words of the requirements: Opening.antt
 -- (open, seal), Tables.antt (fresh, take, and what stands in a table), Judging.antt and Screening.antt. Here they are gathered by name. A page for
--- each change request says what it promised beyond that: BlockOrder.antt (request 1). The demands are stated with the requests' changes in them.
+-- each change request says what it promised beyond that: BlockOrder.antt (request 1), Shortfalls.antt (2). The demands are stated with the requests' changes in them.
 -- A file, a bundle, an output, a table and a word are lists of numbers; `Bytes` says that each number is below 256.
 use mathlib.Core.Path.{_≡_}
 use mathlib.Core.Bool.{true, false, not}
@@ -20,10 +20,10 @@ use Rattle.refusals.specs.Laws.{Ends}
 use Rattle.refusals.specs.declared.Refusal.{Refusal}
 use Rattle.refusals.specs.declared.Written.the-variants as writing
 use Rattle.block.specs.File.{opened, sealed, blocksFor}
-use Rattle.nets.specs.Nets.{Word, Log, Net, permits, rows, eventCount}
+use Rattle.nets.specs.Nets.{Word, Log, Net, stepAfter, permits, firstRefusing, shortfallOf, rows, eventCount}
 use Rattle.nets.specs.Words.{Prefix, PermitsLog}
 use Rattle.nets.specs.Comparison.{PrefixesIn}
-use Rattle.nets.specs.Screening.{FirstRefused}
+use Rattle.nets.specs.Screening.{FirstRefused, shortfallAt}
 use Rattle.nets.specs.TokenGame.{placesOf}
 use Rattle.nets.specs.SeparationProblems.{Complete, Suboptimal}
 use Rattle.logs.specs.Rows.{withRows, cleared}
@@ -135,8 +135,10 @@ pub record Demand2 : Type 0 where
   pub suboptimal : (b : List ℕ) → Bytes b → (c : Tally) (d : Contents) → AcceptedAs b c d
       → Suboptimal (eventsIn b) (Prefix (logIn b)) (placesOf (netIn b))
   pub permitted : (b : List ℕ) (w : Word) → Readable b w → (screened b w ≡ screening.Permitted) ↔ T (permits (eventsIn b) (netIn b) w)
-  pub stopped : (b : List ℕ) (w : Word) → Readable b w → (i j : ℕ) → (screened b w ≡ screening.Stopped (record { position = i; place = j }))
-      ↔ FirstRefused (eventsIn b) (netIn b) w i j
+  -- position and place are those of the first refused step; the third number is how many tokens that place lacks there
+  pub stopped : (b : List ℕ) (w : Word) → Readable b w → (i j k : ℕ)
+      → (screened b w ≡ screening.Stopped (record { position = i; place = j; shortfall = k }))
+      ↔ (FirstRefused (eventsIn b) (netIn b) w i j × (k ≡ shortfallAt (eventsIn b) (netIn b) w i j))
   pub readable : (b : List ℕ) → Bytes b → (w : Word) → Readable b w ↔ ((h : Head) × (rest : List ℕ) × Screenable b w h rest)
   -- accepted or not, the head that the layout has in front of the bundle is the one that these lines speak of
   pub readable-head : (b : List ℕ) → Bytes b → (w : Word) (h : Head) (rest : List ℕ) → Screenable b w h rest → headOf b ≡ h
@@ -160,10 +162,14 @@ pub record FileAccepted (file output table b : List ℕ) (c : Tally) : Type 0 wh
   pub accepted : verdict (length table) b ≡ judging.Accepted c
 
 -- '.. screening .. answers permitted exactly when that net permits it, and otherwise stops at the added event': the answer s is so for the
--- net over n events, the prefix w and the event e
+-- net over n events, the prefix w and the event e; where it stops, it names the lowest place that refuses e, and how many tokens that lacks
 pub record ScreenedAtEnd (s : Screened) (n : ℕ) (net : Net) (w : Word) (e : ℕ) : Type 0 where
   pub permitted : (s ≡ screening.Permitted) ↔ T (permits n net (w ++ e ∷ []))
-  pub stopped : T (not (permits n net (w ++ e ∷ []))) → (j : ℕ) × (s ≡ screening.Stopped (record { position = length w; place = j }))
+  pub stopped : T (not (permits n net (w ++ e ∷ []))) → s ≡ screening.Stopped (record {
+    position = length w;
+    place = firstRefusing n net (stepAfter n w e);
+    shortfall = shortfallOf n net (firstRefusing n net (stepAfter n w e)) (stepAfter n w e);
+  })
 
 -- of the prefix w and the event e, for the bundles b₁ and b₂
 pub record Longer (b₁ b₂ : List ℕ) (w : Word) (e : ℕ) : Type 0 where

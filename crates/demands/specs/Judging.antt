@@ -10,7 +10,7 @@ use Rattle.laws.specs.Lists.{among}
 use Rattle.laws.specs.Numbers.{numberAt}
 use Rattle.refusals.specs.Results.{refused}
 use Rattle.refusals.specs.Answers.{refusal}
-use Rattle.nets.specs.Nets.{Word, Log, Step, Place, eventCount}
+use Rattle.nets.specs.Nets.{Word, Log, Step, noPlace, eventCount}
 use Rattle.nets.specs.Fits.{Fits}
 use Rattle.bundles.specs.Reading.{got, byte, number}
 use Rattle.bundles.specs.Layout.{Head, Contents, WeightFields, kind0, kind1, wrongIn, toNet, bytesOf}
@@ -29,10 +29,6 @@ pub record Sized (tableSize : ℕ) (b : List ℕ) : Type 0 where
   pub some : 1 ≤ length b
   pub most : length b ≤ 64512
   pub table : 3328 ≤ tableSize
-
--- what `getD` gives beyond the places of a net; no number below their count gets it
-abbrev pub noPlace : Place
-noPlace = record { initial = 0; produced = λ i. 0; consumed = λ i. 0 }
 
 -- place j of the head does not fit, and each lower one does
 pub record LowestMisfit (h : Head) (j : ℕ) : Type 0 where

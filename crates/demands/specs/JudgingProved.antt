@@ -15,7 +15,7 @@ use Rattle.limits.specs.Limits.{rightSize, rightSize-bounds, rightSize-intro, r
 use Rattle.refusals.specs.Table.{PLACE-MISFIT, PLACE-PERMITS, WEIGHTS, BYTES-FOLLOW}
 use Rattle.refusals.specs.Results.{refused}
 use Rattle.refusals.specs.Answers.{refusal}
-use Rattle.nets.specs.Nets.{Log, Step, Place, fits}
+use Rattle.nets.specs.Nets.{Log, Step, Place, noPlace, fits}
 use Rattle.nets.specs.Fits.{Fits, LogBelow}
 use Rattle.nets.specs.Regions.{region-permits, region-fits}
 use Rattle.logs.specs.Answers.{TABLE}
@@ -27,7 +27,7 @@ use Rattle.verdicts.specs.Judging.{unsolved, judging, verdict}
 use Rattle.verdicts.specs.Reached.{UnsolvedNext, NotSolved}
 use Rattle.verdicts.specs.Causes.{judging-10, judging-unsolved, judging-field, judging-13, judge-4, judge-5, judge-later}
 use Rattle.verdicts.specs.declared.Verdict.the-variants as verdicts
-use Rattle.demands.specs.Judging.{Sized, noPlace, LowestMisfit, JudgeExactly, FieldsExactly}
+use Rattle.demands.specs.Judging.{Sized, LowestMisfit, JudgeExactly, FieldsExactly}
 
 -- ---- The tests before bundle order
 

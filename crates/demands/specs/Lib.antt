@@ -3,12 +3,14 @@ pub mod BlockOrder
 pub mod Tables
 pub mod Judging
 pub mod Screening
+pub mod Shortfalls
 pub mod Demands
 pub mod OpeningProved
 pub mod BlockOrderProved
 pub mod TablesProved
 pub mod JudgingProved
 pub mod ScreeningProved
+pub mod ShortfallsProved
 pub mod Comparing
 pub mod Proved
 pub mod Files

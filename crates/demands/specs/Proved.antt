@@ -70,7 +70,7 @@ demand-2 = record {
   complete = net-complete;
   suboptimal = net-suboptimal;
   permitted = permitted-exactly;
-  stopped = stopped-exactly;
+  stopped = λ b w readable i j k. stopped-exactly b w readable (record { position = i; place = j; shortfall = k });
   readable = readable-exactly;
   readable-head = screenable-head;
   seals = seals;

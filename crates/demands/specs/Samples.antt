@@ -7,11 +7,11 @@ use lib.Dec.{ltb}
 use lib.ListN.{length}
 use Rattle.laws.specs.Lists.{all, any, keep, tabulate, equal, member}
 use Rattle.laws.specs.Numbers.{numberAt}
-use Rattle.laws.specs.Differences.{sumℤ}
+use Rattle.laws.specs.Differences.{negativePart, sumℤ}
 use Rattle.laws.specs.Scans.{firstFailing}
 use Rattle.limits.specs.Limits.{rightSize}
 use Rattle.refusals.specs.Results.{bind}
-use Rattle.nets.specs.Nets.{Log, same, occurrences, eventCount, weighed, beginnings, prefixes, addRow, counts, stepAfter, tokens, surplus, placePermits, netPermits, permitsAfter, permits, firstRefusing, screenAfter, screen, rows, allowed, rowSteps, continuations, allowedSteps, wrongContinuations, fits, refusedBy, weighsBefore, weighsAfter, weightsHold, solves, isByPlace, tally}
+use Rattle.nets.specs.Nets.{Log, same, occurrences, eventCount, weighed, beginnings, prefixes, addRow, counts, stepAfter, tokens, surplus, placePermits, shortfall, netPermits, permitsAfter, permits, firstRefusing, shortfallOf, stoppedAt, screenAfter, screen, rows, allowed, rowSteps, continuations, allowedSteps, wrongContinuations, fits, refusedBy, weighsBefore, weighsAfter, weightsHold, solves, isByPlace, tally}
 use Rattle.nets.specs.Events.{firstBad}
 use Rattle.logs.specs.Answers.{TABLE}
 use Rattle.bundles.specs.Reading.{require, field, byte, number, each, onward}
@@ -30,10 +30,10 @@ ofVerdict : Verdict → List ℕ
 ofVerdict (verdicts.Accepted c) = 0 ∷ c .rows ∷ c .allowed ∷ c .«by_place» ∷ c .«by_weights» ∷ []
 ofVerdict (verdicts.Refused r) = r .number ∷ r .spot ∷ []
 
--- 0 where it is permitted; 256, position and place where it is stopped; or the refusal's number and spot
+-- 0 where it is permitted; 256, position, place and shortfall where it is stopped; or the refusal's number and spot
 ofScreened : Screened → List ℕ
 ofScreened answers.Permitted = 0 ∷ []
-ofScreened (answers.Stopped s) = 256 ∷ s .position ∷ s .place ∷ []
+ofScreened (answers.Stopped s) = 256 ∷ s .position ∷ s .place ∷ s .shortfall ∷ []
 ofScreened (answers.Refused r) = r .number ∷ r .spot ∷ []
 
 -- case A: 53 bytes
@@ -55,9 +55,9 @@ samples =
     -- B
     ∷ (ofScreened (screened bytesA (0 ∷ 1 ∷ [])), 0 ∷ [])
     -- C
-    ∷ (ofScreened (screened bytesA (1 ∷ 0 ∷ [])), 256 ∷ 1 ∷ 0 ∷ [])
+    ∷ (ofScreened (screened bytesA (1 ∷ 0 ∷ [])), 256 ∷ 1 ∷ 0 ∷ 1 ∷ [])
     -- D
-    ∷ (ofScreened (screened bytesA (0 ∷ 0 ∷ 0 ∷ [])), 256 ∷ 2 ∷ 1 ∷ [])
+    ∷ (ofScreened (screened bytesA (0 ∷ 0 ∷ 0 ∷ [])), 256 ∷ 2 ∷ 1 ∷ 1 ∷ [])
     -- E
     ∷ (ofVerdict (verdict TABLE (1 ∷ 0 ∷ 1 ∷ 0 ∷ 0 ∷ 0 ∷ 0 ∷ 1 ∷ 0 ∷ 0 ∷ 0 ∷ [])), 0 ∷ 1 ∷ 0 ∷ 1 ∷ 0 ∷ [])
     -- F
@@ -99,7 +99,7 @@ samples =
     ∷ (ofScreened (screened (1 ∷ 0 ∷ 1 ∷ 0 ∷ 0 ∷ 0 ∷ 0 ∷ 1 ∷ []) (0 ∷ [])), 6 ∷ 7 ∷ [])
     ∷ (ofScreened (screened bytesA (0 ∷ 2 ∷ [])), 15 ∷ 1 ∷ [])
     ∷ (ofScreened (screened bytesA []), 0 ∷ [])
-    ∷ (ofScreened (screened (1 ∷ 0 ∷ 1 ∷ 0 ∷ 0 ∷ 0 ∷ 0 ∷ 1 ∷ 0 ∷ 9 ∷ []) (0 ∷ [])), 256 ∷ 0 ∷ 0 ∷ [])
+    ∷ (ofScreened (screened (1 ∷ 0 ∷ 1 ∷ 0 ∷ 0 ∷ 0 ∷ 0 ∷ 1 ∷ 0 ∷ 9 ∷ []) (0 ∷ [])), 256 ∷ 0 ∷ 0 ∷ 1 ∷ [])
     ∷ []
 
 -- case A with a further word 0, and twice the numbers of its second place
@@ -137,7 +137,7 @@ pub record Computed : Type 0 where
   pub refuses10 : permits (eventsIn bytesA) (netIn bytesA) (1 ∷ 0 ∷ []) ≡ false
 
 pub computed : Computed
-unfolding ofVerdict ofScreened bytesA logI samples all any keep tabulate equal numberAt firstFailing sumℤ same occurrences eventCount weighed beginnings prefixes addRow counts tokens surplus placePermits netPermits firstRefusing screenAfter screen rows allowed rowSteps continuations allowedSteps wrongContinuations fits refusedBy weighsBefore weighsAfter weightsHold solves isByPlace tally firstBad flatMap bind onward require field byte number each toPlace toNet toTerm toCertificate toBundle rightSize wordAfter word place places headAfter head bundleSize bundleHead term weights ofKind certificate unsolved solved atEnd afterHead contents judging judged verdictOf verdict replayed wordOn screening screenedOf screened bytesA′ countsA headOf headIn permits permitsAfter
+unfolding ofVerdict ofScreened bytesA logI samples all any keep tabulate equal numberAt firstFailing negativePart sumℤ same occurrences eventCount weighed beginnings prefixes addRow counts tokens surplus placePermits shortfall netPermits firstRefusing shortfallOf stoppedAt screenAfter screen rows allowed rowSteps continuations allowedSteps wrongContinuations fits refusedBy weighsBefore weighsAfter weightsHold solves isByPlace tally firstBad flatMap bind onward require field byte number each toPlace toNet toTerm toCertificate toBundle rightSize wordAfter word place places headAfter head bundleSize bundleHead term weights ofKind certificate unsolved solved atEnd afterHead contents judging judged verdictOf verdict replayed wordOn screening screenedOf screened bytesA′ countsA headOf headIn permits permitsAfter
 computed = record {
   samplesHold = refl;
   acceptedA = refl;

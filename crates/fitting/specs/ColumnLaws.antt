@@ -18,14 +18,14 @@ use Rattle.laws.specs.Lists.{all-member, all-intro, tabulate, tabulate-inverse}
 use Rattle.laws.specs.Scans.{failing-never}
 use Rattle.laws.specs.Sums.{sum, sum-same}
 use Rattle.limits.specs.Limits.{MAX-EVENTS}
-use Rattle.nets.specs.Nets.{Place, Step, Counts, at, tokens, surplus, placePermits, fits}
+use Rattle.nets.specs.Nets.{Place, noPlace, Step, Counts, at, tokens, surplus, placePermits, fits}
 use Rattle.nets.specs.Surplus.{given, taken, tokens-is, given-next, taken-next, tokens-row, permits→le, le→permits, tokens-zeros}
 use Rattle.logs.specs.Rows.{Row, none, rowAt, rowsOf}
 use Rattle.bundles.specs.Readers.{eventsIn, logIn, netIn}
 use Rattle.bundles.specs.HeadReading.{net-size}
 use Rattle.heads.specs.Heads.{HeadHeld}
 use Rattle.heads.specs.declared.TakenHead.{TakenHead}
-use Rattle.fitting.specs.Fitting.{rowFits, fitsRows, misfitIn, noPlace, placeIn}
+use Rattle.fitting.specs.Fitting.{rowFits, fitsRows, misfitIn, placeIn}
 use Rattle.fitting.specs.FittingLaws.{permits-front, fits-held}
 use Rattle.fitting.specs.Columns.{WIDTH, MATRIX, inRow, outRow, column, SamePlace, Marking, Covered, Shifted, Recounted, Beside, Filled, putBetween, tookBetween, Between}
 

@@ -9,7 +9,7 @@ use Rattle.laws.specs.Lists.{all, tabulate}
 use Rattle.laws.specs.Bits.{bit}
 use Rattle.laws.specs.Scans.{firstFailing}
 use Rattle.limits.specs.Limits.{MAX-EVENTS}
-use Rattle.nets.specs.Nets.{Place, placePermits, fits}
+use Rattle.nets.specs.Nets.{Place, noPlace, placePermits, fits}
 use Rattle.logs.specs.Rows.{Row}
 use Rattle.bundles.specs.Readers.{eventsIn, logIn, netIn}
 
@@ -32,10 +32,6 @@ eventsFit tokens consumed mask = all (eventFits tokens consumed mask) (tabulate 
 -- the first place of a bundle's net that does not fit its log, or the number of places
 abbrev pub misfitIn : List ℕ → ℕ
 misfitIn b = firstFailing (fits (eventsIn b) (logIn b)) (netIn b)
-
--- a place without tokens, for an index behind the last place
-abbrev pub noPlace : Place
-noPlace = record { initial = 0; produced = λ e. 0; consumed = λ e. 0 }
 
 -- place j of a bundle's net
 abbrev pub placeIn : List ℕ → ℕ → Place

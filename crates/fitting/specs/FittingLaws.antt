@@ -13,7 +13,7 @@ use Rattle.laws.specs.Booleans.{same-test, yes-true, implied, implies}
 use Rattle.laws.specs.Bits.{bit, bit-of-zero}
 use Rattle.laws.specs.Lists.{all, all-member, all-intro, all-next, getD-map, tabulate, length-tabulate, getD-tabulate, tabulate-member, tabulate-inverse}
 use Rattle.limits.specs.Limits.{MAX-EVENTS}
-use Rattle.nets.specs.Nets.{Log, Counts, Step, Place, tokens, surplus, placePermits, rows, allowed, allowedSteps, fits}
+use Rattle.nets.specs.Nets.{Log, Counts, Step, Place, noPlace, tokens, surplus, placePermits, rows, allowed, allowedSteps, fits}
 use Rattle.nets.specs.CountLaws.{length-counts}
 use Rattle.nets.specs.Fits.{LogBelow, allowed-listed}
 use Rattle.nets.specs.Machine.{placeOf}
@@ -33,7 +33,7 @@ use Rattle.bundles.specs.HeadReading.{HeadAt}
 use Rattle.bundles.specs.declared.Places.{Places}
 use Rattle.heads.specs.Heads.{HeadHeld}
 use Rattle.heads.specs.declared.TakenHead.{TakenHead}
-use Rattle.fitting.specs.Fitting.{rowFits, fitsRows, eventFits, eventsFit, noPlace, placeIn}
+use Rattle.fitting.specs.Fitting.{rowFits, fitsRows, eventFits, eventsFit, placeIn}
 
 -- ---- a row
 

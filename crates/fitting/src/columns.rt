@@ -7,6 +7,7 @@ use logs::rows::ROW;
 use nets::Place;
 use nets::gain;
 use nets::has_bit;
+use nets::shortfall;
 use nets::surplus;
 ghost use mathlib.Core.Path.{_≡_};
 ghost use mathlib.Core.Bool.{true};
@@ -58,8 +59,8 @@ fn shift(tokens: &mut [i64], count: usize, matrix: &[u16], plus: usize, minus: u
     shift_times(tokens, count, matrix, plus, minus, times);
 }
 
-// Whether the surplus is 0 or more in each column, where an event takes what the row at an offset says. The sign of `all` is set where that of
-// one surplus is: so it takes no branch.
+// Whether no column lacks a token, where an event takes what the row at an offset says. The sign of `all` is set where that of one surplus is,
+// so one test serves for all of them: `shortfall(all)` is no column's shortfall, but 0 exactly when each one's is.
 fn covers_row(tokens: &[i64], count: usize, matrix: &[u16], at: usize) -> bool
     requires { ⌜ (count ≤ length (now tokens))
         × (at + count ≤ length (now matrix))
@@ -72,7 +73,7 @@ fn covers_row(tokens: &[i64], count: usize, matrix: &[u16], at: usize) -> bool
         all = all | surplus(tokens[j], matrix[at + j]);
         j += 1;
     }
-    0 <= all
+    shortfall(all) == 0
 }
 
 // The tokens where event i goes from `before` to `after` occurrences.

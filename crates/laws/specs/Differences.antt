@@ -1,15 +1,15 @@
 -- Signed numbers as differences of two natural numbers, `subℕ a b`: each law takes a statement on signed numbers to one on natural
 -- numbers, which `omega` reads.
 use mathlib.Core.Path.{_≡_, refl, sym, ap, ap₂, _∙_, subst}
-use mathlib.Core.Bool.{Bool, true, false, cond}
+use mathlib.Core.Bool.{Bool, true, false, not, cond}
 use mathlib.Core.Logic.{_↔_}
 use Prim.Native.Nat.{ℕ, zero, suc, _+_, _-_, _*_, _≤_, _<_, zero-le}
 use native.Mathlib.Nat.{add-zero, zero-mul, suc-mul}
 use native.Mathlib.Omega.{arith}
-use lib.Dec.{T, ltb, le→leb, leb→le}
+use lib.Dec.{T, eqb, ltb, le→leb, leb→le}
 use lib.IntN.{ℤ, pos, negsuc, negℤ, subℕ, _+ℤ_, _-ℤ_, _*ℤ_, +ℤ-assoc, +ℤ-comm, negℤ-+ℤ, zero-*ℤ, sucℤ-*ℤ}
 use lib.Signed.{mag, nonNeg, leZ, _≤ℤ_, leZ-yes, yes-nonNeg}
-use borrow.Author.Tests.{ltb-true, ltb-false, le-ltb, le-leb}
+use borrow.Author.Tests.{ltb-true, ltb-false, le-ltb, le-leb, ne-eqb}
 use Rattle.laws.specs.Sums.{sum}
 
 pub difference : (a b : ℕ) → pos a -ℤ pos b ≡ subℕ a b
@@ -103,6 +103,37 @@ mag-difference a b h p q = go (ltb a b)
     go : (t : Bool) → mag (cond t (negsuc (b - suc a)) (pos (a - b))) < h
     go true = omega arith
     go false = omega arith
+
+-- ---- How far below 0
+
+-- the negative part of a signed number: 0 where it is 0 or more, else its opposite
+unfoldable pub negativePart : ℤ → ℕ
+negativePart (pos n) = 0
+negativePart (negsuc n) = suc n
+
+pub negative-none : (z : ℤ) → (negativePart z ≡ 0) ↔ T (nonNeg z)
+unfolding negativePart
+negative-none (pos n) = ((λ e. tt), λ t. refl)
+negative-none (negsuc n) = ((λ e. absurd (let z : suc n ≡ 0 = e in omega arith)), λ t. absurd t)
+
+-- as code tests it
+pub negative-tested : (z : ℤ) → eqb (negativePart z) 0 ≡ nonNeg z
+unfolding negativePart
+negative-tested (pos n) = refl
+negative-tested (negsuc n) = ne-eqb (suc n) 0 (λ e. omega arith)
+
+pub negative-opposite : (z : ℤ) → T (not (nonNeg z)) → pos (negativePart z) ≡ negℤ z
+unfolding negativePart
+negative-opposite (pos n) t = absurd t
+negative-opposite (negsuc n) t = refl
+
+pub negative-difference : (a b : ℕ) → negativePart (subℕ a b) ≡ b - a
+unfolding negativePart
+negative-difference a b = go (ltb a b) refl
+  where
+    go : (t : Bool) → ltb a b ≡ t → negativePart (cond t (negsuc (b - suc a)) (pos (a - b))) ≡ b - a
+    go true e = omega (arith, ltb-true a b e)
+    go false e = omega (arith, ltb-false a b e)
 
 -- ---- Sums
 

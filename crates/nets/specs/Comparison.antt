@@ -10,7 +10,7 @@ use lib.Ieee.Fits.{and-i, and-l, and-r}
 use Rattle.laws.specs.Lists.{all-intro, keep, keep-in}
 use Rattle.laws.specs.Booleans.{decide, same-test}
 use Rattle.laws.specs.Distinct.{distinct-same-length, distinct-keep}
-use Rattle.nets.specs.Nets.{Word, Log, Net, Step, Counts, Certificate, byPlace, byWeights, Bundle, stepAfter, placePermits, netPermits, permits, permitted, stopped, firstRefusing, screen, rows, allowed, continuations, allowedSteps, wrongContinuations, solves, solvesAll, accepted, isByPlace, tally}
+use Rattle.nets.specs.Nets.{Word, Log, Net, Step, Counts, Certificate, byPlace, byWeights, Bundle, stepAfter, placePermits, netPermits, permits, permitted, stoppedAt, screen, rows, allowed, continuations, allowedSteps, wrongContinuations, solves, solvesAll, accepted, isByPlace, tally}
 use Rattle.nets.specs.Words.{PermitsLog, →permitsLog, Prefix, word-prefix, permits-snoc, permits-prefix, permits-allowed, allowed-more}
 use Rattle.nets.specs.Rows.{row→, →row, rows-distinct, continuation→, →continuation, allowedStep→, →allowedStep, allowedSteps-distinct, wrong→, →wrong, wrong-distinct}
 use Rattle.nets.specs.Screening.{screen-snoc}
@@ -170,12 +170,12 @@ module _ (b₁ b₂ : Bundle) (acc₁ : T (accepted b₁)) (acc₂ : T (accepted
 
     -- screening answers permitted exactly when the net permits, and otherwise stops at the added event
     pub first-screened : screen (b₁ .events) (b₁ .net) (w ++ e ∷ [])
-        ≡ cond (permits (b₁ .events) (b₁ .net) (w ++ e ∷ [])) permitted (stopped (length w) (firstRefusing (b₁ .events) (b₁ .net) (stepAfter (b₁ .events) w e)))
+        ≡ cond (permits (b₁ .events) (b₁ .net) (w ++ e ∷ [])) permitted (stoppedAt (b₁ .events) (b₁ .net) (length w) (stepAfter (b₁ .events) w e))
     unfolding first judged
     first-screened = screen-snoc (b₁ .events) (b₁ .net) w e (permits-prefix (b₁ .events) (b₁ .net) (b₁ .log) (first .permitted) w pre)
 
     pub second-screened : screen (b₂ .events) (b₂ .net) (w ++ e ∷ [])
-        ≡ cond (permits (b₂ .events) (b₂ .net) (w ++ e ∷ [])) permitted (stopped (length w) (firstRefusing (b₂ .events) (b₂ .net) (stepAfter (b₂ .events) w e)))
+        ≡ cond (permits (b₂ .events) (b₂ .net) (w ++ e ∷ [])) permitted (stoppedAt (b₂ .events) (b₂ .net) (length w) (stepAfter (b₂ .events) w e))
     unfolding second judged
     second-screened = rw (← same-events) (screen-snoc (b₁ .events) (b₂ .net) w e (permits-prefix (b₁ .events) (b₂ .net) (b₂ .log) (second .permitted) w (to w pre)))
 

@@ -7,6 +7,7 @@ pub mod Rows
 pub mod Fits
 pub mod Certificates
 pub mod Screening
+pub mod Shortfall
 pub mod Comparison
 pub mod CountLaws
 pub mod Events

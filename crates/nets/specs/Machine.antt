@@ -15,3 +15,6 @@ pub record Held (t : ℤ) : Type 0 where
   pub minus : ℕ
   pub is : t ≡ subℕ plus minus
   pub far : (plus < 2 ^ 62) × (minus < 2 ^ 62)
+
+pub held : {t : ℤ} (plus minus : ℕ) → plus < 2 ^ 62 → minus < 2 ^ 62 → t ≡ subℕ plus minus → Held t
+held plus minus p m is = record { plus = plus; minus = minus; is = is; far = (p, m) }

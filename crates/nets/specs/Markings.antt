@@ -6,18 +6,61 @@ use Prim.Native.Nat.{ℕ, _+_, _-_, _*_, _≤_, _<_}
 use native.Mathlib.Nat.{add-assoc, add-mul}
 use native.Mathlib.Omega.{arith}
 use lib.Dec.{T}
-use lib.IntN.{ℤ, pos, subℕ, _+ℤ_, _-ℤ_}
+use lib.IntN.{ℤ, pos, subℕ, _+ℤ_, _-ℤ_, +ℤ-comm}
 use lib.Signed.{nonNeg}
 use mir.Syntax.{w64}
 use mir.Val.{ofZ, toZ}
 use mir.Facts.{toZ-pos}
 use Rattle.laws.specs.Sums.{sum, sum-add, sum-same}
-use Rattle.laws.specs.Differences.{difference, difference-add, pos-difference, nonNeg-difference, pos-of-difference}
-use Rattle.nets.specs.Nets.{Word, Place, at, same, occurrences, counts, stepAfter, tokens, surplus, placePermits}
-use Rattle.nets.specs.Machine.{Held}
+use Rattle.laws.specs.Differences.{difference, difference-minus, pos-difference, nonNeg-difference, pos-of-difference, negativePart}
+use Rattle.nets.specs.Nets.{Word, Place, at, same, occurrences, counts, stepAfter, tokens, surplus, placePermits, shortfall}
+use Rattle.nets.specs.Machine.{Held, held}
 use Rattle.nets.specs.CountLaws.{at-counts, occurrences-snoc}
 use Rattle.nets.specs.Surplus.{given, taken, tokens-is, tokens-zeros}
 use Rattle.nets.specs.Weights.{pick}
+
+-- ---- One step on one place: tokens before, tokens behind
+
+-- what an event leaves of the tokens of a place: negative where they are too few
+abbrev pub left : Place → ℤ → ℕ → ℤ
+left p t e = t -ℤ pos (p .consumed e)
+
+-- the tokens cover what an event takes
+abbrev pub covered : Place → ℤ → ℕ → Bool
+covered p t e = nonNeg (left p t e)
+
+-- how many tokens are missing for it
+abbrev pub missing : Place → ℤ → ℕ → ℕ
+missing p t e = negativePart (left p t e)
+
+-- the tokens behind an event
+abbrev pub moved : Place → ℤ → ℕ → ℤ
+moved p t e = left p t e +ℤ pos (p .produced e)
+
+-- these are the definitions at a step, where the tokens are those after the events of u
+pub permits-is : (n : ℕ) (p : Place) (u : Word) (e : ℕ) → placePermits n p (stepAfter n u e) ≡ covered p (tokens n p (counts n u)) e
+unfolding placePermits surplus
+permits-is n p u e = refl
+
+pub shortfall-is : (n : ℕ) (p : Place) (u : Word) (e : ℕ) → shortfall n p (stepAfter n u e) ≡ missing p (tokens n p (counts n u)) e
+unfolding shortfall surplus
+shortfall-is n p u e = refl
+
+-- where the tokens cover what an event takes, the tokens behind it are a natural number
+covered-enough : (p : Place) (t e : ℕ) → covered p (pos t) e ≡ true → p .consumed e ≤ t
+covered-enough p t e h = nonNeg-difference t (p .consumed e) .0 (subst (λ (z : ℤ). T (nonNeg z)) (difference t (p .consumed e)) (rw h tt))
+
+pub moved-amount : (p : Place) (t e : ℕ) → p .consumed e ≤ t → moved p (pos t) e ≡ pos (t - p .consumed e + p .produced e)
+moved-amount p t e h = ap (λ (z : ℤ). z +ℤ pos (p .produced e)) (difference t (p .consumed e) ∙ pos-of-difference t (p .consumed e) h)
+
+moved-difference : (p : Place) (e a b : ℕ) → moved p (subℕ a b) e ≡ subℕ (a + p .produced e) (b + p .consumed e)
+moved-difference p e a b =
+    ap (λ (z : ℤ). z +ℤ pos (p .produced e)) (difference-minus a b (p .consumed e))
+    ∙ +ℤ-comm (subℕ a (b + p .consumed e)) (pos (p .produced e))
+    ∙ pos-difference (p .produced e) a (b + p .consumed e)
+    ∙ ap (λ (k : ℕ). subℕ k (b + p .consumed e)) (omega arith)
+
+-- ---- Along a word
 
 module _ (n : ℕ) where
   -- the sum of f over the events of u
@@ -35,41 +78,16 @@ module _ (n : ℕ) where
   unfolding occurrences
   tokens-none p = tokens-zeros n p (counts n []) (λ i b. at-counts n [] i b)
 
-  -- an event puts in(e) there and takes out(e)
-  pub tokens-snoc : (p : Place) (u : Word) (e : ℕ) → e < n → tokens n p (counts n (u ++ e ∷ [])) ≡ tokens n p (counts n u) +ℤ (pos (p .produced e) -ℤ pos (p .consumed e))
+  -- an event takes out(e) and puts in(e) there
+  pub tokens-snoc : (p : Place) (u : Word) (e : ℕ) → e < n → tokens n p (counts n (u ++ e ∷ [])) ≡ moved p (tokens n p (counts n u)) e
   unfolding given taken
   tokens-snoc p u e h =
       tokens-is n p (counts n (u ++ e ∷ []))
       ∙ ap₂ subℕ
       (ap (λ (k : ℕ). p .initial + k) (over-snoc (p .produced) u e h) ∙ sym (add-assoc (p .initial) (over (p .produced) u) (p .produced e)))
       (over-snoc (p .consumed) u e h)
-      ∙ sym (difference-add (p .initial + over (p .produced) u) (over (p .consumed) u) (p .produced e) (p .consumed e))
-      ∙ ap₂ _+ℤ_ (sym (tokens-is n p (counts n u))) (sym (difference (p .produced e) (p .consumed e)))
-
--- ---- One step on one place: tokens before, tokens behind
-
--- the tokens cover what an event takes
-abbrev pub covered : Place → ℤ → ℕ → Bool
-covered p t e = nonNeg (t -ℤ pos (p .consumed e))
-
--- which is whether the place permits it, where they are its tokens after the events of u
-pub permits-is : (n : ℕ) (p : Place) (u : Word) (e : ℕ) → placePermits n p (stepAfter n u e) ≡ covered p (tokens n p (counts n u)) e
-unfolding placePermits surplus
-permits-is n p u e = refl
-
--- the tokens behind an event
-abbrev pub moved : Place → ℤ → ℕ → ℤ
-moved p t e = t +ℤ (pos (p .produced e) -ℤ pos (p .consumed e))
-
--- where the tokens cover what an event takes, the tokens behind it are a natural number
-covered-enough : (p : Place) (t e : ℕ) → covered p (pos t) e ≡ true → p .consumed e ≤ t
-covered-enough p t e h = nonNeg-difference t (p .consumed e) .0 (subst (λ (z : ℤ). T (nonNeg z)) (difference t (p .consumed e)) (rw h tt))
-
-pub moved-amount : (p : Place) (t e : ℕ) → p .consumed e ≤ t → moved p (pos t) e ≡ pos (t + p .produced e - p .consumed e)
-moved-amount p t e h =
-    ap (λ (z : ℤ). pos t +ℤ z) (difference (p .produced e) (p .consumed e))
-    ∙ pos-difference t (p .produced e) (p .consumed e)
-    ∙ pos-of-difference (t + p .produced e) (p .consumed e) (omega arith)
+      ∙ sym (moved-difference p e (p .initial + over (p .produced) u) (over (p .consumed) u))
+      ∙ ap (λ (z : ℤ). moved p z e) (sym (tokens-is n p (counts n u)))
 
 -- ---- Tokens of two-byte numbers
 
@@ -88,19 +106,20 @@ module _ {t : ℤ} {i : ℕ} (a : TokensAfter t i) where
   tokens-moved p e h few =
       let enough : p .consumed e ≤ a .amount = covered-enough p (a .amount) e (ap (λ (z : ℤ). covered p z e) (sym (a .is)) ∙ h) in
       record {
-        amount = a .amount + p .produced e - p .consumed e;
+        amount = a .amount - p .consumed e + p .produced e;
         is = ap (λ (z : ℤ). moved p z e) (a .is) ∙ moved-amount p (a .amount) e enough;
         most = omega (arith, a .most);
       }
 
   module _ (few : i ≤ 65535) where
+    -- the tokens, and what an event leaves of them
     pub after-held : Held t
-    after-held = record {
-      plus = a .amount;
-      minus = 0;
-      is = a .is ∙ rw (pos-of-difference (a .amount) 0 (omega arith)) (ap pos (omega arith));
-      far = (omega (arith, a .most), omega arith);
-    }
+    after-held = held (a .amount) 0 (omega (arith, a .most)) (omega arith) (a .is ∙ rw (pos-of-difference (a .amount) 0 (omega arith)) (ap pos (omega arith)))
+
+    pub left-held : (taken : ℕ) → taken ≤ 65535 → Held (t -ℤ pos taken)
+    left-held taken little =
+        held (a .amount) taken (omega (arith, a .most)) (omega arith)
+        (ap (λ (z : ℤ). z -ℤ pos taken) (a .is) ∙ difference (a .amount) taken)
 
     -- the bits of an `i64` say as much
     pub tokens-bits : toZ w64 (ofZ w64 t) ≡ t

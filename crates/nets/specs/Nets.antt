@@ -5,10 +5,10 @@ use mathlib.Core.List.{List, [], _∷_, _++_, map, flatMap, foldl}
 use Prim.Native.Nat.{ℕ, zero, suc, _+_, _*_}
 use lib.Dec.{leb, eqb}
 use lib.IntN.{ℤ, pos, _+ℤ_, _-ℤ_, _*ℤ_}
-use lib.ListN.{length, getD}
+use lib.ListN.{length, getD, take}
 use lib.Signed.{nonNeg}
 use Rattle.laws.specs.Lists.{all, any, keep, tabulate, equal, member}
-use Rattle.laws.specs.Differences.{sumℤ}
+use Rattle.laws.specs.Differences.{negativePart, sumℤ}
 use Rattle.laws.specs.Scans.{firstFailing}
 
 -- ---- What there is
@@ -41,6 +41,10 @@ pub record Place : Type 0 where
 abbrev pub Net : Type 0
 Net = List Place
 
+-- what `getD` gives beyond the places of a net: it permits every step
+abbrev pub noPlace : Place
+noPlace = record { initial = 0; produced = λ i. 0; consumed = λ i. 0 }
+
 -- a weight g on a step
 pub record Term : Type 0 where
   pub step : Step
@@ -68,8 +72,8 @@ pub record Bundle : Type 0 where
 -- the answer of screening a word
 pub data Answer : Type 0 where
   permitted : Answer
-  -- the position of the first refused step, and the lowest place that refuses it
-  stopped : ℕ → ℕ → Answer
+  -- the position of the first refused step, the lowest place that refuses it, and that place's shortfall there
+  stopped : ℕ → ℕ → ℕ → Answer
 
 -- ---- Counting
 
@@ -120,6 +124,10 @@ module _ (n : ℕ) where
   abbrev pub stepAfter : Word → ℕ → Step
   stepAfter u e = record { row = counts u; event = e }
 
+  -- the step of a word at a position
+  abbrev pub stepAt : Word → ℕ → Step
+  stepAt w i = stepAfter (take i w) (getD w i 0)
+
   -- ---- The log's rows and steps
 
   -- the rows: the distinct count vectors of prefixes, by first occurrence
@@ -159,6 +167,10 @@ module _ (n : ℕ) where
   -- a place permits e after v when the surplus is 0 or more, and refuses it when negative
   unfoldable pub placePermits : Place → Step → Bool
   placePermits p s = nonNeg (surplus p s)
+
+  -- the shortfall at (v, e): 0 where the surplus is 0 or more, else minus the surplus
+  unfoldable pub shortfall : Place → Step → ℕ
+  shortfall p s = negativePart (surplus p s)
 
   -- every place permits the step
   unfoldable pub netPermits : Net → Step → Bool
@@ -224,11 +236,19 @@ module _ (n : ℕ) where
   unfoldable pub firstRefusing : Net → Step → ℕ
   firstRefusing net s = firstFailing (λ p. placePermits p s) net
 
+  -- the shortfall of place number j
+  unfoldable pub shortfallOf : Net → ℕ → Step → ℕ
+  shortfallOf net j s = shortfall (getD net j noPlace) s
+
+  -- stopped at a position, where the step is s
+  unfoldable pub stoppedAt : Net → ℕ → Step → Answer
+  stoppedAt net i s = stopped i (firstRefusing net s) (shortfallOf net (firstRefusing net s) s)
+
   -- the first refused step of w, whose steps follow those of u
   unfoldable pub screenAfter : Net → Word → Word → Answer
   screenAfter net u [] = permitted
   screenAfter net u (e ∷ w) =
-      cond (netPermits net (stepAfter u e)) (screenAfter net (u ++ e ∷ []) w) (stopped (length u) (firstRefusing net (stepAfter u e)))
+      cond (netPermits net (stepAfter u e)) (screenAfter net (u ++ e ∷ []) w) (stoppedAt net (length u) (stepAfter u e))
 
   -- the first refused step of a word
   unfoldable pub screen : Net → Word → Answer

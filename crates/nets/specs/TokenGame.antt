@@ -6,9 +6,8 @@ use mathlib.Core.Bool.{Bool}
 use mathlib.Core.Logic.{_↔_, Iff·rfl}
 use mathlib.Core.List.{[], _∷_, _++_, foldl, foldl-append, append-nil, List·Memᴰ, List·Memᴰ·head, List·Memᴰ·tail}
 use Prim.Native.Nat.{ℕ, _+_, _-_, _≤_, _<_}
-use native.Mathlib.Omega.{arith}
 use lib.Dec.{T, leb→le, le→leb}
-use lib.IntN.{ℤ, pos, negℤ, _+ℤ_, _-ℤ_, +ℤ-assoc, +ℤ-comm}
+use lib.IntN.{ℤ, pos, _+ℤ_, _-ℤ_}
 use lib.Signed.{_≤ℤ_, leZ-yes}
 use lib.Seq.{append-snoc}
 use lib.Ieee.Fits.{and-i, and-l, and-r}
@@ -88,10 +87,7 @@ module _ (n : ℕ) where
     where
       one-more : M p -ℤ pos (p .consumed e) +ℤ pos (p .produced e) ≡ tokens n p (counts n (u ++ e ∷ []))
       one-more =
-          +ℤ-assoc (M p) (negℤ (pos (p .consumed e))) (pos (p .produced e))
-          ∙ ap (λ (z : ℤ). M p +ℤ z) (+ℤ-comm (negℤ (pos (p .consumed e))) (pos (p .produced e)))
-          ∙ ap (λ (z : ℤ). moved p z e) is
-          ∙ sym (tokens-snoc n p u e (below e (List·Memᴰ·head refl)))
+          ap (λ (z : ℤ). moved p z e) is ∙ sym (tokens-snoc n p u e (below e (List·Memᴰ·head refl)))
 
   -- (M₀ • w)(p) = M₀(p) + Ψ(w)(•p − p•): by definition `tokens` is the right side, and `counts n w` the Parikh vector Ψ(w)
   pub equation-1 : (w : Word) → Below n w → (p : Place) → afterWord initially w p ≡ tokens n p (counts n w)
@@ -192,8 +188,7 @@ module _ (n : ℕ) (N : Places) where
   reached-next : (M M′ : Marking) (u : Word) (e : ℕ) → Reached M u → e < n → Transition N M e M′ → Reached M′ (u ++ e ∷ [])
   reached-next M M′ u e is below t p m =
       let holds : p .consumed e ≤ M p = t .enabled p m in
-      let same : M p - p .consumed e + p .produced e ≡ M p + p .produced e - p .consumed e = omega arith in
-      ap pos (t .next p m ∙ same) ∙ sym (moved-amount p (M p) e holds) ∙ ap (λ (z : ℤ). moved p z e) (is p m) ∙ sym (tokens-snoc n p u e below)
+      ap pos (t .next p m) ∙ sym (moved-amount p (M p) e holds) ∙ ap (λ (z : ℤ). moved p z e) (is p m) ∙ sym (tokens-snoc n p u e below)
 
   run→ : (w u : Word) (M M′ : Marking) → Reached M u → Below n w → Run N M w M′ → EachAfter PermitAfter u w × Reached M′ (u ++ w)
   run→ [] u M M′ is below r = (tt, λ p m. ap pos (r p m) ∙ is p m ∙ ap (λ (x : Word). tokens n p (counts n x)) (sym (append-nil u)))

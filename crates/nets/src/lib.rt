@@ -7,6 +7,7 @@ ghost use lib.IntN.{pos, _-ℤ_, _*ℤ_};
 ghost use lib.ListN.{length};
 ghost use lib.Signed.{nonNeg};
 ghost use Rattle.laws.specs.Bits.{bit, withBit};
+ghost use Rattle.laws.specs.Differences.{negativePart};
 ghost use Rattle.limits.specs.Limits.{MAX-EVENTS};
 ghost use Rattle.nets.specs.Nets.{tokens as tokensAfter};
 ghost use Rattle.nets.specs.Events.{firstBad};
@@ -49,12 +50,23 @@ pub fn surplus(tokens: i64, consumed: u16) -> i64
     tokens - consumed as i64
 }
 
-// Whether a place permits an event that takes so many of its tokens: whether the surplus is 0 or more. (Inner function.)
+// The shortfall: how many tokens are missing, 0 where the surplus is 0 or more. This is the one test of a place. (Inner function.)
+pub fn shortfall(surplus: i64) -> u64
+    ensures { λ r. ⌜ r ≡ negativePart surplus ⌝ }
+{
+    if 0 <= surplus {
+        return 0;
+    }
+    // Negated after adding 1: the smallest `i64` has no opposite.
+    -(surplus + 1) as u64 + 1
+}
+
+// Whether a place permits an event that takes so many of its tokens: whether none is missing. (Inner function.)
 pub fn covers(tokens: i64, consumed: u16) -> bool
     requires { ⌜ Held tokens ⌝ }
     ensures { λ r. ⌜ r ≡ nonNeg (tokens -ℤ pos consumed) ⌝ }
 {
-    0 <= surplus(tokens, consumed)
+    shortfall(surplus(tokens, consumed)) == 0
 }
 
 // The position of the first event that is not below n, or the word's length. (Inner function.)

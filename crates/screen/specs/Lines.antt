@@ -13,9 +13,9 @@ use Rattle.screening.specs.declared.Screened.the-variants.{Permitted, Stopped, 
 
 -- the numbers of a stopped word, in the order of its line
 abbrev pub numbersOf : Stop → List ℕ
-numbersOf s = s .position ∷ s .place ∷ []
+numbersOf s = s .position ∷ s .place ∷ s .shortfall ∷ []
 
--- `permitted`, `stopped` and the two numbers, or the refusal
+-- `permitted`, `stopped` and the three numbers, or the refusal
 unfoldable pub screenedLine : Screened → List ℕ
 screenedLine Permitted = line (ascii "permitted") []
 screenedLine (Stopped s) = line (ascii "stopped") (numbersOf s)
@@ -33,7 +33,8 @@ screened-line-unique (Stopped s) (Stopped t) e =
     let same = line-unique (ascii "stopped") (ascii "stopped") (numbersOf s) (numbersOf t) refl refl e .1 in
     let position : s .position ≡ t .position = cc in
     let place : s .place ≡ t .place = cc in
-    λ i. Stopped (record { position = position i; place = place i })
+    let shortfall : s .shortfall ≡ t .shortfall = cc in
+    λ i. Stopped (record { position = position i; place = place i; shortfall = shortfall i })
 screened-line-unique (Refused r) (Refused s) e = ap Refused (refusal-line-unique r s e)
 screened-line-unique Permitted (Stopped t) e = words-differ 112 115 _ _ _ _ refl e
 screened-line-unique Permitted (Refused r) e = words-differ 112 114 _ _ _ _ refl e

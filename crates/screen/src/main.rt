@@ -193,7 +193,11 @@ fn write_screened(output: &mut [u8; LINE_SIZE], screened: Screened) -> usize
 {
     match screened {
         Screened::Permitted => write_line(output, b"permitted", &[]),
-        Screened::Stopped(stop) => write_line(output, b"stopped", &[stop.position, stop.place]),
+        Screened::Stopped(stop) => write_line(
+            output,
+            b"stopped",
+            &[stop.position, stop.place, stop.shortfall as usize],
+        ),
         Screened::Refused(refusal) => write_refusal(output, refusal),
     }
 }

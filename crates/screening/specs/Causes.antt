@@ -64,7 +64,7 @@ module _ (b : List ℕ) (w : Word) where
 
       go : (m : Read nets.Answer) → (screenedOf m ≡ answers.Refused (refusal number spot)) ↔ (m ≡ refused number spot)
       go (value (item permitted next)) = ((λ e. impossible cc), (λ e. impossible cc))
-      go (value (item (stopped i j) next)) = ((λ e. impossible cc), (λ e. impossible cc))
+      go (value (item (stopped i j k) next)) = ((λ e. impossible cc), (λ e. impossible cc))
       go (refused n s) = (same n s, (λ e. ap screenedOf e))
 
   screening-chain : screening w b 0 ≡ bind (results.require (leb (length w) MAX-WORD-EVENTS) WORD-LENGTH MAX-WORD-EVENTS)

@@ -32,5 +32,5 @@ screen-numbers b w = go (screening w b 0) (screening-refuses w .only b 0)
   where
     go : (m : Read nets.Answer) → Refuses screenNumbers m → among (screenedNumber (screenedOf m)) (0 ∷ STOPPED ∷ screenNumbers) ≡ true
     go (value (item permitted next)) r = refl
-    go (value (item (stopped i j) next)) r = refl
+    go (value (item (stopped i j k) next)) r = refl
     go (refused number spot) r = among-more 0 (STOPPED ∷ screenNumbers) number (among-more STOPPED screenNumbers number (r .only number spot refl))

@@ -2,111 +2,145 @@
 use mathlib.Core.Path.{_≡_, refl, sym, ap, _∙_}
 use mathlib.Core.Bool.{Bool, true, false, cond}
 use mathlib.Core.List.{[], _∷_, _++_}
-use Prim.Native.Nat.{ℕ, zero, suc, _+_, _≤_, _<_, min}
-use native.Mathlib.Nat.{not-suc-le-zero, le-of-suc-le-suc}
-use native.Mathlib.Numerals.{add-one}
+use Prim.Native.Nat.{ℕ, zero, suc, _+_, _≤_, _<_}
+use native.Mathlib.Nat.{not-suc-le-zero}
+use native.Mathlib.Numerals.{add-one, one-add}
 use native.Mathlib.Omega.{arith}
-use lib.IntN.{ℤ, pos}
-use lib.ListN.{length, take, drop, getD, drop-of-length-le}
+use lib.IntN.{ℤ, pos, _+ℤ_}
+use lib.ListN.{length, drop, getD, drop-of-length-le}
 use lib.Seq.{drop-cons}
 use mir.Syntax.{w64}
 use mir.Val.{ofZ, toZ}
 use mir.Facts.{toZ-pos}
-use Rattle.nets.specs.Nets.{Word, Place, counts, tokens, placePermits}
+use Rattle.nets.specs.Nets.{Word, Place, Step, counts, stepAfter, tokens, placePermits, shortfall}
 use Rattle.nets.specs.Events.{EventsBelow}
 use Rattle.nets.specs.Machine.{Held}
-use Rattle.nets.specs.Markings.{tokens-snoc, covered, permits-is, moved, TokensAfter, tokens-start, tokens-moved, after-held, tokens-bits}
+use Rattle.nets.specs.Markings.{tokens-snoc, left, covered, missing, permits-is, shortfall-is, moved, TokensAfter, tokens-start, tokens-moved, after-held, left-held, tokens-bits}
 use Rattle.screening.specs.Positions.{stepBehind, step-first, step-shift}
+use Rattle.screening.specs.declared.Stop.{Stop}
 
--- how many steps of a word a place permits, one after another, with t tokens at first
-unfoldable pub replay : Place → ℤ → Word → ℕ
-replay p t [] = 0
-replay p t (e ∷ w) = cond (covered p t e) (suc (replay p (moved p t e) w)) 0
+-- stopped at a position by the place that is replayed, with that shortfall
+abbrev pub stop : ℕ → ℕ → Stop
+stop i k = record { position = i; place = 0; shortfall = k }
 
--- how many steps of a word a place permits, one after another
-unfoldable pub reach : Place → Word → ℕ
-reach p w = replay p (pos (p .initial)) w
+-- the same, i steps later
+abbrev pub later : ℕ → Stop → Stop
+later i s = record { position = i + s .position; place = s .place; shortfall = s .shortfall }
+
+-- the first step of a word that a place refuses, with t tokens at first, and its shortfall there; the word's length and 0 where there is none
+unfoldable pub replay : Place → ℤ → Word → Stop
+replay p t [] = stop 0 0
+replay p t (e ∷ w) = cond (covered p t e) (later 1 (replay p (moved p t e) w)) (stop 0 (missing p t e))
+
+-- the first step of a word that a place refuses
+unfoldable pub stopOf : Place → Word → Stop
+stopOf p w = replay p (pos (p .initial)) w
 
 -- a loop has replayed i steps of w on the place p, with t tokens behind them
 pub record Going (p : Place) (w : Word) (t : ℤ) (i : ℕ) : Type 0 where
   pub tokens : TokensAfter t i
-  pub rest : reach p w ≡ i + replay p t (drop i w)
+  pub rest : stopOf p w ≡ later i (replay p t (drop i w))
 
 pub going-start : (p : Place) (w : Word) → p .initial ≤ 65535 → Going p w (toZ w64 (p .initial)) 0
-unfolding reach
-going-start p w h = rw (toZ-pos w64 {n = p .initial} (omega arith)) (record { tokens = tokens-start p h; rest = omega arith })
+unfolding stopOf
+going-start p w h = rw (toZ-pos w64 {n = p .initial} (omega arith)) (record { tokens = tokens-start p h; rest = at (replay p (pos (p .initial)) w) })
+  where
+    at : (s : Stop) → s ≡ later 0 s
+    at s = ap (λ (k : ℕ). record { position = k; place = s .place; shortfall = s .shortfall }) (omega arith)
 
 module _ {p : Place} {w : Word} {t : ℤ} {i : ℕ} (g : Going p w t i) where
-  pub going-least : i ≤ reach p w
-  going-least = omega (arith, g .rest)
+  pub going-least : i ≤ stopOf p w .position
+  going-least = omega (arith, ap (λ (s : Stop). s .position) (g .rest))
 
-  pub going-end : length w ≤ i → reach p w ≡ i
+  pub going-end : length w ≤ i → stopOf p w ≡ stop i 0
   unfolding replay
-  going-end h = g .rest ∙ rw (drop-of-length-le w h) (omega arith)
+  going-end h = g .rest ∙ rw (drop-of-length-le w h) (ap (λ (k : ℕ). stop k 0) (omega arith))
 
   pub going-held : i ≤ 65535 → Held t
   going-held h = after-held (g .tokens) h
 
+  -- what the event leaves
+  pub going-left : i ≤ 65535 → p .consumed (getD w i 0) ≤ 65535 → {z : ℤ} → z ≡ left p t (getD w i 0) → Held z
+  going-left short few is = rw is (left-held (g .tokens) short (p .consumed (getD w i 0)) few)
+
   module _ (h : i < length w) where
-    step : replay p t (drop i w) ≡ cond (covered p t (getD w i 0)) (suc (replay p (moved p t (getD w i 0)) (drop (i + 1) w))) 0
+    step : replay p t (drop i w) ≡ cond (covered p t (getD w i 0)) (later 1 (replay p (moved p t (getD w i 0)) (drop (i + 1) w))) (stop 0 (missing p t (getD w i 0)))
     unfolding replay
     step = rw (drop-cons w i 0 h, add-one i)
 
-    pub going-stop : covered p t (getD w i 0) ≡ false → reach p w ≡ i
-    going-stop e = g .rest ∙ rw (step, e) (omega arith)
+    pub going-stop : covered p t (getD w i 0) ≡ false → stopOf p w ≡ stop i (missing p t (getD w i 0))
+    going-stop e = g .rest ∙ rw (step, e) (ap (λ (k : ℕ). stop k (missing p t (getD w i 0))) (omega arith))
 
     module _ (e : covered p t (getD w i 0) ≡ true) where
-      passed : reach p w ≡ i + 1 + replay p (moved p t (getD w i 0)) (drop (i + 1) w)
-      passed = g .rest ∙ rw (step, e) (omega arith)
+      passed : stopOf p w ≡ later (i + 1) (replay p (moved p t (getD w i 0)) (drop (i + 1) w))
+      passed = g .rest ∙ rw (step, e) (shift (replay p (moved p t (getD w i 0)) (drop (i + 1) w)))
+        where
+          shift : (s : Stop) → later i (later 1 s) ≡ later (i + 1) s
+          shift s = ap (λ (k : ℕ). record { position = k; place = s .place; shortfall = s .shortfall }) (omega arith)
 
-      pub going-past : i < reach p w
-      going-past = omega (arith, passed)
+      pub going-past : i < stopOf p w .position
+      going-past = omega (arith, ap (λ (s : Stop). s .position) passed)
 
-      pub going-next : i + 1 ≤ 65535 → p .produced (getD w i 0) ≤ 65535 → {z : ℤ} → z ≡ moved p t (getD w i 0) → Going p w (toZ w64 (ofZ w64 z)) (i + 1)
-      going-next short few {z} is =
+      pub going-next : i + 1 ≤ 65535 → p .produced (getD w i 0) ≤ 65535 → {y z : ℤ} → y ≡ left p t (getD w i 0) → z ≡ y +ℤ pos (p .produced (getD w i 0))
+          → Going p w (toZ w64 (ofZ w64 z)) (i + 1)
+      going-next short few {y} {z} leaves is =
           let next = tokens-moved (g .tokens) p (getD w i 0) e few in
-          rw (is, tokens-bits next short) (record { tokens = next; rest = passed })
-
--- a beginning of the word goes as far, up to its end
-pub replay-take : (p : Place) (w : Word) (k : ℕ) (t : ℤ) → replay p t (take k w) ≡ min k (replay p t w)
-unfolding replay
-replay-take p [] zero t = omega arith
-replay-take p [] (suc k) t = omega arith
-replay-take p (e ∷ w) zero t = omega arith
-replay-take p (e ∷ w) (suc k) t = go (covered p t e) (replay-take p w k (moved p t e))
-  where
-    go : (b : Bool) → replay p (moved p t e) (take k w) ≡ min k (replay p (moved p t e) w)
-        → cond b (suc (replay p (moved p t e) (take k w))) 0 ≡ min (suc k) (cond b (suc (replay p (moved p t e) w)) 0)
-    go true h = omega arith
-    go false h = omega arith
+          rw (is, leaves, tokens-bits next short) (record { tokens = next; rest = passed })
 
 module _ (n : ℕ) (p : Place) where
-  -- k is the first refused position of w behind u, or its length
-  pub record First (u w : Word) (k : ℕ) : Type 0 where
-    pub within : k ≤ length w
-    pub permits : (i : ℕ) → i < k → placePermits n p (stepBehind n u w i) ≡ true
-    pub refuses : k < length w → placePermits n p (stepBehind n u w k) ≡ false
+  -- s is the first step of w behind u that the place refuses, with its shortfall there; its position is the word's length where there is none
+  pub record First (u w : Word) (s : Stop) : Type 0 where
+    pub within : s .position ≤ length w
+    pub permits : (i : ℕ) → i < s .position → placePermits n p (stepBehind n u w i) ≡ true
+    pub refuses : s .position < length w → placePermits n p (stepBehind n u w (s .position)) ≡ false
+    pub short : s .position < length w → shortfall n p (stepBehind n u w (s .position)) ≡ s .shortfall
 
-  -- with the marking after u, the replay finds the first refused position
+  -- with the marking after u, the replay finds it
   pub replay-first : (w u : Word) (t : ℤ) → EventsBelow n w → t ≡ tokens n p (counts n u) → First u w (replay p t w)
   unfolding replay
-  replay-first [] u t below h = record { within = omega arith; permits = λ i l. absurd (not-suc-le-zero l); refuses = λ l. absurd (not-suc-le-zero l) }
+  replay-first [] u t below h = record {
+    within = omega arith;
+    permits = λ i l. absurd (not-suc-le-zero l);
+    refuses = λ l. absurd (not-suc-le-zero l);
+    short = λ l. absurd (not-suc-le-zero l);
+  }
   replay-first (e ∷ w) u t below h = go (covered p t e) refl (replay-first w)
     where
+      here : {A : Type 0} (f : Step → A) (g : ℤ → A) → f (stepAfter n u e) ≡ g (tokens n p (counts n u)) → f (stepBehind n u (e ∷ w) 0) ≡ g t
+      here f g is = ap f (step-first n u e w) ∙ is ∙ ap g (sym h)
+
       first : placePermits n p (stepBehind n u (e ∷ w) 0) ≡ covered p t e
-      first = ap (placePermits n p) (step-first n u e w) ∙ permits-is n p u e ∙ ap (λ (z : ℤ). covered p z e) (sym h)
+      first = here (placePermits n p) (λ z. covered p z e) (permits-is n p u e)
+
+      lacks : shortfall n p (stepBehind n u (e ∷ w) 0) ≡ missing p t e
+      lacks = here (shortfall n p) (λ z. missing p z e) (shortfall-is n p u e)
 
       next : moved p t e ≡ tokens n p (counts n (u ++ e ∷ []))
       next = ap (λ (z : ℤ). moved p z e) h ∙ sym (tokens-snoc n p u e (below 0 (omega arith)))
 
       go : (b : Bool) → covered p t e ≡ b
           → ((u′ : Word) (t′ : ℤ) → ((k : ℕ) → k < length w → getD w k 0 < n) → t′ ≡ tokens n p (counts n u′) → First u′ w (replay p t′ w))
-          → First u (e ∷ w) (cond b (suc (replay p (moved p t e) w)) 0)
+          → First u (e ∷ w) (cond b (later 1 (replay p (moved p t e) w)) (stop 0 (missing p t e)))
       go true q rest =
           let f = rest (u ++ e ∷ []) (moved p t e) (λ i l. below (suc i) (omega arith)) next in
+          let k = replay p (moved p t e) w .position in
           record {
             within = omega (arith, f .within);
-            permits = elim [ zero ↦ λ l. first ∙ q | suc i ↦ λ l. ap (placePermits n p) (sym (step-shift n u e w i)) ∙ f .permits i (le-of-suc-le-suc l) ];
-            refuses = λ l. ap (placePermits n p) (sym (step-shift n u e w (replay p (moved p t e) w))) ∙ f .refuses (omega arith);
+            permits = λ i l. earlier i (f .permits) (omega arith);
+            refuses = λ l. ap (placePermits n p) (behind k) ∙ f .refuses (omega arith);
+            short = λ l. ap (shortfall n p) (behind k) ∙ f .short (omega arith);
           }
-      go false q rest = record { within = omega arith; permits = λ i l. absurd (not-suc-le-zero l); refuses = λ l. first ∙ q }
+        where
+          behind : (k : ℕ) → stepBehind n u (e ∷ w) (1 + k) ≡ stepBehind n (u ++ e ∷ []) w k
+          behind k = ap (stepBehind n u (e ∷ w)) (one-add k) ∙ sym (step-shift n u e w k)
+
+          earlier : (i : ℕ) → ((j : ℕ) → j < replay p (moved p t e) w .position → placePermits n p (stepBehind n (u ++ e ∷ []) w j) ≡ true)
+              → i < 1 + replay p (moved p t e) w .position → placePermits n p (stepBehind n u (e ∷ w) i) ≡ true
+          earlier zero passed l = first ∙ q
+          earlier (suc i) passed l = ap (placePermits n p) (sym (step-shift n u e w i)) ∙ passed i (omega arith)
+      go false q rest = record {
+        within = omega arith;
+        permits = λ i l. absurd (not-suc-le-zero l);
+        refuses = λ l. first ∙ q;
+        short = λ l. lacks;
+      }

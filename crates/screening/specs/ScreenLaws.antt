@@ -23,6 +23,7 @@ use Rattle.bundles.specs.declared.HeadRead.the-variants as head-read
 use Rattle.screening.specs.Screening.{wordOn, screening, replayed, screenedOf, screened}
 use Rattle.screening.specs.Positions.{Best, best-stopped, best-permitted}
 use Rattle.screening.specs.declared.Screened.{Screened}
+use Rattle.screening.specs.declared.Stop.{Stop}
 use Rattle.screening.specs.declared.Screened.the-variants as answers
 
 -- the answer on what was read of a bundle
@@ -58,11 +59,11 @@ module _ (b : List ℕ) (w : Word) where
 
 -- ---- behind the last place
 
-module _ (n : ℕ) (net : Net) (w : Word) (best lowest : ℕ) (found : Best n net w best lowest) where
-  pub search-stopped : best < length w → answers.Stopped (record { position = best; place = lowest }) ≡ replayed (screen n net w)
+module _ (n : ℕ) (net : Net) (w : Word) (stop : Stop) (found : Best n net w stop) where
+  pub search-stopped : stop .position < length w → answers.Stopped stop ≡ replayed (screen n net w)
   unfolding replayed
   search-stopped h = rw (best-stopped n found h)
 
-  pub search-permitted : length w ≤ best → answers.Permitted ≡ replayed (screen n net w)
+  pub search-permitted : length w ≤ stop .position → answers.Permitted ≡ replayed (screen n net w)
   unfolding replayed
   search-permitted h = rw (best-permitted n found h)

@@ -33,7 +33,7 @@ screening w = do
 -- what the replay found
 unfoldable pub replayed : nets.Answer → Screened
 replayed permitted = Permitted
-replayed (stopped position place) = Stopped (record { position = position; place = place })
+replayed (stopped position place shortfall) = Stopped (record { position = position; place = place; shortfall = shortfall })
 
 -- the answer
 unfoldable pub screenedOf : Read nets.Answer → Screened

@@ -1,5 +1,5 @@
 -- Demand 2 for screening: a readable word's first refused step is named, or the word is permitted where there is none.
-use mathlib.Core.Path.{_≡_, refl, sym, ap, _∙_}
+use mathlib.Core.Path.{_≡_, refl, sym, ap, _∙_, subst}
 use mathlib.Core.Bool.{true}
 use mathlib.Core.Logic.{_↔_}
 use mathlib.Core.List.{List, _++_}
@@ -19,7 +19,8 @@ use Rattle.refusals.specs.declared.Refusal.{Refusal}
 use Rattle.nets.specs.Nets as nets
 use Rattle.nets.specs.Nets.{Word, permitted, stopped, permits, screen}
 use Rattle.nets.specs.Events.{firstBad}
-use Rattle.nets.specs.Screening.{FirstRefused, screen-permitted, screen-stopped-exactly}
+use Rattle.nets.specs.Fits.{Below}
+use Rattle.nets.specs.Screening.{FirstRefused, shortfallAt, screen-permitted, screen-stopped-exactly}
 use Rattle.bundles.specs.Reading.{Read, got, item, _>>=_, give, require, onward}
 use Rattle.bundles.specs.Layout.{Head, HeadInLimits, toNet, headBytes}
 use Rattle.bundles.specs.Readers.{anyRows, head, bundleSize, bundleHead, headOf, eventsIn, netIn}
@@ -83,15 +84,15 @@ module _ (b : List ℕ) (w : Word) where
 replayed-permitted : (x : nets.Answer) → (replayed x ≡ answers.Permitted) ↔ (x ≡ permitted)
 unfolding replayed
 replayed-permitted permitted = ((λ e. refl), (λ e. refl))
-replayed-permitted (stopped i j) = ((λ e. impossible cc), (λ e. impossible cc))
+replayed-permitted (stopped i j k) = ((λ e. impossible cc), (λ e. impossible cc))
 
-replayed-stopped : (x : nets.Answer) (i j : ℕ) → (replayed x ≡ answers.Stopped (record { position = i; place = j })) ↔ (x ≡ stopped i j)
+replayed-stopped : (x : nets.Answer) (s : Stop) → (replayed x ≡ answers.Stopped s) ↔ (x ≡ stopped (s .position) (s .place) (s .shortfall))
 unfolding replayed
-replayed-stopped permitted i j = ((λ e. impossible cc), (λ e. impossible cc))
-replayed-stopped (stopped k l) i j = ((λ e. same e), (λ e. ap replayed e))
+replayed-stopped permitted s = ((λ e. impossible cc), (λ e. impossible cc))
+replayed-stopped (stopped i j k) s = ((λ e. same e), (λ e. ap replayed e))
   where
-    same : answers.Stopped (record { position = k; place = l }) ≡ answers.Stopped (record { position = i; place = j }) → stopped k l ≡ stopped i j
-    same e = let stop : _≡_ {A = Stop} (record { position = k; place = l }) (record { position = i; place = j }) = cc in ap (λ (s : Stop). stopped (s .position) (s .place)) stop
+    same : answers.Stopped (record { position = i; place = j; shortfall = k }) ≡ answers.Stopped s → stopped i j k ≡ stopped (s .position) (s .place) (s .shortfall)
+    same e = let stop : _≡_ {A = Stop} (record { position = i; place = j; shortfall = k }) s = cc in ap (λ (r : Stop). stopped (r .position) (r .place) (r .shortfall)) stop
 
 module _ (b : List ℕ) (w : Word) (readable : Readable b w) where
   -- DEMAND 2: it answers permitted exactly when the net permits the word
@@ -102,12 +103,13 @@ module _ (b : List ℕ) (w : Word) (readable : Readable b w) where
       let answer = replayed-permitted (screen (eventsIn b) (netIn b) w) in
       ((λ e. law .0 (answer .0 (sym is ∙ e))), (λ t. is ∙ answer .1 (law .1 t)))
 
-  -- and stopped, with a position and a place, exactly when they are those of the first refused step
-  pub stopped-exactly : (i j : ℕ) → (screened b w ≡ answers.Stopped (record { position = i; place = j })) ↔ FirstRefused (eventsIn b) (netIn b) w i j
-  stopped-exactly i j =
+  -- and stopped exactly when position and place are those of the first refused step, and the shortfall is that place's there
+  pub stopped-exactly : (s : Stop) → (screened b w ≡ answers.Stopped s)
+      ↔ (FirstRefused (eventsIn b) (netIn b) w (s .position) (s .place) × (s .shortfall ≡ shortfallAt (eventsIn b) (netIn b) w (s .position) (s .place)))
+  stopped-exactly s =
       let is = screened-replayed b w readable in
-      let law = screen-stopped-exactly (eventsIn b) (netIn b) w i j in
-      let answer = replayed-stopped (screen (eventsIn b) (netIn b) w) i j in
+      let law = screen-stopped-exactly (eventsIn b) (netIn b) w (s .position) (s .place) (s .shortfall) in
+      let answer = replayed-stopped (screen (eventsIn b) (netIn b) w) s in
       ((λ e. law .0 (answer .0 (sym is ∙ e))), (λ f. is ∙ answer .1 (law .1 f)))
 
 -- ---- which words are readable
@@ -116,7 +118,7 @@ module _ (b : List ℕ) (w : Word) (readable : Readable b w) where
 never : (x : nets.Answer) (r : Refusal) → replayed x ≡ answers.Refused r → ⊥
 unfolding replayed
 never permitted r e = impossible cc
-never (stopped i j) r e = impossible cc
+never (stopped i j k) r e = impossible cc
 
 module _ (n : ℕ) (w : Word) where
   all→every : T (all (λ e. ltb e n) w) → Every (λ e. e < n) w
@@ -124,6 +126,13 @@ module _ (n : ℕ) (w : Word) where
 
   every→all : Every (λ e. e < n) w → T (all (λ e. ltb e n) w)
   every→all v = all-intro (λ e. ltb e n) w (λ e m. lt→ltb e n (every-member (λ e. e < n) w v m))
+
+-- its events are those of the bundle
+pub readable-below : (b : List ℕ) (w : Word) → Readable b w → Below (eventsIn b) w
+readable-below b w readable e m =
+    let a = readable→ b w readable in
+    subst (λ (h : Head). e < h .events) (sym (head-of b (a .0) (a .1 .next) (a .1 .read)))
+    (ltb→lt e (a .0 .events) (all-member (λ e. ltb e (a .0 .events)) w (rw (a .1 .events) tt) m))
 
 module _ (b : List ℕ) (bytes : Bytes b) (w : Word) where
   passed→ : (h : Head) → Passed b w h → (rest : List ℕ) × Screenable b w h rest

@@ -1,20 +1,20 @@
 -- The search for the first refused step, place by place, as the code goes through the places of a bundle.
-use mathlib.Core.Path.{_≡_, sym, ap, ap₂, _∙_, subst}
+use mathlib.Core.Path.{_≡_, refl, sym, ap, ap₂, _∙_, subst}
 use mathlib.Core.Bool.{Bool, true, false, cond}
 use mathlib.Core.Logic.{⊎-elim}
 use mathlib.Core.List.{List, [], _∷_, _++_, append-assoc, append-nil, map, map-append}
-use Prim.Native.Nat.{ℕ, suc, _+_, _*_, _/_, _≤_, _<_, min}
+use Prim.Native.Nat.{ℕ, suc, _+_, _*_, _/_, _≤_, _<_}
 use native.Mathlib.Nat.{suc-mul, mul-le-mul-right}
 use native.Mathlib.Numerals.{add-one}
 use native.Mathlib.Omega.{arith}
-use borrow.Author.Tests.{le-leb, lt-leb}
+use borrow.Author.Tests.{le-leb, lt-leb, leb-true, leb-false}
 use lib.Dec.{leb}
 use lib.IntN.{pos}
 use lib.ListN.{length, take, length-map, length-take, length-append}
 use lib.Seq.{take-take, getD-take}
 use Rattle.laws.specs.Booleans.{lt-or-le}
 use Rattle.limits.specs.Limits.{MAX-WORD-EVENTS}
-use Rattle.nets.specs.Nets.{Word, Net, Place, stepAfter, placePermits}
+use Rattle.nets.specs.Nets.{Word, Net, Place, stepAfter, stepAt, placePermits, shortfall}
 use Rattle.nets.specs.Events.{EventsBelow}
 use Rattle.nets.specs.Machine as machine
 use Rattle.nets.specs.Markings.{tokens-none}
@@ -26,34 +26,44 @@ use Rattle.bundles.specs.NumberReading.{itemsAt, items-length, items-snoc}
 use Rattle.bundles.specs.PlaceReading.{placeSize, fieldsAt, placeOn, machinePlace, place-means}
 use Rattle.bundles.specs.declared.Places.{Places}
 use Rattle.bundles.specs.declared.Head.{Head}
-use Rattle.screening.specs.Positions.{stepAt, Best, best-stays, best-earlier}
-use Rattle.screening.specs.Replay.{First, reach, replay, replay-first, replay-take}
-use Rattle.screening.specs.declared.Found.{Found}
+use Rattle.screening.specs.Positions.{Best, best-stays, best-earlier}
+use Rattle.screening.specs.Replay.{First, stop, stopOf, replay-first}
+use Rattle.screening.specs.declared.Stop.{Stop}
 
--- up to k of a word that goes on
-pub reach-take : (p : Place) (w : Word) (k best : ℕ) → k ≤ best → reach p (take k w) ≡ min k (reach p (take best w))
-unfolding reach
-reach-take p w k best h = ap (replay p (pos (p .initial))) (sym (take-take k best w h)) ∙ replay-take p (take best w) k (pos (p .initial))
+-- a stop, by the place of that number
+abbrev pub named : ℕ → Stop → Stop
+named j s = record { position = s .position; place = j; shortfall = s .shortfall }
 
 -- the first stop of two, and which of them it is: 0 for the first one, also where both stop there
-abbrev pub firstOf : ℕ → ℕ → Found
-firstOf a b = record { position = min a b; place = cond (leb a b) 0 1 }
+unfoldable pub firstOf : Stop → Stop → Stop
+firstOf a b = cond (leb (a .position) (b .position)) (named 0 a) (named 1 b)
 
-pub found-place : (s : Found) (a b : ℕ) → s ≡ firstOf a b → s .place ≤ 1
-found-place s a b e = subst (λ (x : Found). x .place ≤ 1) (sym e) (go (leb a b))
-  where
-    go : (t : Bool) → cond t 0 1 ≤ 1
-    go true = omega arith
-    go false = omega arith
+module _ (a b : Stop) where
+  first-sooner : a .position ≤ b .position → firstOf a b ≡ named 0 a
+  unfolding firstOf
+  first-sooner h = rw (le-leb (a .position) (b .position) h)
 
-pub first-stops : (a b i : ℕ) → a ≡ i → i ≤ b → record { position = i; place = 0 } ≡ firstOf a b
-first-stops a b i is h = let at : i ≡ min a b = omega arith in rw (le-leb a b (omega arith), ← at)
+  second-sooner : b .position < a .position → firstOf a b ≡ named 1 b
+  unfolding firstOf
+  second-sooner h = rw (lt-leb (a .position) (b .position) h)
 
-pub second-stops : (a b i : ℕ) → b ≡ i → i < a → record { position = i; place = 1 } ≡ firstOf a b
-second-stops a b i is h = let at : i ≡ min a b = omega arith in rw (lt-leb a b (omega arith), ← at)
+  pub first-stops : {i k : ℕ} → a ≡ stop i k → i ≤ b .position → stop i k ≡ firstOf a b
+  first-stops is h = ap (named 0) (sym is) ∙ sym (first-sooner (omega (arith, ap (λ (s : Stop). s .position) is)))
 
-pub reach-means : (n : ℕ) (b : List ℕ) (at : ℕ) (w : Word) (p : declared.Place) → p ≡ machinePlace (fieldsAt n b at) → reach (machine.placeOf p) w ≡ reach (placeOn n b at) w
-reach-means n b at w p e = ap (λ (q : declared.Place). reach (machine.placeOf q) w) e ∙ ap (λ (q : Place). reach q w) (place-means (fieldsAt n b at))
+  pub second-stops : {i k : ℕ} → b ≡ stop i k → i < a .position → named 1 (stop i k) ≡ firstOf a b
+  second-stops is h = ap (named 1) (sym is) ∙ sym (second-sooner (omega (arith, ap (λ (s : Stop). s .position) is)))
+
+  -- it is one of the two
+  pub one-of-two : (firstOf a b .place ≤ 1) × (firstOf a b .position ≤ a .position) × (firstOf a b .position ≤ b .position)
+  unfolding firstOf
+  one-of-two = go (leb (a .position) (b .position)) refl
+    where
+      go : (t : Bool) → leb (a .position) (b .position) ≡ t → let s = cond t (named 0 a) (named 1 b) in (s .place ≤ 1) × (s .position ≤ a .position) × (s .position ≤ b .position)
+      go true e = (omega arith, omega arith, omega (arith, leb-true (a .position) (b .position) e))
+      go false e = (omega arith, omega (arith, leb-false (a .position) (b .position) e), omega arith)
+
+pub stop-means : (n : ℕ) (b : List ℕ) (at : ℕ) (w : Word) (p : declared.Place) → p ≡ machinePlace (fieldsAt n b at) → stopOf (machine.placeOf p) w ≡ stopOf (placeOn n b at) w
+stop-means n b at w p e = ap (λ (q : declared.Place). stopOf (machine.placeOf q) w) e ∙ ap (λ (q : Place). stopOf q w) (place-means (fieldsAt n b at))
 
 -- ---- the places of a bundle, from an offset on
 
@@ -77,9 +87,9 @@ unfolding toNet
 net-is found = ap (map toPlace) (found .places)
 
 -- what a search says of the places of a bundle is said of its net
-pub over-head : {b : List ℕ} {n : ℕ} {ps : Places} → HeadAt b n ps → {before best lowest best′ lowest′ : ℕ} {w : Word}
-    → ((net : Net) → length net ≡ before → Best n net w best lowest → Best n (net ++ netAt n b (ps .first) (ps .count)) w best′ lowest′)
-    → (net : Net) → length net ≡ before → Best (eventsIn b) net w best lowest → Best (eventsIn b) (net ++ netIn b) w best′ lowest′
+pub over-head : {b : List ℕ} {n : ℕ} {ps : Places} → HeadAt b n ps → {before : ℕ} {from to : Stop} {w : Word}
+    → ((net : Net) → length net ≡ before → Best n net w from → Best n (net ++ netAt n b (ps .first) (ps .count)) w to)
+    → (net : Net) → length net ≡ before → Best (eventsIn b) net w from → Best (eventsIn b) (net ++ netIn b) w to
 over-head found search net size best = rw (net-is found, found .events) (search net size (rw (found .events) at best))
 
 -- a word over n events that may be screened
@@ -100,40 +110,50 @@ module _ (n : ℕ) (w : Word) (below : EventsBelow n w) where
 
   -- what the replay of a word's beginning says of the word
   module _ (p : Place) (k : ℕ) (inside : k ≤ length w) where
-    found : First n p [] (take k w) (reach p (take k w))
-    unfolding reach
+    found : First n p [] (take k w) (stopOf p (take k w))
+    unfolding stopOf
     found = replay-first n p (take k w) [] (pos (p .initial)) (part-below k) (sym (tokens-none n p))
 
     step-same : (i : ℕ) → i < k → stepAt n (take k w) i ≡ stepAt n w i
     step-same i h = ap₂ (λ (u : Word) (e : ℕ). stepAfter n u e) (take-take i k w (omega arith)) (getD-take k w i 0 h)
 
-    reach-within : reach p (take k w) ≤ k
-    reach-within = omega (arith, found .within, length-take k w)
+    stop-within : stopOf p (take k w) .position ≤ k
+    stop-within = omega (arith, found .within, length-take k w)
 
-    reach-permits : (i : ℕ) → i < reach p (take k w) → placePermits n p (stepAt n w i) ≡ true
-    reach-permits i h = ap (placePermits n p) (sym (step-same i (omega (arith, reach-within)))) ∙ found .permits i h
+    stop-permits : (i : ℕ) → i < stopOf p (take k w) .position → placePermits n p (stepAt n w i) ≡ true
+    stop-permits i h = ap (placePermits n p) (sym (step-same i (omega (arith, stop-within)))) ∙ found .permits i h
 
-    reach-refuses : reach p (take k w) < k → placePermits n p (stepAt n w (reach p (take k w))) ≡ false
-    reach-refuses h = ap (placePermits n p) (sym (step-same (reach p (take k w)) h)) ∙ found .refuses (omega (arith, length-take k w))
+    module _ (h : stopOf p (take k w) .position < k) where
+      stop-refuses : placePermits n p (stepAt n w (stopOf p (take k w) .position)) ≡ false
+      stop-refuses = ap (placePermits n p) (sym (step-same (stopOf p (take k w) .position) h)) ∙ found .refuses (omega (arith, length-take k w))
 
-  -- so far a net and j places of a bundle were searched; k is how far the next place lets the word go, up to the best position
-  module _ (net : Net) (b : List ℕ) (first j best lowest : ℕ) (so-far : Best n (net ++ netAt n b first j) w best lowest) (k : ℕ) (is : k ≡ reach (placeOn n b (first + 2 * (j * placeSize n))) (take best w)) where
-    more : net ++ netAt n b first (j + 1) ≡ (net ++ netAt n b first j) ++ placeOn n b (first + 2 * (j * placeSize n)) ∷ []
-    more = ap (λ (l : Net). net ++ l) (net-snoc n b first j) ∙ sym (append-assoc net (netAt n b first j) (placeOn n b (first + 2 * (j * placeSize n)) ∷ []))
+      stop-short : shortfall n p (stepAt n w (stopOf p (take k w) .position)) ≡ stopOf p (take k w) .shortfall
+      stop-short = ap (shortfall n p) (sym (step-same (stopOf p (take k w) .position) h)) ∙ found .short (omega (arith, length-take k w))
+
+  -- so far a net and j places of a bundle were searched, and the next place is replayed up to some position of the word
+  module _ (net : Net) (b : List ℕ) (first j : ℕ) {from : Stop} (so-far : Best n (net ++ netAt n b first j) w from) (end : ℕ) (inside : end ≤ length w) where
+    abbrev place : Place
+    place = placeOn n b (first + 2 * (j * placeSize n))
+
+    abbrev next : Stop
+    next = stopOf place (take end w)
+
+    more : net ++ netAt n b first (j + 1) ≡ (net ++ netAt n b first j) ++ place ∷ []
+    more = ap (λ (l : Net). net ++ l) (net-snoc n b first j) ∙ sym (append-assoc net (netAt n b first j) (place ∷ []))
 
     number : length (net ++ netAt n b first j) ≡ length net + j
     number = length-append net (netAt n b first j) ∙ ap (λ (i : ℕ). length net + i) (net-length n b first j)
 
-    pub search-stays : best ≤ k → Best n (net ++ netAt n b first (j + 1)) w best lowest
-    search-stays h =
-        let p = placeOn n b (first + 2 * (j * placeSize n)) in
-        rw more (best-stays n so-far p (λ i l. reach-permits p best (so-far .within) i (omega arith)))
+    pub search-stays : from .position ≤ next .position → Best n (net ++ netAt n b first (j + 1)) w from
+    search-stays h = rw more (best-stays n so-far place (λ i l. stop-permits place end inside i (omega arith)))
 
-    pub search-earlier : k < best → Best n (net ++ netAt n b first (j + 1)) w k (length net + j)
-    search-earlier h =
-        let p = placeOn n b (first + 2 * (j * placeSize n)) in
-        let earlier = best-earlier n so-far p (reach p (take best w)) (omega arith) (reach-permits p best (so-far .within)) (reach-refuses p best (so-far .within) (omega arith)) in
-        rw (more, is) (subst (λ (l : ℕ). Best n ((net ++ netAt n b first j) ++ p ∷ []) w (reach p (take best w)) l) number earlier)
+    pub search-earlier : next .position < from .position → next .position < end
+        → Best n (net ++ netAt n b first (j + 1)) w (named (length net + j) next)
+    search-earlier h l =
+        rw more
+        (subst (λ (s : Stop). Best n ((net ++ netAt n b first j) ++ place ∷ []) w s)
+        (ap₂ (λ (x y : ℕ). record { position = next .position; place = x; shortfall = y }) number (stop-short place end inside l))
+        (best-earlier n so-far place (next .position) h (stop-permits place end inside) (stop-refuses place end inside l)))
 
 -- ---- two places more
 
@@ -152,46 +172,47 @@ module _ (n first k : ℕ) where
       let fits : suc (suc (2 * k)) ≤ count = omega arith in
       omega (arith, mul-le-mul-right (placeSize n) fits, suc-mul (suc (2 * k)) (placeSize n), suc-mul (2 * k) (placeSize n))
 
--- k and l are how far the next two places let the word go, up to the best position
-module _ (n : ℕ) (w : Word) (below : EventsBelow n w) (net : Net) (b : List ℕ) (first j best lowest : ℕ) (so-far : Best n (net ++ netAt n b first j) w best lowest) where
-  abbrev one : Place
-  one = placeOn n b (first + 2 * (j * placeSize n))
+module _ (n : ℕ) (w : Word) (below : EventsBelow n w) (net : Net) (b : List ℕ) (first j : ℕ) {from : Stop} (so-far : Best n (net ++ netAt n b first j) w from) where
+  -- the stops of the next two places, each replayed up to the best position
+  abbrev one : Stop
+  one = stopOf (placeOn n b (first + 2 * (j * placeSize n))) (take (from .position) w)
 
-  abbrev two : Place
-  two = placeOn n b (first + 2 * ((j + 1) * placeSize n))
+  abbrev two : Stop
+  two = stopOf (placeOn n b (first + 2 * ((j + 1) * placeSize n))) (take (from .position) w)
 
-  module _ (k l : ℕ) (is-k : k ≡ reach one (take best w)) (is-l : l ≡ reach two (take best w)) where
-    -- the second one, followed up to where the first one stops
-    two-part : k ≤ best → min k l ≡ reach two (take k w)
-    two-part h = ap (min k) is-l ∙ sym (reach-take two w k best h)
+  -- one place more
+  stays : from .position ≤ one .position → Best n (net ++ netAt n b first (j + 1)) w from
+  stays h = search-stays n w below net b first j so-far (from .position) (so-far .within) h
 
-    pub pair-stays : best ≤ min k l → Best n (net ++ netAt n b first (j + 1 + 1)) w best lowest
-    pair-stays h =
-        search-stays n w below net b first (j + 1) best lowest
-        (search-stays n w below net b first j best lowest so-far k is-k (omega arith)) l is-l (omega arith)
+  earlier : one .position < from .position → Best n (net ++ netAt n b first (j + 1)) w (named (length net + j) one)
+  earlier h = search-earlier n w below net b first j so-far (from .position) (so-far .within) h h
 
-    pair-first : min k l < best → k ≤ l → Best n (net ++ netAt n b first (j + 1 + 1)) w k (length net + j)
-    pair-first h first-stops =
-        search-stays n w below net b first (j + 1) k (length net + j)
-        (search-earlier n w below net b first j best lowest so-far k is-k (omega arith)) (min k l) (two-part (omega arith)) (omega arith)
+  pub pair-stays : from .position ≤ firstOf one two .position → Best n (net ++ netAt n b first (j + 1 + 1)) w from
+  pair-stays h =
+      let less = one-of-two one two in
+      search-stays n w below net b first (j + 1) (stays (omega (arith, less .1))) (from .position) (so-far .within) (omega (arith, less .2))
 
-    pair-second : min k l < best → l < k → Best n (net ++ netAt n b first (j + 1 + 1)) w l (length net + (j + 1))
-    pair-second h second-stops = ⊎-elim
-        (λ earlier.
-        subst (λ (x : ℕ). Best n (net ++ netAt n b first (j + 1 + 1)) w x (length net + (j + 1))) (omega arith)
-        (search-earlier n w below net b first (j + 1) k (length net + j) (search-earlier n w below net b first j best lowest so-far k is-k earlier) (min k l) (two-part (omega arith)) (omega arith)))
-        (λ stays. search-earlier n w below net b first (j + 1) best lowest (search-stays n w below net b first j best lowest so-far k is-k stays) l is-l (omega arith))
-        (lt-or-le k best)
+  pair-first : one .position < from .position → one .position ≤ two .position
+      → Best n (net ++ netAt n b first (j + 1 + 1)) w (named (length net + j) one)
+  pair-first h sooner = search-stays n w below net b first (j + 1) (earlier h) (from .position) (so-far .within) sooner
 
-    -- an earlier stop of the two is the stop of all so far
-    pub pair-earlier : min k l < best → Best n (net ++ netAt n b first (j + 1 + 1)) w (min k l) (length net + j + cond (leb k l) 0 1)
-    pair-earlier h = ⊎-elim
-        (λ later.
-        let at : l ≡ min k l = omega arith in
-        let place : length net + (j + 1) ≡ length net + j + 1 = omega arith in
-        rw (lt-leb k l later, ← at) (subst (λ (x : ℕ). Best n (net ++ netAt n b first (j + 1 + 1)) w l x) place (pair-second h later)))
-        (λ sooner.
-        let at : k ≡ min k l = omega arith in
-        let place : length net + j ≡ length net + j + 0 = omega arith in
-        rw (le-leb k l sooner, ← at) (subst (λ (x : ℕ). Best n (net ++ netAt n b first (j + 1 + 1)) w k x) place (pair-first h sooner)))
-        (lt-or-le l k)
+  pair-second : two .position < from .position → two .position < one .position
+      → Best n (net ++ netAt n b first (j + 1 + 1)) w (named (length net + (j + 1)) two)
+  pair-second h sooner = ⊎-elim
+      (λ l. search-earlier n w below net b first (j + 1) (earlier l) (from .position) (so-far .within) sooner h)
+      (λ l. search-earlier n w below net b first (j + 1) (stays l) (from .position) (so-far .within) h h)
+      (lt-or-le (one .position) (from .position))
+
+  -- an earlier stop of the two is the stop of all so far
+  pub pair-earlier : firstOf one two .position < from .position
+      → Best n (net ++ netAt n b first (j + 1 + 1)) w (named (length net + j + firstOf one two .place) (firstOf one two))
+  pair-earlier h = ⊎-elim
+      (λ second.
+      let place : length net + (j + 1) ≡ length net + j + 1 = omega arith in
+      let is = second-sooner one two second in
+      rw is (subst (λ (k : ℕ). Best n (net ++ netAt n b first (j + 1 + 1)) w (named k two)) place (pair-second (rw is at h) second)))
+      (λ sooner.
+      let place : length net + j ≡ length net + j + 0 = omega arith in
+      let is = first-sooner one two sooner in
+      rw is (subst (λ (k : ℕ). Best n (net ++ netAt n b first (j + 1 + 1)) w (named k one)) place (pair-first (rw is at h) sooner)))
+      (lt-or-le (two .position) (one .position))

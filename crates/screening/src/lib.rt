@@ -5,13 +5,15 @@ use limits::MAX_WORD_EVENTS;
 use nets::Place;
 use nets::covers;
 use nets::first_bad;
+use nets::shortfall;
+use nets::surplus;
 use refusals::Refusal;
 use refusals::WORD_EVENT;
 use refusals::WORD_LENGTH;
 ghost use mathlib.Core.Path.{_≡_};
 ghost use mathlib.Core.List.{_++_};
 ghost use Prim.Native.Nat.{_+_, _*_, _/_, _≤_};
-ghost use lib.IntN.{pos, _+ℤ_, _-ℤ_};
+ghost use lib.IntN.{pos, _+ℤ_};
 ghost use lib.ListN.{length, take};
 ghost use Rattle.limits.specs.Limits.{MAX-EVENTS, MAX-PLACES, MAX-WORD-EVENTS};
 ghost use Rattle.refusals.specs.Answers.{refusal};
@@ -22,21 +24,16 @@ ghost use Rattle.bundles.specs.HeadReading.{headRead};
 ghost use Rattle.bundles.specs.PlaceReading.{placeSize, placeOn};
 ghost use Rattle.screening.specs.Screening.{replayed, screened};
 ghost use Rattle.screening.specs.Positions.{Best};
-ghost use Rattle.screening.specs.Replay.{reach};
+ghost use Rattle.screening.specs.Replay.{stopOf};
 ghost use Rattle.screening.specs.Searching.{WordOver, Searchable, netAt, firstOf};
 ghost use Rattle.screening.specs.ScreenLaws.{answerOn};
 
-// The position of the first refused step, and the lowest place that refuses it.
+// The first refused step: its position, the lowest place that refuses it, and how many tokens that place lacks there, at least 1.
+// The search carries the same from place to place; a word that no place so far refuses has its length for a position, and no shortfall.
 pub struct Stop {
     pub position: usize,
     pub place: usize,
-}
-
-// What the search carries from place to place: the first position that one of the places so far refuses, and the lowest place that does. A word
-// that none of them refuses has its length for a position.
-struct Found {
-    position: usize,
-    place: usize,
+    pub shortfall: u64,
 }
 
 // The answer of screening.
@@ -52,38 +49,50 @@ fn refused(number: u8, spot: usize) -> Screened
     Screened::Refused(Refusal { number, spot })
 }
 
-// The tokens of a place behind an event.
-fn tokens_behind(tokens: i64, produced: u16, consumed: u16) -> i64
-    requires { ⌜ Held tokens ⌝ }
-    ensures { λ r. ⌜ r ≡ tokens +ℤ (pos produced -ℤ pos consumed) ⌝ }
+fn stop_at(position: usize, place: usize, shortfall: u64) -> Stop
+    ensures { λ r. ⌜ r ≡ record { position = position; place = place; shortfall = shortfall } ⌝ }
 {
-    tokens + (produced as i64 - consumed as i64)
+    Stop {
+        position,
+        place,
+        shortfall,
+    }
 }
 
-// How many steps of a word a place permits, one after another.
-fn steps_permitted(place: Place, word: &[u8]) -> usize
+// The tokens of a place behind an event, of which it left so many.
+fn tokens_behind(left: i64, produced: u16) -> i64
+    requires { ⌜ Held left ⌝ }
+    ensures { λ r. ⌜ r ≡ left +ℤ pos produced ⌝ }
+{
+    left + produced as i64
+}
+
+// The first step of a word that a place refuses, or the word's length where there is none. `covers` tests the shortfall of the same difference:
+// `shortfall(left) != 0` in its place compiles to a subtraction and a test, which on the longest word took a seventh more time.
+fn stop_of(place: Place, word: &[u8]) -> Stop
     requires { ⌜ WordOver MAX-EVENTS (now word) ⌝ }
-    ensures { λ r. ⌜ r ≡ reach (placeOf place) (now (word .entry)) ⌝ }
+    ensures { λ r. ⌜ r ≡ stopOf (placeOf place) (now (word .entry)) ⌝ }
 {
     let mut tokens = place.initial as i64;
     let mut i = 0;
     while i < word.len() {
         let event = word[i] as usize;
         let consumed = place.consumed[event];
+        let left = surplus(tokens, consumed);
         if !covers(tokens, consumed) {
-            return i;
+            return stop_at(i, 0, shortfall(left));
         }
-        tokens = tokens_behind(tokens, place.produced[event], consumed);
+        tokens = tokens_behind(left, place.produced[event]);
         i += 1;
     }
-    i
+    stop_at(i, 0, 0)
 }
 
 // The first step that one of two places refuses, and which of them: 0 for the first one, which goes first. Two at once, since each step of one
 // place waits for the step before.
-fn pair_permitted(one: Place, two: Place, word: &[u8]) -> Found
+fn stop_of_two(one: Place, two: Place, word: &[u8]) -> Stop
     requires { ⌜ WordOver MAX-EVENTS (now word) ⌝ }
-    ensures { λ r. ⌜ r ≡ firstOf (reach (placeOf one) (now (word .entry))) (reach (placeOf two) (now (word .entry))) ⌝ }
+    ensures { λ r. ⌜ r ≡ firstOf (stopOf (placeOf one) (now (word .entry))) (stopOf (placeOf two) (now (word .entry))) ⌝ }
 {
     let mut first = one.initial as i64;
     let mut second = two.initial as i64;
@@ -91,58 +100,51 @@ fn pair_permitted(one: Place, two: Place, word: &[u8]) -> Found
     while i < word.len() {
         let event = word[i] as usize;
         let consumed = one.consumed[event];
+        let left = surplus(first, consumed);
         if !covers(first, consumed) {
-            return Found {
-                position: i,
-                place: 0,
-            };
+            return stop_at(i, 0, shortfall(left));
         }
         let taken = two.consumed[event];
+        let rest = surplus(second, taken);
         if !covers(second, taken) {
-            return Found {
-                position: i,
-                place: 1,
-            };
+            return stop_at(i, 1, shortfall(rest));
         }
-        first = tokens_behind(first, one.produced[event], consumed);
-        second = tokens_behind(second, two.produced[event], taken);
+        first = tokens_behind(left, one.produced[event]);
+        second = tokens_behind(rest, two.produced[event]);
         i += 1;
     }
-    Found {
-        position: i,
-        place: 0,
-    }
+    stop_at(i, 0, 0)
 }
 
-// How many of the word's first `end` steps the place at an offset permits.
-fn reach_of(bundle: &[u8], at: usize, n: usize, word: &[u8], end: usize) -> usize
+// The first of the word's first `end` steps that the place at an offset refuses.
+fn stop_of_place_at(bundle: &[u8], at: usize, n: usize, word: &[u8], end: usize) -> Stop
     requires { ⌜ (n ≤ MAX-EVENTS) × WordOver n (now word) ⌝ }
     requires { ⌜ (at + 2 * placeSize n ≤ length (now bundle)) × (end ≤ length (now word)) ⌝ }
-    ensures { λ r. ⌜ r ≡ reach (placeOn n (now (bundle .entry)) at) (take end (now (word .entry))) ⌝ }
+    ensures { λ r. ⌜ r ≡ stopOf (placeOn n (now (bundle .entry)) at) (take end (now (word .entry))) ⌝ }
 {
     let place = bundles::net::place_at(bundle, at, n);
-    steps_permitted(place, &word[..end])
+    stop_of(place, &word[..end])
 }
 
 // The first of the word's first `end` steps that one of the two places at an offset refuses, and which of them.
-fn pair_at(bundle: &[u8], at: usize, n: usize, word: &[u8], end: usize) -> Found
+fn stop_of_two_at(bundle: &[u8], at: usize, n: usize, word: &[u8], end: usize) -> Stop
     requires { ⌜ (n ≤ MAX-EVENTS) × WordOver n (now word) ⌝ }
     requires { ⌜ (at + 2 * (2 * placeSize n) ≤ length (now bundle)) × (end ≤ length (now word)) ⌝ }
-    ensures { λ r. ⌜ r ≡ firstOf (reach (placeOn n (now (bundle .entry)) at) (take end (now (word .entry)))) (reach (placeOn n (now (bundle .entry)) (at + 2 * placeSize n)) (take end (now (word .entry)))) ⌝ }
+    ensures { λ r. ⌜ r ≡ firstOf (stopOf (placeOn n (now (bundle .entry)) at) (take end (now (word .entry)))) (stopOf (placeOn n (now (bundle .entry)) (at + 2 * placeSize n)) (take end (now (word .entry)))) ⌝ }
 {
     let one = bundles::net::place_at(bundle, at, n);
     let two = bundles::net::place_at(bundle, at + 2 * (1 + 2 * n), n);
-    pair_permitted(one, two, &word[..end])
+    stop_of_two(one, two, &word[..end])
 }
 
 // The first refused step of a word with the places of a bundle but for an odd last one. They follow `before` places whose first refused step
 // is `from`. Each place is read once, and followed up to the best position so far.
-fn search_pairs(bundle: &[u8], head: Head, word: &[u8], before: usize, from: Found) -> Found
+fn search_pairs(bundle: &[u8], head: Head, word: &[u8], before: usize, from: Stop) -> Stop
     requires { ⌜ Searchable (now bundle) head (now word) ⌝ }
     requires { ⌜ (before ≤ MAX-PLACES) × (from .position ≤ length (now word)) ⌝ }
     ensures { λ r. ⌜ r .position ≤ length (now (word .entry)) ⌝ }
-    ensures { λ r. ⌜ ((net : Net) → length net ≡ before → Best (head .n) net (now (word .entry)) (from .position) (from .place)
-        → Best (head .n) (net ++ netAt (head .n) (now (bundle .entry)) (head .places .first) (2 * (head .places .count / 2))) (now (word .entry)) (r .position) (r .place)) ⌝ }
+    ensures { λ r. ⌜ ((net : Net) → length net ≡ before → Best (head .n) net (now (word .entry)) from
+        → Best (head .n) (net ++ netAt (head .n) (now (bundle .entry)) (head .places .first) (2 * (head .places .count / 2))) (now (word .entry)) r) ⌝ }
 {
     let n = head.n;
     let size = 4 * (1 + 2 * n);
@@ -150,28 +152,27 @@ fn search_pairs(bundle: &[u8], head: Head, word: &[u8], before: usize, from: Fou
     let mut at = head.places.first;
     let mut best = from.position;
     let mut lowest = from.place;
+    let mut missing = from.shortfall;
     let mut k = 0;
     while k < pairs {
-        let found = pair_at(bundle, at, n, word, best);
+        let found = stop_of_two_at(bundle, at, n, word, best);
         if found.position < best {
             best = found.position;
             lowest = before + 2 * k + found.place;
+            missing = found.shortfall;
         }
         at += size;
         k += 1;
     }
-    Found {
-        position: best,
-        place: lowest,
-    }
+    stop_at(best, lowest, missing)
 }
 
 // The first refused step of a word with the places of a bundle, which follow `before` places whose first refused step is `from`.
-fn search_places(bundle: &[u8], head: Head, word: &[u8], before: usize, from: Found) -> Found
+fn search_places(bundle: &[u8], head: Head, word: &[u8], before: usize, from: Stop) -> Stop
     requires { ⌜ Searchable (now bundle) head (now word) ⌝ }
     requires { ⌜ (before ≤ MAX-PLACES) × (from .position ≤ length (now word)) ⌝ }
-    ensures { λ r. ⌜ ((net : Net) → length net ≡ before → Best (eventsIn (now (bundle .entry))) net (now (word .entry)) (from .position) (from .place)
-        → Best (eventsIn (now (bundle .entry))) (net ++ netIn (now (bundle .entry))) (now (word .entry)) (r .position) (r .place)) ⌝ }
+    ensures { λ r. ⌜ ((net : Net) → length net ≡ before → Best (eventsIn (now (bundle .entry))) net (now (word .entry)) from
+        → Best (eventsIn (now (bundle .entry))) (net ++ netIn (now (bundle .entry))) (now (word .entry)) r) ⌝ }
 {
     let found = search_pairs(bundle, head, word, before, from);
     let paired = 2 * (head.places.count / 2);
@@ -179,14 +180,11 @@ fn search_places(bundle: &[u8], head: Head, word: &[u8], before: usize, from: Fo
         return found;
     }
     let at = head.places.first + 2 * (paired * (1 + 2 * head.n));
-    let position = reach_of(bundle, at, head.n, word, found.position);
-    if found.position <= position {
+    let last = stop_of_place_at(bundle, at, head.n, word, found.position);
+    if found.position <= last.position {
         return found;
     }
-    Found {
-        position,
-        place: before + paired,
-    }
+    stop_at(last.position, before + paired, last.shortfall)
 }
 
 // The replay of a word on the places of a bundle.
@@ -194,16 +192,9 @@ fn screen_places(bundle: &[u8], head: Head, word: &[u8]) -> Screened
     requires { ⌜ Searchable (now bundle) head (now word) ⌝ }
     ensures { λ r. ⌜ r ≡ replayed (screenWord (eventsIn (now (bundle .entry))) (netIn (now (bundle .entry))) (now (word .entry))) ⌝ }
 {
-    let start = Found {
-        position: word.len(),
-        place: 0,
-    };
-    let found = search_places(bundle, head, word, 0, start);
+    let found = search_places(bundle, head, word, 0, stop_at(word.len(), 0, 0));
     if found.position < word.len() {
-        return Screened::Stopped(Stop {
-            position: found.position,
-            place: found.place,
-        });
+        return Screened::Stopped(found);
     }
     Screened::Permitted
 }

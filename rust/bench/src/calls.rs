@@ -4,6 +4,7 @@
 use differential::bundles::{Bundle, Place, MAX_PLACES, SAMPLE_A};
 use differential::limits::{Size, LARGEST, MIDDLE};
 use differential::rng::Rng;
+use differential::screening::net;
 use hovmekhar::{
     Summary, CONTENTS_SIZE, MAX_BLOCKS, MAX_BUNDLE_SIZE, MAX_EVENTS, MAX_FILE_SIZE, MAX_LOG_EVENTS,
     MAX_ROWS, MAX_WORD_EVENTS, TABLE_SIZE,
@@ -137,7 +138,7 @@ pub fn on_sealed_bundles() -> Vec<Call<Sealed, u16>> {
     ]
 }
 
-/// Screening of words that are permitted.
+/// Screening of words that are permitted, and of words that are stopped.
 pub fn on_words() -> Vec<Call<Screening, u8>> {
     vec![
         Call {
@@ -151,6 +152,20 @@ pub fn on_words() -> Vec<Call<Screening, u8>> {
             name: "screen",
             size: "64 places, 65,535 events",
             prepare: || without_output(longest_word()),
+            ours: screen_ours,
+            reference: screen_reference,
+        },
+        Call {
+            name: "screen",
+            size: "2 places, 3 events, stopped",
+            prepare: || without_output(sample_stop()),
+            ours: screen_ours,
+            reference: screen_reference,
+        },
+        Call {
+            name: "screen",
+            size: "64 places, 65,535 events, stopped",
+            prepare: || without_output(longest_stop()),
             ours: screen_ours,
             reference: screen_reference,
         },
@@ -319,13 +334,18 @@ pub struct Screening {
     word: Vec<u8>,
 }
 
-/// Screens, and returns how many events are permitted.
+/// Screens, and returns how many events there are, or the sum of what is told of a
+/// stop.
 fn screen_ours(buffers: &mut Buffers<Screening, u8>) -> Option<usize> {
     let Screening { bundle, word } = &buffers.input;
     let screened = hovmekhar::screen(black_box(bundle), black_box(word)).ok()?;
     Some(match screened {
         hovmekhar::Screened::Permitted => word.len(),
-        hovmekhar::Screened::Stopped { position, .. } => position,
+        hovmekhar::Screened::Stopped {
+            position,
+            place,
+            shortfall,
+        } => position + place + shortfall,
     })
 }
 
@@ -334,7 +354,11 @@ fn screen_reference(buffers: &mut Buffers<Screening, u8>) -> Option<usize> {
     let screened = reference::screen(black_box(bundle), black_box(word)).ok()?;
     Some(match screened {
         reference::Screened::Permitted => word.len(),
-        reference::Screened::Stopped { position, .. } => position,
+        reference::Screened::Stopped {
+            position,
+            place,
+            shortfall,
+        } => position + place + shortfall,
     })
 }
 
@@ -354,9 +378,33 @@ fn sample_word() -> Screening {
     }
 }
 
-/// The longest word, with as many places and events as there can be. An event puts
-/// as many tokens into a place as it takes out, or one more.
+/// Sample D: the last place refuses the last event.
+fn sample_stop() -> Screening {
+    Screening {
+        bundle: SAMPLE_A.to_vec(),
+        word: vec![0, 0, 0],
+    }
+}
+
+/// The longest word on the largest net, which permits it.
 fn longest_word() -> Screening {
+    longest_on(largest_net())
+}
+
+/// The same, but the last place refuses the last event.
+fn longest_stop() -> Screening {
+    let mut net = largest_net();
+    net.places[MAX_PLACES - 1] = Place {
+        m: MAX_WORD_EVENTS as u16 - 1,
+        ins: vec![0; net.n],
+        outs: vec![1; net.n],
+    };
+    longest_on(net)
+}
+
+/// As many places and events as there can be. An event puts as many tokens into a
+/// place as it takes out, or one more.
+fn largest_net() -> Bundle {
     let n = MAX_EVENTS;
     let place = |number: usize| {
         let outs: Vec<u16> = (0..n).map(|e| ((e * 7 + number) % 5) as u16).collect();
@@ -367,16 +415,15 @@ fn longest_word() -> Screening {
             outs: outs.clone(),
         }
     };
-    let bundle = Bundle {
-        n,
-        words: Vec::new(),
-        places: (0..MAX_PLACES).map(place).collect(),
-        certificates: Vec::new(),
-    };
+    net(n, (0..MAX_PLACES).map(place).collect())
+}
+
+/// The longest word, on a net.
+fn longest_on(net: Bundle) -> Screening {
     Screening {
-        bundle: bundle.bytes(),
+        bundle: net.bytes(),
         word: (0..MAX_WORD_EVENTS)
-            .map(|i| (i * 167 % 251 % n) as u8)
+            .map(|i| (i * 167 % 251 % net.n) as u8)
             .collect(),
     }
 }

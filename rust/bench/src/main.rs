@@ -15,11 +15,12 @@ fn main() {
     println!("Time of one call in nanoseconds: the median of {ROUNDS} rounds, ours and the");
     println!("reference in turn. Both get the same buffers, allocated once and not cleared");
     println!("between calls. A log is a fresh table and then all of its words, one by one. The");
-    println!("bundles that are judged are accepted, and the words that are screened permitted.");
+    println!("bundles that are judged are accepted, and the words that are screened permitted, or");
+    println!("stopped where the size says so: at the last event, by the last place.");
     println!("The ratio is ours / reference; below 1 ours is faster.");
     println!();
     println!(
-        "{:<10} {:<31} {:>10} {:>10} {:>6}",
+        "{:<10} {:<33} {:>10} {:>10} {:>6}",
         "call", "size", "ours", "reference", "ratio"
     );
     for call in calls::on_files() {
@@ -43,7 +44,7 @@ fn main() {
 fn print<I, T: Default + Clone + PartialEq>(call: &Call<I, T>) {
     let (ours, reference) = timing::compare(call);
     println!(
-        "{:<10} {:<31} {ours:>10.1} {reference:>10.1} {:>6.2}",
+        "{:<10} {:<33} {ours:>10.1} {reference:>10.1} {:>6.2}",
         call.name,
         call.size,
         ours / reference

@@ -19,20 +19,39 @@ fn screen(file: &str, events: &[&str]) -> Done {
 
 #[test]
 fn sample_words() {
-    let stopped = |position, place, event| {
-        let numbers = format!("stopped {position} {place}");
-        let line =
-            format!("{numbers}: event {event} at position {position}, refused by place {place}\n");
-        Done::new(1, &line, "")
-    };
+    let stopped = |line: &str| Done::new(1, &format!("stopped {line}\n"), "");
     let permitted = Done::new(0, "permitted\n", "");
     assert_eq!(screen(A, &["0", "1"]), permitted);
     assert_eq!(screen(A, &[]), permitted);
-    assert_eq!(screen(A, &["1", "0"]), stopped(1, 0, 0));
-    assert_eq!(screen(A, &["0", "0", "0"]), stopped(2, 1, 0));
-    assert_eq!(screen(A, &["0", "0", "1", "1"]), stopped(3, 0, 1));
-    let line = "stopped 0 0: event 0 at position 0, refused by place 0\n";
-    assert_eq!(screen("samples/e.sealed", &["0"]), Done::new(1, line, ""));
+    for (file, events, line) in [
+        (
+            A,
+            ["1", "0"].as_slice(),
+            "1 0 1: event 0 at position 1, refused by place 0; 1 token missing",
+        ),
+        (
+            A,
+            &["0", "0", "0"],
+            "2 1 1: event 0 at position 2, refused by place 1; 1 token missing",
+        ),
+        (
+            A,
+            &["0", "0", "1", "1"],
+            "3 0 1: event 1 at position 3, refused by place 0; 1 token missing",
+        ),
+        (
+            "samples/e.sealed",
+            &["0"],
+            "0 0 1: event 0 at position 0, refused by place 0; 1 token missing",
+        ),
+        (
+            "samples/several.sealed",
+            &["1", "3"],
+            "1 8 46: event 3 at position 1, refused by place 8; 46 tokens missing",
+        ),
+    ] {
+        assert_eq!(screen(file, events), stopped(line), "{file} {events:?}");
+    }
     // The judge refuses this one.
     assert_eq!(screen("samples/f.sealed", &["0", "0"]), permitted);
     let damaged = "samples/damaged.sealed";
@@ -154,12 +173,22 @@ fn owed(run: &mut Run, bundle: &[u8], word: &[u8], name: &str) -> Done {
             run.note("permitted");
             Done::new(0, "permitted\n", "")
         }
-        Ok(Screened::Stopped { position, place }) => {
-            run.note("stopped");
+        Ok(Screened::Stopped {
+            position,
+            place,
+            shortfall,
+        }) => {
+            let missing = if shortfall == 1 {
+                run.note("1 token missing");
+                "1 token missing".to_string()
+            } else {
+                run.note("several tokens missing");
+                format!("{shortfall} tokens missing")
+            };
             let event = word[position];
-            let at = format!("event {event} at position {position}");
-            let line = format!("stopped {position} {place}: {at}, refused by place {place}\n");
-            Done::new(1, &line, "")
+            let numbers = format!("{position} {place} {shortfall}");
+            let step = format!("event {event} at position {position}, refused by place {place}");
+            Done::new(1, &format!("stopped {numbers}: {step}; {missing}\n"), "")
         }
         Err(refusal) => {
             run.count(refusal.number);
@@ -192,7 +221,14 @@ fn generated_words() {
             assert_eq!(screen(name, &events), owed, "{word:?}, {run}");
         }
     }
-    run.finish_with_classes(&[(15, 60)], &[("permitted", 60), ("stopped", 60)]);
+    run.finish_with_classes(
+        &[(15, 60)],
+        &[
+            ("permitted", 60),
+            ("1 token missing", 5),
+            ("several tokens missing", 20),
+        ],
+    );
 }
 
 #[test]

@@ -16,13 +16,25 @@ pub struct Place {
 }
 
 impl Place {
+    /// The tokens after events with these counts: m + sum of v(i) × (in(i) − out(i)).
+    pub fn tokens(&self, v: &[usize]) -> i128 {
+        let mut tokens = self.m;
+        for (i, &count) in v.iter().enumerate() {
+            tokens += count as i128 * (self.ins[i] - self.outs[i]);
+        }
+        tokens
+    }
+
     /// m + sum of v(i) × (in(i) − out(i)) − out(e).
     pub fn surplus(&self, v: &[usize], e: usize) -> i128 {
-        let mut surplus = self.m;
-        for (i, &count) in v.iter().enumerate() {
-            surplus += count as i128 * (self.ins[i] - self.outs[i]);
-        }
-        surplus - self.outs[e]
+        self.tokens(v) - self.outs[e]
+    }
+
+    /// How many tokens are missing where the place refuses: out(e) minus those that
+    /// are there.
+    pub fn shortfall(&self, v: &[usize], e: usize) -> usize {
+        let missing = self.outs[e] - self.tokens(v);
+        usize::try_from(missing).expect("the place refuses the step")
     }
 
     /// A random place that fits, with numbers of up to 64 bits besides the initial
@@ -69,15 +81,29 @@ impl From<&bundles::Place> for Place {
     }
 }
 
-/// The position of the first step of a word over `n` events that is not permitted
-/// by every place, and the lowest place that refuses it.
-pub fn first_refused(n: usize, places: &[Place], word: &[u8]) -> Option<(usize, usize)> {
+/// A refused step of a word.
+#[derive(Clone, Copy, Debug, PartialEq, Eq)]
+pub struct Refused {
+    /// The position of the step.
+    pub position: usize,
+    /// The lowest place that refuses it.
+    pub place: usize,
+    /// How many tokens are missing in this place.
+    pub shortfall: usize,
+}
+
+/// The first step of a word over `n` events that is not permitted by every place.
+pub fn first_refused(n: usize, places: &[Place], word: &[u8]) -> Option<Refused> {
     let mut v = vec![0; n];
     for (position, &event) in word.iter().enumerate() {
         let e = usize::from(event);
         let refusing = places.iter().position(|place| place.surplus(&v, e) < 0);
         if let Some(place) = refusing {
-            return Some((position, place));
+            return Some(Refused {
+                position,
+                place,
+                shortfall: places[place].shortfall(&v, e),
+            });
         }
         v[e] += 1;
     }

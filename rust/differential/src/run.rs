@@ -98,8 +98,13 @@ impl Written {
     fn screened(screened: &Screened) -> Self {
         let (number, answer) = match *screened {
             Screened::Permitted => (0, Vec::new()),
-            Screened::Stopped { position, place } => {
-                (ffi::STOPPED, vec![position as u64, place as u64])
+            Screened::Stopped {
+                position,
+                place,
+                shortfall,
+            } => {
+                let numbers = [position, place, shortfall].map(|number| number as u64);
+                (ffi::STOPPED, numbers.to_vec())
             }
         };
         Self {

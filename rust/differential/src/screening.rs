@@ -7,7 +7,7 @@ use crate::fields::Fields;
 use crate::files::MAX_BUNDLE_SIZE;
 use crate::logs::random_word;
 use crate::nets::small_log;
-use crate::places::first_refused;
+use crate::places::{first_refused, Refused};
 use crate::rng::Rng;
 use crate::run::{refusal, Outcome, Run};
 use reference::Screened;
@@ -16,8 +16,12 @@ use reference::Screened;
 pub const MAX_WORD_EVENTS: usize = 65_535;
 
 /// The answer for a word that is stopped.
-pub fn stopped(position: usize, place: usize) -> Outcome<Screened> {
-    Ok(Screened::Stopped { position, place })
+pub fn stopped(position: usize, place: usize, shortfall: usize) -> Outcome<Screened> {
+    Ok(Screened::Stopped {
+        position,
+        place,
+        shortfall,
+    })
 }
 
 /// Screens a word by the definitions.
@@ -38,7 +42,11 @@ pub fn screen_by_definitions(bundle: &[u8], word: &[u8]) -> Outcome<Screened> {
     }
     match first_refused(n, &places, word) {
         None => Ok(Screened::Permitted),
-        Some((position, place)) => stopped(position, place),
+        Some(Refused {
+            position,
+            place,
+            shortfall,
+        }) => stopped(position, place, shortfall),
     }
 }
 
@@ -104,6 +112,16 @@ impl Kind {
             Kind::Long => random_word(rng, n, 100..=600),
             Kind::Equal => vec![rng.below(n) as u8; rng.within(1..=300)],
         }
+    }
+}
+
+/// A bundle without words and certificates.
+pub fn net(n: usize, places: Vec<Place>) -> Bundle {
+    Bundle {
+        n,
+        words: Vec::new(),
+        places,
+        certificates: Vec::new(),
     }
 }
 

@@ -89,8 +89,22 @@ pub fn line(answer: Outcome<Tally>) -> String {
 pub fn screened_line(answer: Outcome<Screened>) -> String {
     match answer {
         Ok(Screened::Permitted) => "permitted".to_string(),
-        Ok(Screened::Stopped { position, place }) => format!("stopped {position} {place}"),
+        Ok(Screened::Stopped {
+            position,
+            place,
+            shortfall,
+        }) => format!("stopped {position} {place} {shortfall}"),
         Err(refused) => refused_line(refused),
+    }
+}
+
+/// The answer of screening in words, as it was before it told the shortfall.
+pub fn screened_line_without_shortfall(answer: Outcome<Screened>) -> String {
+    match answer {
+        Ok(Screened::Stopped {
+            position, place, ..
+        }) => format!("stopped {position} {place}"),
+        _ => screened_line(answer),
     }
 }
 

@@ -86,8 +86,10 @@ fn screening() {
     assert_eq!(
         run("screen"),
         "0 1: permitted 0, 7 7 7 7\n\
-         1 0: stopped 256, 1 0 7 7\n\
-         0 0 0: stopped 256, 2 1 7 7\n\
+         1 0: stopped 256, 1 0 1 7\n\
+         0 0 0: stopped 256, 2 1 1 7\n\
+         most tokens missing: stopped 256, 1 1 65535 7\n\
+         512 tokens missing: stopped 256, 2 0 512 7\n\
          no event: permitted 0, 7 7 7 7\n\
          a word of the bundle: permitted 0, 7 7 7 7\n\
          empty: refused 4, 0 7 7 7\n\
@@ -95,7 +97,7 @@ fn screening() {
          n = 0: refused 7, 0 7 7 7\n\
          too many events: refused 8, 1026 7 7 7\n\
          long word: refused 14, 65535 7 7 7\n\
-         longest word: stopped 256, 2 1 7 7\n\
+         longest word: stopped 256, 2 1 1 7\n\
          wrong event: refused 15, 2 7 7 7\n"
     );
 }

@@ -241,8 +241,8 @@ struct Screening {
     answered: Vec<u64>,
 }
 
-/// One for each answer that screening has.
-fn screenings() -> [Screening; 9] {
+/// One for each answer that screening has, and one with the largest shortfall.
+fn screenings() -> [Screening; 10] {
     let case = |bundle: &[u8], word: &[u8], number, answered: &[u64]| Screening {
         bundle: bundle.to_vec(),
         word: word.to_vec(),
@@ -250,10 +250,12 @@ fn screenings() -> [Screening; 9] {
         answered: answered.to_vec(),
     };
     let five_words = [vec![1, 5], [vec![255], vec![0; 255]].concat().repeat(5)].concat();
+    let takes_most = [1, 0, 1, 0, 0, 0, 0, 255, 255];
     [
         case(&SAMPLE_A, &[0, 1], 0, &[]),
         case(&SAMPLE_F, &[], 0, &[]),
-        case(&SAMPLE_A, &[1, 0], ffi::STOPPED, &[1, 0]),
+        case(&SAMPLE_A, &[1, 0], ffi::STOPPED, &[1, 0, 1]),
+        case(&takes_most, &[0], ffi::STOPPED, &[0, 0, 65_535]),
         case(&[], &[1, 0], 4, &[0]),
         case(&SAMPLE_A[..28], &[1, 0], 6, &[27]),
         case(&[0, 0, 0], &[1, 0], 7, &[0]),
@@ -303,9 +305,9 @@ fn guards_of_screening_stay_as_they_were() {
             screen_between_guards(&mut run, case, other, this);
         }
     }
-    // For each of 64 alignments each of the 9 cases twice.
+    // For each of 64 alignments each of the 10 cases twice.
     run.finish(&[
-        (0, 384),
+        (0, 512),
         (4, 128),
         (6, 128),
         (7, 128),

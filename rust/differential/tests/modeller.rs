@@ -8,7 +8,7 @@ use differential::logs::random_word;
 use differential::nets::small_log;
 use differential::rng::Rng;
 use differential::run::Run;
-use hovmekhar::{Refusal, Tally};
+use hovmekhar::{Refusal, Screened, Tally};
 use reference::log_rows;
 use std::fs;
 use std::ops::Deref;
@@ -315,7 +315,7 @@ fn judged(bundle: &[u8]) -> Result<Tally, Refusal> {
 }
 
 /// With numbers below 256, places and weights whose bytes are in the wrong order
-/// are multiplied by 256, and no verdict shows it.
+/// are multiplied by 256, and no verdict shows it; only the shortfalls do.
 #[test]
 fn byte_order_can_stay_unseen() {
     let counts = Tally {
@@ -327,13 +327,26 @@ fn byte_order_can_stay_unseen() {
     let places: Vec<usize> = (9..29).step_by(2).collect();
     let k_and_weights = [34, 40, 45];
     let both = [places.as_slice(), &k_and_weights].concat();
-    for offsets in [&[] as &[usize], &places, &k_and_weights, &both] {
+    for (offsets, shortfall) in [
+        (&[] as &[usize], 1),
+        (&places, 256),
+        (&k_and_weights, 1),
+        (&both, 256),
+    ] {
         let bundle = exchanged(&SAMPLE_A, offsets);
         assert_eq!(judged(&bundle), Ok(counts), "{offsets:?}");
-        // Nor does a word that is screened.
-        for word in [[0, 1].as_slice(), &[1, 0], &[0, 0, 0]] {
-            let known = hovmekhar::screen(&SAMPLE_A, word);
-            assert_eq!(hovmekhar::screen(&bundle, word), known);
+        let stopped = |position, place| Screened::Stopped {
+            position,
+            place,
+            shortfall,
+        };
+        for (word, known) in [
+            ([0, 1].as_slice(), Screened::Permitted),
+            (&[1, 0], stopped(1, 0)),
+            (&[0, 0, 0], stopped(2, 1)),
+        ] {
+            let screened = hovmekhar::screen(&bundle, word);
+            assert_eq!(screened, Ok(known), "{offsets:?}, {word:?}");
         }
     }
     // Only some of the numbers: it is another net, or the weights are too small.

@@ -136,9 +136,11 @@ fn generated_files() {
 /// The answers of another implementation.
 #[test]
 fn cases_with_answers() {
-    let cases = vectors::read(include_str!("data/01.txt"));
-    assert_eq!(cases.judge.len(), 120);
-    for case in cases.judge {
-        expect(&case.file, &case.line);
+    for text in [include_str!("data/01.txt"), include_str!("data/02.txt")] {
+        let cases = vectors::read(text).judge;
+        assert_eq!(cases.len(), 120);
+        for case in cases {
+            expect(&case.file, &case.line);
+        }
     }
 }

@@ -395,12 +395,13 @@ fn sample(name: &str) -> PathBuf {
 fn sample_words() {
     for (name, word, line) in [
         ("a.sealed", [0, 1].as_slice(), "permitted"),
-        ("a.sealed", &[1, 0], "stopped 1 0"),
-        ("a.sealed", &[0, 0, 0], "stopped 2 1"),
+        ("a.sealed", &[1, 0], "stopped 1 0 1"),
+        ("a.sealed", &[0, 0, 0], "stopped 2 1 1"),
         ("a.sealed", &[], "permitted"),
-        ("a.sealed", &[0, 0, 1, 0], "stopped 3 0"),
+        ("a.sealed", &[0, 0, 1, 0], "stopped 3 0 1"),
         ("e.sealed", &[], "permitted"),
-        ("e.sealed", &[0], "stopped 0 0"),
+        ("e.sealed", &[0], "stopped 0 0 1"),
+        ("several.sealed", &[1, 3], "stopped 1 8 46"),
         ("f.sealed", &[0, 0, 0], "permitted"),
         ("damaged.sealed", &[0, 1], "refused 2 0"),
         ("damaged.sealed", &[], "refused 2 0"),
@@ -461,7 +462,7 @@ fn longest_words() {
         "refused 14 65535",
     );
     let tight = sample("a.sealed");
-    expect_screened(&tight, &vec![0; MAX_WORD_EVENTS], "stopped 2 1");
+    expect_screened(&tight, &vec![0; MAX_WORD_EVENTS], "stopped 2 1 1");
     // 14 comes before 15; opening comes before both.
     expect_screened(&tight, &vec![9; MAX_WORD_EVENTS + 1], "refused 14 65535");
     expect_screened(&tight, &vec![9; MAX_WORD_EVENTS], "refused 15 0");
@@ -494,14 +495,18 @@ fn numbers() {
     ] {
         expect_screened(&a, &["0", number], "refused 15 1");
     }
-    // Twelve events, of which the last takes a token that is not there.
-    let bundle = [[12, 0, 1].as_slice(), &[0; 48], &[1, 0]].concat();
+    // Twelve events, of which the last takes tokens that are not there.
+    let bundle = [[12, 0, 1].as_slice(), &[0; 48], &[255, 255]].concat();
     let twelve = written("twelve", &build(&bundle));
-    expect_screened(&twelve, &[10, 11], "stopped 1 0");
+    expect_screened(&twelve, &[10, 11], "stopped 1 0 65535");
     expect_screened(&twelve, &[10, 12], "refused 15 1");
     // Zeros in front change nothing.
     expect_screened(&twelve, &["010", "00000000000000000000"], "permitted");
-    expect_screened(&twelve, &["00", "00000000000000000011"], "stopped 1 0");
+    expect_screened(
+        &twelve,
+        &["00", "00000000000000000011"],
+        "stopped 1 0 65535",
+    );
 }
 
 /// Arguments that are no events: a message with the argument's number, and no line.
@@ -583,13 +588,21 @@ fn generated_words() {
             expect_screened(&path, &word, &line);
             match screened {
                 Ok(Screened::Permitted) => run.note("permitted"),
-                Ok(Screened::Stopped { .. }) => run.note("stopped"),
+                Ok(Screened::Stopped { shortfall: 1, .. }) => run.note("1 token missing"),
+                Ok(Screened::Stopped { .. }) => run.note("several tokens missing"),
                 Err(refused) => run.count(refused.number),
             }
         }
         fs::remove_file(path).expect("the file is removed");
     }
-    run.finish_with_classes(&[(15, 100)], &[("permitted", 200), ("stopped", 200)]);
+    run.finish_with_classes(
+        &[(15, 100)],
+        &[
+            ("permitted", 200),
+            ("1 token missing", 20),
+            ("several tokens missing", 50),
+        ],
+    );
 }
 
 /// Files with a fault, in their blocks or in their bundles, against the reference.
@@ -621,7 +634,7 @@ fn generated_faults() {
 /// The answers of another implementation.
 #[test]
 fn cases_with_answers() {
-    let cases = vectors::read(include_str!("data/01.txt")).screen;
+    let cases = vectors::read(include_str!("data/02.txt")).screen;
     assert_eq!(cases.len(), 80);
     for case in cases {
         let path = written("cases_with_answers", &build(&case.bundle));

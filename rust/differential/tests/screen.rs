@@ -4,7 +4,7 @@ use differential::bundles::{Bundle, Certificate, SAMPLE_A, SAMPLE_E, SAMPLE_F};
 use differential::files::MAX_BUNDLE_SIZE;
 use differential::judging::judge;
 use differential::nets::{small_certified, Certified};
-use differential::places::{first_refused, Place};
+use differential::places::{first_refused, Place, Refused};
 use differential::run::{Outcome, Run};
 use differential::screening::{any_net, screen, stopped, Kind};
 use reference::Screened;
@@ -16,15 +16,15 @@ fn samples() {
     let permitted = Ok(Screened::Permitted);
     for (bundle, word, expected) in [
         (SAMPLE_A.as_slice(), [0, 1].as_slice(), permitted),
-        (&SAMPLE_A, &[1, 0], stopped(1, 0)),
-        (&SAMPLE_A, &[0, 0, 0], stopped(2, 1)),
+        (&SAMPLE_A, &[1, 0], stopped(1, 0, 1)),
+        (&SAMPLE_A, &[0, 0, 0], stopped(2, 1, 1)),
         (&SAMPLE_A, &[], permitted),
         (&SAMPLE_A, &[1], permitted),
         (&SAMPLE_A, &[0, 0, 1], permitted),
         // Both places refuse the fourth event.
-        (&SAMPLE_A, &[0, 0, 1, 0], stopped(3, 0)),
+        (&SAMPLE_A, &[0, 0, 1, 0], stopped(3, 0, 1)),
         (&SAMPLE_E, &[], permitted),
-        (&SAMPLE_E, &[0], stopped(0, 0)),
+        (&SAMPLE_E, &[0], stopped(0, 0, 1)),
         // Without a place everything is permitted, also where a certificate is
         // missing.
         (&SAMPLE_F, &[0, 0, 0], permitted),
@@ -50,12 +50,14 @@ fn certified_answer(certified: &Certified, beginning: &[u8], event: usize) -> Ou
         .position(|step| (step.row, step.event) == (row, event));
     match number.map(|number| &bundle.certificates[number]) {
         Some(Certificate::Place(_)) => {
+            let counts = &rows[row].counts;
             let lowest = bundle
                 .places
                 .iter()
-                .position(|place| place.surplus(&rows[row].counts, event) < 0)
+                .position(|place| place.surplus(counts, event) < 0)
                 .expect("the listed place refuses the step");
-            stopped(beginning.len(), lowest)
+            let below_zero = -bundle.places[lowest].surplus(counts, event);
+            stopped(beginning.len(), lowest, below_zero as usize)
         }
         // An allowed step, or one that no net refuses.
         _ => Ok(Screened::Permitted),
@@ -96,22 +98,39 @@ fn log_words() {
 }
 
 /// Notes what is worth seeing where a word is stopped.
-fn note_places(run: &mut Run, bundle: &Bundle, word: &[u8], position: usize, place: usize) {
+fn note_places(run: &mut Run, bundle: &Bundle, word: &[u8], refused: Refused) {
+    let Refused {
+        position,
+        place,
+        shortfall,
+    } = refused;
+    // What each place refuses first, by itself.
     let alone = |place| first_refused(bundle.n, &[Place::from(place)], word);
-    let positions: Vec<Option<usize>> = bundle
-        .places
+    let lower: Vec<Refused> = bundle.places[..place].iter().filter_map(alone).collect();
+    let higher: Vec<Refused> = bundle.places[place + 1..]
         .iter()
-        .map(|place| alone(place).map(|(position, _)| position))
+        .filter_map(alone)
         .collect();
-    let later = |other: &Option<usize>| other.is_some_and(|other| other > position);
-    if positions[place + 1..].contains(&Some(position)) {
+    let same = |other: &Refused| other.position == position;
+    let later = |other: &Refused| other.position > position;
+    let lacks_more = |other: &Refused| other.shortfall > shortfall;
+    if higher.iter().any(same) {
         run.note("a higher place refuses the same step");
     }
-    if positions[..place].iter().any(later) {
+    if higher.iter().any(|other| same(other) && lacks_more(other)) {
+        run.note("a higher place refuses the same step and lacks more");
+    }
+    if lower.iter().any(later) {
         run.note("a lower place refuses a later step");
     }
-    if positions[place + 1..].iter().any(later) {
+    if lower.iter().any(|other| later(other) && lacks_more(other)) {
+        run.note("a lower place refuses a later step and lacks more");
+    }
+    if higher.iter().any(later) {
         run.note("a higher place refuses a later step");
+    }
+    if shortfall > 1 {
+        run.note("several tokens missing");
     }
     if position + 1 == word.len() {
         run.note("stopped at the last event");
@@ -142,8 +161,17 @@ fn any_words_on_any_net() {
         words.push(word);
         for word in words {
             match screen(&mut run, &bytes, &word) {
-                Ok(Screened::Stopped { position, place }) => {
-                    note_places(&mut run, &bundle, &word, position, place);
+                Ok(Screened::Stopped {
+                    position,
+                    place,
+                    shortfall,
+                }) => {
+                    let refused = Refused {
+                        position,
+                        place,
+                        shortfall,
+                    };
+                    note_places(&mut run, &bundle, &word, refused);
                 }
                 outcome => assert_eq!(outcome, Ok(Screened::Permitted), "{run}"),
             }
@@ -158,8 +186,11 @@ fn any_words_on_any_net() {
             ("permitted", 3_000),
             ("stopped", 3_000),
             ("the empty word", 1_500),
+            ("several tokens missing", 1_000),
             ("a higher place refuses the same step", 500),
+            ("a higher place refuses the same step and lacks more", 200),
             ("a lower place refuses a later step", 500),
+            ("a lower place refuses a later step and lacks more", 200),
             ("a higher place refuses a later step", 500),
             ("stopped at the first event", 500),
             ("stopped after more than 20 events", 150),
@@ -176,13 +207,14 @@ fn ends_of_words() {
     for _ in 0..run.cases(1_000) {
         let (bundle, word) = any_net(&mut run.rng);
         let bytes = bundle.bytes();
-        let Ok(Screened::Stopped { position, place }) = screen(&mut run, &bytes, &word) else {
+        let outcome = screen(&mut run, &bytes, &word);
+        let Ok(Screened::Stopped { position, .. }) = outcome else {
             continue;
         };
         let before = screen(&mut run, &bytes, &word[..position]);
         assert_eq!(before, Ok(Screened::Permitted), "{run}");
         let there = screen(&mut run, &bytes, &word[..=position]);
-        assert_eq!(there, stopped(position, place), "{run}");
+        assert_eq!(there, outcome, "{run}");
         run.note("with and without the refused step");
     }
     run.finish_with_classes(&[], &[("with and without the refused step", 200)]);

@@ -6,7 +6,7 @@ use differential::bundles::{Bundle, Field, Place, MAX_PLACES, SAMPLE_A, SAMPLE_E
 use differential::logs::{random_word, MAX_LOG_EVENTS, TABLE};
 use differential::nets::{small_certified, Certified};
 use differential::run::{refusal, Run};
-use differential::screening::{any_net, screen, Kind};
+use differential::screening::{any_net, screen, stopped, Kind};
 use reference::Screened;
 
 /// A word of any kind; one in five has an event that is not there.
@@ -252,10 +252,7 @@ fn places_up_to_the_limit() {
             let outcome = screen(&mut run, &bundle.bytes(), &[0; 5]);
             let expected = match count {
                 0 => Ok(Screened::Permitted),
-                1..=MAX_PLACES => Ok(Screened::Stopped {
-                    position: 2,
-                    place: count - 1,
-                }),
+                1..=MAX_PLACES => stopped(2, count - 1, 1),
                 _ => refusal(7, 4),
             };
             assert_eq!(outcome, expected, "{count} places, {run}");

@@ -1,22 +1,12 @@
 //! Screening: the longest words, the largest nets and the largest numbers.
 
-use differential::bundles::{Bundle, Place, MAX_PLACES};
+use differential::bundles::{Place, MAX_PLACES};
 use differential::files::MAX_BUNDLE_SIZE;
 use differential::limits::{LARGEST, MOST_WORDS};
 use differential::logs::{random_word, MAX_EVENTS};
 use differential::run::{refusal, Run};
-use differential::screening::{screen, stopped, MAX_WORD_EVENTS};
+use differential::screening::{net, screen, stopped, MAX_WORD_EVENTS};
 use reference::Screened;
-
-/// A bundle without words and certificates.
-fn net(n: usize, places: Vec<Place>) -> Bundle {
-    Bundle {
-        n,
-        words: Vec::new(),
-        places,
-        certificates: Vec::new(),
-    }
-}
 
 /// A place over one event.
 fn over_one_event(m: u16, puts: u16, takes: u16) -> Place {
@@ -40,7 +30,7 @@ fn positions_of_the_longest_word() {
         let outcome = screen(&mut run, &bytes, &longest);
         let expected = match usize::from(m) {
             MAX_WORD_EVENTS => Ok(Screened::Permitted),
-            position => stopped(position, 0),
+            position => stopped(position, 0, 1),
         };
         assert_eq!(outcome, expected, "{run}");
         let too_long = screen(&mut run, &bytes, &vec![0; MAX_WORD_EVENTS + 1]);
@@ -88,11 +78,13 @@ fn largest_numbers() {
         (0, largest, 0, permitted),
         (largest, largest, largest, permitted),
         (largest, 0, 1, permitted),
-        (largest, 0, 2, stopped(32_767, 0)),
-        (largest, 0, largest, stopped(1, 0)),
-        (largest - 1, 0, largest, stopped(0, 0)),
-        (largest - 1, largest, largest, stopped(0, 0)),
-        (0, largest, 1, stopped(0, 0)),
+        (largest, 0, 2, stopped(32_767, 0, 1)),
+        (largest, 0, largest, stopped(1, 0, 65_535)),
+        (largest - 1, 0, largest, stopped(0, 0, 1)),
+        (largest - 1, largest, largest, stopped(0, 0, 1)),
+        (0, largest, 1, stopped(0, 0, 1)),
+        (0, largest, largest, stopped(0, 0, 65_535)),
+        (255, largest, largest, stopped(0, 0, 65_280)),
         (1, largest, 1, permitted),
     ] {
         let bytes = net(1, vec![over_one_event(m, puts, takes)]).bytes();
@@ -105,10 +97,10 @@ fn largest_numbers() {
     for (ups, downs, expected) in [
         (32_767, 32_768, permitted),
         (32_767, 32_767, permitted),
-        (32_766, 32_768, stopped(65_533, 0)),
+        (32_766, 32_768, stopped(65_533, 0, 65_535)),
         (40_000, 25_535, permitted),
-        (1, 65_534, stopped(3, 0)),
-        (0, 65_535, stopped(1, 0)),
+        (1, 65_534, stopped(3, 0, 65_535)),
+        (0, 65_535, stopped(1, 0, 65_535)),
     ] {
         let place = Place {
             m: largest,
@@ -119,7 +111,21 @@ fn largest_numbers() {
         let outcome = screen(&mut run, &net(2, vec![place]).bytes(), &word);
         assert_eq!(outcome, expected, "{ups} {downs}, {run}");
     }
-    run.finish_with_classes(&[(0, 16)], &[("permitted", 8), ("stopped", 8)]);
+
+    // The same with one token fewer taken out: so many are left over each time.
+    for ups in [0, 1, 30_000, 32_766] {
+        let place = Place {
+            m: largest,
+            ins: vec![largest, 0],
+            outs: vec![0, largest - 1],
+        };
+        let left = ups + 1;
+        let word = [vec![0; ups], vec![1; left + 1]].concat();
+        let outcome = screen(&mut run, &net(2, vec![place]).bytes(), &word);
+        let expected = stopped(ups + left, 0, 65_534 - left);
+        assert_eq!(outcome, expected, "{ups}, {run}");
+    }
+    run.finish_with_classes(&[(0, 22)], &[("permitted", 8), ("stopped", 14)]);
 }
 
 /// 64 places over twelve events and the longest word: permitted, or stopped by any
@@ -156,7 +162,8 @@ fn largest_net() {
             };
         }
         let bytes = net(MAX_EVENTS, places).bytes();
-        assert_eq!(run.screen(&bytes, &word), stopped(position, place), "{run}");
+        let expected = stopped(position, place, 1);
+        assert_eq!(run.screen(&bytes, &word), expected, "{run}");
     }
     run.finish_with_classes(&[(0, 12)], &[("permitted", 6), ("stopped", 6)]);
 }

@@ -5,7 +5,7 @@ use differential::bundles::{Field, Layout, SAMPLE_A, SAMPLE_E, SAMPLE_H};
 use differential::files::MAX_BUNDLE_SIZE;
 use differential::limits::Size;
 use differential::run::{refusal, Outcome, Run};
-use differential::screening::{screen, MAX_WORD_EVENTS};
+use differential::screening::{screen, stopped, MAX_WORD_EVENTS};
 use reference::{Refusal, Screened};
 use std::ops::Range;
 
@@ -160,20 +160,8 @@ fn lengths_come_first() {
         (&SAMPLE_A[..28], six(27)),
         (&[0], refusal(7, 0)),
         (&[13], refusal(7, 0)),
-        (
-            &SAMPLE_A,
-            Ok(Screened::Stopped {
-                position: 1,
-                place: 0,
-            }),
-        ),
-        (
-            &too_long[..MAX_BUNDLE_SIZE],
-            Ok(Screened::Stopped {
-                position: 1,
-                place: 0,
-            }),
-        ),
+        (&SAMPLE_A, stopped(1, 0, 1)),
+        (&too_long[..MAX_BUNDLE_SIZE], stopped(1, 0, 1)),
     ];
     for length in [
         MAX_WORD_EVENTS + 1,

@@ -12,9 +12,15 @@ use std::error::Error;
 fn outcome(result: Result<Screened, Refusal>) -> Outcome<reference::Screened> {
     match result {
         Ok(Screened::Permitted) => Ok(reference::Screened::Permitted),
-        Ok(Screened::Stopped { position, place }) => {
-            Ok(reference::Screened::Stopped { position, place })
-        }
+        Ok(Screened::Stopped {
+            position,
+            place,
+            shortfall,
+        }) => Ok(reference::Screened::Stopped {
+            position,
+            place,
+            shortfall,
+        }),
         Err(Refusal { number, spot }) => Err(reference::Refusal { number, spot }),
     }
 }
@@ -58,20 +64,26 @@ fn screen_agrees() {
     );
 }
 
-/// Samples B, C and D.
+/// Samples B, C and D, and the largest shortfall.
 #[test]
 fn samples() {
-    for (word, expected) in [
-        ([0, 1].as_slice(), Screened::Permitted),
-        (&[1, 0], stopped(1, 0)),
-        (&[0, 0, 0], stopped(2, 1)),
+    let takes_most = [1, 0, 1, 0, 0, 0, 0, 255, 255];
+    for (bundle, word, expected) in [
+        (SAMPLE_A.as_slice(), [0, 1].as_slice(), Screened::Permitted),
+        (&SAMPLE_A, &[1, 0], stopped(1, 0, 1)),
+        (&SAMPLE_A, &[0, 0, 0], stopped(2, 1, 1)),
+        (&takes_most, &[0], stopped(0, 0, 65_535)),
     ] {
-        assert_eq!(hovmekhar::screen(&SAMPLE_A, word), Ok(expected), "{word:?}");
+        assert_eq!(hovmekhar::screen(bundle, word), Ok(expected), "{word:?}");
     }
 }
 
-fn stopped(position: usize, place: usize) -> Screened {
-    Screened::Stopped { position, place }
+fn stopped(position: usize, place: usize, shortfall: usize) -> Screened {
+    Screened::Stopped {
+        position,
+        place,
+        shortfall,
+    }
 }
 
 /// The word may be a part of the bundle, as a word of its log is, with or without

@@ -5,8 +5,9 @@
 //! digits and at most 255; no event is the empty word.
 //!
 //! Prints `accepted` with four counts, then `permitted`, or `stopped` with a
-//! position and a place. The first call that refuses ends it with `refused`, a
-//! number and a spot; what the number means goes to standard error.
+//! position, a place and how many tokens it lacks. The first call that refuses ends
+//! it with `refused`, a number and a spot; what the number means goes to standard
+//! error.
 //!
 //! Ends with 0 for a word that is permitted, 1 for one that is stopped and for a
 //! refusal, 2 for wrong arguments, 3 for trouble with reading or writing. The
@@ -103,8 +104,12 @@ fn answer(file: &[u8], word: &[u8], lines: &mut String) -> Result<u8, Refusal> {
             *lines += "permitted\n";
             Ok(PERMITTED)
         }
-        Screened::Stopped { position, place } => {
-            *lines += &format!("stopped {position} {place}\n");
+        Screened::Stopped {
+            position,
+            place,
+            shortfall,
+        } => {
+            *lines += &format!("stopped {position} {place} {shortfall}\n");
             Ok(NOT_PERMITTED)
         }
     }

@@ -14,7 +14,8 @@
 //! continuation*: each event that does not follow the counts of a row in the log.
 //! [`judge`] accepts it when the net permits the log and every certificate holds;
 //! [`judge_file`] opens a file and judges its bundle.
-//! [`screen`] replays a word on the net of a bundle, and says where it is stopped.
+//! [`screen`] replays a word on the net of a bundle, and says where it is stopped
+//! and how many tokens were missing.
 //!
 //! A call that cannot give a result returns a [`Refusal`] and writes nothing; only
 //! [`judge`] clears the table, and so does [`judge_file`] for a bundle that it has

@@ -38,6 +38,9 @@ pub enum Screened {
         position: usize,
         /// The lowest place that refuses it.
         place: usize,
+        /// How many tokens this place lacks: what the event takes out, less the
+        /// tokens that are there before it. At least 1, at most 65,535.
+        shortfall: usize,
     },
 }
 
@@ -70,24 +73,29 @@ pub enum Screened {
 /// assert_eq!(hovmekhar::screen(&bundle, &[0, 1])?, Screened::Permitted);
 /// assert_eq!(
 ///     hovmekhar::screen(&bundle, &[1, 0])?,
-///     Screened::Stopped { position: 1, place: 0 }
+///     Screened::Stopped { position: 1, place: 0, shortfall: 1 }
 /// );
 /// assert_eq!(
 ///     hovmekhar::screen(&bundle, &[0, 0, 0])?,
-///     Screened::Stopped { position: 2, place: 1 }
+///     Screened::Stopped { position: 2, place: 1, shortfall: 1 }
 /// );
 ///
 /// let refusal = hovmekhar::screen(&bundle, &[1, 0, 2]).unwrap_err();
 /// assert_eq!(refusal, Refusal { number: Refusal::WORD_EVENT, spot: 2 });
 /// # Ok::<(), Refusal>(())
 /// ```
+#[inline]
 pub fn screen(bundle: &[u8], word: &[u8]) -> Result<Screened, Refusal> {
     let mut answer = Answer::default();
     let number = ffi::screen(bundle, word, &mut answer);
     if number == ffi::STOPPED {
         // `usize` has 64 bits here, so the conversions keep the values.
-        let [position, place, ..] = answer.map(|number| number as usize);
-        return Ok(Screened::Stopped { position, place });
+        let [position, place, shortfall, _] = answer.map(|number| number as usize);
+        return Ok(Screened::Stopped {
+            position,
+            place,
+            shortfall,
+        });
     }
     Refusal::check(number, answer)?;
     Ok(Screened::Permitted)

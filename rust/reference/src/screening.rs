@@ -21,6 +21,8 @@ pub enum Screened {
         position: usize,
         /// The lowest place that refuses it.
         place: usize,
+        /// How many tokens this place lacks for it.
+        shortfall: usize,
     },
 }
 
@@ -68,35 +70,39 @@ fn replay(places: &[Place<i64>], word: &[u8]) -> Screened {
     // What is permitted by all places so far. A further place has to refuse a step
     // of it, so the lowest place stays where several refuse the same step.
     let mut permitted = word;
-    let mut refusing = None;
+    let mut screened = Screened::Permitted;
     for (number, place) in places.iter().enumerate() {
-        if let Some(position) = place.first_refused(permitted) {
+        if let Some((position, shortfall)) = place.first_refused(permitted) {
             permitted = &permitted[..position];
-            refusing = Some(number);
+            screened = Screened::Stopped {
+                position,
+                place: number,
+                shortfall,
+            };
         }
     }
-    match refusing {
-        None => Screened::Permitted,
-        Some(place) => Screened::Stopped {
-            position: permitted.len(),
-            place,
-        },
-    }
+    screened
 }
 
 /// All numbers have at most two bytes and the word has at most 65,535 events, so
 /// the tokens pass 32 bits, but stay far inside 64.
 impl Place<i64> {
-    /// The position of the first step that the place refuses.
-    // Not inlined: on its own the loop is faster by a fifth.
+    /// The position of the first step that the place refuses, and how many tokens
+    /// it lacks there.
+    // Not inlined, and no `for` loop: each would be slower by a fifth.
     #[inline(never)]
-    fn first_refused(&self, word: &[u8]) -> Option<usize> {
+    fn first_refused(&self, word: &[u8]) -> Option<(usize, usize)> {
         let mut tokens = self.initial;
-        word.iter().position(|&event| {
+        let position = word.iter().position(|&event| {
             let event = usize::from(event);
-            let refused = !self.permits(tokens, event);
-            tokens += self.change[event];
-            refused
-        })
+            let permitted = self.permits(tokens, event);
+            if permitted {
+                tokens += self.change[event];
+            }
+            !permitted
+        })?;
+        let event = usize::from(word[position]);
+        // Above 0, since the step is refused.
+        Some((position, (self.out[event] - tokens) as usize))
     }
 }

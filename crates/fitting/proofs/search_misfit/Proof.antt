@@ -9,10 +9,10 @@ use borrow.Author.Needs.{needs}
 use borrow.Author.Tests.{not-true, not-false}
 use lib.ListN.{length, drop}
 use Rattle.laws.specs.Scans.{firstFailing, failing-here, failing-again, failing-end}
-use Rattle.nets.specs.Nets.{Place, fits}
+use Rattle.nets.specs.Nets.{Place, noPlace, fits}
 use Rattle.bundles.specs.HeadReading.{net-size}
 use Rattle.bundles.specs.Readers.{eventsIn, logIn, netIn}
-use Rattle.fitting.specs.Fitting.{misfitIn, noPlace, placeIn}
+use Rattle.fitting.specs.Fitting.{misfitIn, placeIn}
 use Rattle.fitting.specs.FittingLaws.{fits-held}
 use Rattle.fitting.proofs.Places.{Next, next-start, next-is, next-inside, next-again}
 use Rattle.fitting.proofs.search_misfit.Statement.{statement}

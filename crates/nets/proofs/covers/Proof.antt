@@ -1,10 +1,13 @@
--- `nets::covers` meets its contract, by what `surplus` ensures.
+-- `nets::covers` meets its contract, by what `surplus` and `shortfall` ensure.
 use mathlib.Core.Path.{sym, ap, _∙_, subst}
+use Prim.Native.Nat.{ℕ}
+use borrow.Author.Needs.{needs}
+use lib.Dec.{eqb}
 use lib.IntN.{ℤ, pos, _-ℤ_}
-use lib.Signed.{leZ, nonNeg}
+use lib.Signed.{nonNeg}
 use mir.Syntax.{w64}
 use mir.Facts.{toZ-ofZ}
-use Rattle.laws.specs.Differences.{zero-leZ}
+use Rattle.laws.specs.Differences.{negative-tested}
 use Rattle.nets.specs.Machine.{Held}
 use Rattle.nets.proofs.covers.Statement.{statement}
 use Rattle.nets.proofs.covers.Tie as tie
@@ -14,10 +17,12 @@ surplus-requires c κs = subst Held (sym (toZ-ofZ (c .fits .tokens))) (c .pre)
 
 returns : tie.Need-returns
 returns c =
-    ap (leZ (pos 0)) {y = c .surplus .result} (toZ-ofZ {w = w64} (record { sfits = c .surplus .ok }))
-    ∙ zero-leZ (c .surplus .result)
-    ∙ ap nonNeg (c .surplus .ensures)
-    ∙ ap (λ (t : ℤ). nonNeg (t -ℤ pos (c .before .args .consumed))) (toZ-ofZ (c .before .fits .tokens))
+    let surplus = c .before .surplus in
+    ap (λ (k : ℕ). eqb k 0) (c .shortfall .ensures)
+    ∙ negative-tested _
+    ∙ ap nonNeg {y = surplus .result} (toZ-ofZ {w = w64} (record { sfits = surplus .ok }))
+    ∙ ap nonNeg (surplus .ensures)
+    ∙ ap (λ (t : ℤ). nonNeg (t -ℤ pos (c .before .before .args .consumed))) (toZ-ofZ (c .before .before .fits .tokens))
 
 pub covers-spec : {M : Type 1} → statement M
-covers-spec = tie.close (tie.spec surplus-requires returns)
+covers-spec = tie.close (tie.spec surplus-requires (λ c κs. search needs) returns)

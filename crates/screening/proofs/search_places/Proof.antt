@@ -1,11 +1,12 @@
 -- `screening::search_places` meets its contract: the pairs, and an odd last place.
-use mathlib.Core.Path.{_≡_}
-use Prim.Native.Nat.{_+_, _*_, _/_, _≤_}
+use mathlib.Core.Path.{_≡_, subst}
+use Prim.Native.Nat.{_+_, _*_, _/_, _≤_, _<_}
 use native.Mathlib.Omega.{arith}
 use borrow.Author.Needs.{needs}
 use lib.ListN.{length}
 use Rattle.bundles.specs.PlaceReading.{placeSize, place-inside}
 use Rattle.screening.specs.Searching.{over-head, search-stays, search-earlier}
+use Rattle.screening.specs.declared.Stop.{Stop}
 use Rattle.screening.proofs.search_places.Statement.{statement}
 use Rattle.screening.proofs.search_places.Tie as tie
 
@@ -31,28 +32,40 @@ mul-at-3 c = omega (arith, inside (c .before))
 add-at-2 : tie.Need-add-at-2
 add-at-2 c = omega (arith, inside (c .before .before))
 
-reach-of-requires : tie.Need-reach-of-requires
-reach-of-requires c κs =
+stop-of-place-at-requires : tie.Need-stop-of-place-at-requires
+stop-of-place-at-requires c κs =
     let start = c .before .before .before .before .before .before .before .before in
     ((start .pre .0 .found .limits .1, start .pre .0 .word), (inside (c .before .before), c .before .before .before .before .before .search-pairs .ensures .0))
 
 returns-2 : tie.Need-returns-2
 returns-2 c =
-    let last = c .before .before in
+    let last = c .before .before .before in
     let start = last .before .before .before .before .before .before .before .before .before in
     let found = last .before .before .before .before .before .before .search-pairs in
     let args = start .args in
     let all : 2 * (args .head .places .count / 2) + 1 ≡ args .head .places .count = omega arith in
-    over-head (start .pre .0 .found) (λ net size best. rw all at (search-stays (args .head .n) (args .word .now) (start .pre .0 .word .events) net (args .bundle .now) (args .head .places .first) (2 * (args .head .places .count / 2)) (found .result .position) (found .result .place) (found .ensures .1 net size best) (last .reach-of .result) (last .reach-of .ensures) (c .if2 .taken)))
+    let later = subst (λ (s : Stop). found .result .position ≤ s .position) (last .stop-of-place-at .ensures) (c .if2 .taken) in
+    over-head (start .pre .0 .found) (λ net size best. rw all at
+    (search-stays (args .head .n) (args .word .now) (start .pre .0 .word .events) net (args .bundle .now) (args .head .places .first) (2 * (args .head .places .count / 2))
+    (found .ensures .1 net size best) (found .result .position) (found .ensures .0) later))
+
+add-stop-at : tie.Need-add-stop-at
+add-stop-at c =
+    let start = c .before .before .before .before .before .before .before .before .before .before .before .before in
+    omega (arith, start .pre .1 .0, start .pre .0 .found .few)
 
 returns-3 : tie.Need-returns-3
 returns-3 c =
-    let last = c .before .before in
+    let last = c .before .before .before .before in
     let start = last .before .before .before .before .before .before .before .before .before in
     let found = last .before .before .before .before .before .before .search-pairs in
     let args = start .args in
     let all : 2 * (args .head .places .count / 2) + 1 ≡ args .head .places .count = omega arith in
-    over-head (start .pre .0 .found) (λ net size best. rw (← size) (rw all at (search-earlier (args .head .n) (args .word .now) (start .pre .0 .word .events) net (args .bundle .now) (args .head .places .first) (2 * (args .head .places .count / 2)) (found .result .position) (found .result .place) (found .ensures .1 net size best) (last .reach-of .result) (last .reach-of .ensures) (c .if2 .left))))
+    let earlier = subst (λ (s : Stop). s .position < found .result .position) (last .stop-of-place-at .ensures) (c .before .if2 .left) in
+    over-head (start .pre .0 .found) (λ net size best. rw (c .stop-at .ensures, last .stop-of-place-at .ensures, ← size)
+    (rw all at
+    (search-earlier (args .head .n) (args .word .now) (start .pre .0 .word .events) net (args .bundle .now) (args .head .places .first) (2 * (args .head .places .count / 2))
+    (found .ensures .1 net size best) (found .result .position) (found .ensures .0) earlier earlier)))
 
 pub search-places-spec : {M : Type 1} → statement M
 search-places-spec =
@@ -66,7 +79,8 @@ search-places-spec =
     mul-at-2
     mul-at-3
     add-at-2
-    reach-of-requires
+    stop-of-place-at-requires
     returns-2
-    (λ c. search needs)
+    add-stop-at
+    (λ c κs. search needs)
     returns-3)

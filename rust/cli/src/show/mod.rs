@@ -23,6 +23,7 @@ use hovmekhar::MAX_FILE_SIZE;
 use std::ffi::OsStr;
 
 pub use look::Look;
+pub(crate) use page::count;
 
 /// Shows a file, or one of its certificates.
 ///

@@ -25,6 +25,11 @@ int main(void)
     const uint8_t bundle[] = {
         2, 2, 1, 1, 3, 0, 0, 1, 2, 1, 0, 1, 0, 0, 0, 1, 0, 1, 0, 2, 0, 0, 0, 0, 0, 1, 0, 0, 0,
     };
+    /* Two events and two places: event 0 takes 512 tokens of 1,024 from place 0, event 1
+     * takes 65,535 tokens from place 1, which has none. */
+    const uint8_t takes_many[] = {
+        2, 0, 2, 0, 4, 0, 0, 0, 0, 0, 2, 0, 0, 0, 0, 0, 0, 0, 0, 0, 0, 255, 255,
+    };
     const uint8_t no_events[] = {0, 0, 0};
     /* Five words of 255 events 0. */
     static uint8_t five_words[2 + 5 * 256] = {1, 5};
@@ -34,12 +39,15 @@ int main(void)
     const uint8_t permitted[] = {0, 1};
     const uint8_t after_the_end[] = {1, 0};
     const uint8_t third_time[] = {0, 0, 0};
+    const uint8_t after_one[] = {0, 1};
     const uint8_t wrong[] = {1, 0, 2};
     static const uint8_t long_word[HOV_MAX_WORD_EVENTS + 1];
 
     screen("0 1", bundle, sizeof bundle, permitted, sizeof permitted);
     screen("1 0", bundle, sizeof bundle, after_the_end, sizeof after_the_end);
     screen("0 0 0", bundle, sizeof bundle, third_time, sizeof third_time);
+    screen("most tokens missing", takes_many, sizeof takes_many, after_one, sizeof after_one);
+    screen("512 tokens missing", takes_many, sizeof takes_many, third_time, sizeof third_time);
     screen("no event", bundle, sizeof bundle, permitted, 0);
     screen("a word of the bundle", bundle, sizeof bundle, bundle + 5, 3);
     screen("empty", bundle, 0, permitted, sizeof permitted);

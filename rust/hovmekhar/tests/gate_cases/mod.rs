@@ -65,14 +65,15 @@ type Case = (
 const CASES: &[Case] = &[
     // The words B, C and D, and others that are permitted.
     ("a.sealed", &["0", "1"], 0, "accepted 5 4 5 1\npermitted", ""),
-    ("a.sealed", &["1", "0"], 1, "accepted 5 4 5 1\nstopped 1 0", ""),
-    ("a.sealed", &["0", "0", "0"], 1, "accepted 5 4 5 1\nstopped 2 1", ""),
+    ("a.sealed", &["1", "0"], 1, "accepted 5 4 5 1\nstopped 1 0 1", ""),
+    ("a.sealed", &["0", "0", "0"], 1, "accepted 5 4 5 1\nstopped 2 1 1", ""),
     ("a.sealed", &[], 0, "accepted 5 4 5 1\npermitted", ""),
     ("a.sealed", &["00", "000", "001"], 0, "accepted 5 4 5 1\npermitted", ""),
     // The other samples.
     ("e.sealed", &[], 0, "accepted 1 0 1 0\npermitted", ""),
-    ("e.sealed", &["0"], 1, "accepted 1 0 1 0\nstopped 0 0", ""),
+    ("e.sealed", &["0"], 1, "accepted 1 0 1 0\nstopped 0 0 1", ""),
     ("several.sealed", &["0"], 0, "accepted 43 42 177 39\npermitted", ""),
+    ("several.sealed", &["1", "3"], 1, "accepted 43 42 177 39\nstopped 1 8 46", ""),
     ("f.sealed", &["0"], 1, "refused 6 3", BUNDLE_END),
     ("damaged.sealed", &["0"], 1, "refused 2 0", BLOCK_SUMS),
     ("shuffled.sealed", &["0"], 1, "refused 17 1", BLOCK_NUMBER),
@@ -199,7 +200,7 @@ fn check_lengths(program: &Path) {
 
     let answer = |line: &str| format!("accepted 5 4 5 1\n{line}");
     let longest = ["0"; 65_535];
-    let stopped = expected(1, &answer("stopped 2 1"), "");
+    let stopped = expected(1, &answer("stopped 2 1 1"), "");
     let refused = expected(1, &answer("refused 14 65535"), WORD_LENGTH);
     assert_eq!(ask(&a, &longest), stopped);
     assert_eq!(ask(&a, &["0"; 65_536]), refused);

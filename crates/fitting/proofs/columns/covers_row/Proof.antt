@@ -5,7 +5,7 @@ use native.Mathlib.Omega.{arith}
 use borrow.Author.Needs.{needs}
 use borrow.Author.Tests.{ltb-true}
 use lib.Bits.{bitOr, or-add-and, and-le-l, and-le-r}
-use lib.Dec.{T, ltb}
+use lib.Dec.{T, eqb, ltb}
 use lib.IntN.{ℤ, pos, negsuc, _-ℤ_}
 use lib.ListN.{getD}
 use lib.Signed.{nonNeg}
@@ -13,7 +13,7 @@ use mathlib.Core.Bool.{Bool, true, false}
 use mir.Syntax.{w64}
 use mir.Val.{SFits, sel, toZ, ofZ}
 use mir.Facts.{toZ-ofZ}
-use Rattle.laws.specs.Differences.{zero-leZ}
+use Rattle.laws.specs.Differences.{negative-tested}
 use Rattle.nets.specs.Machine.{Held}
 use Rattle.fitting.specs.ColumnLaws.{each-next}
 use Rattle.fitting.proofs.columns.covers_row.Statement.{statement}
@@ -77,8 +77,9 @@ loop-again c =
 
 returns : tie.Need-returns Inv-loop μ-loop
 returns c = λ yes j b.
-    let loop = c .before .loop in
-    loop .inv .1 j (omega arith) (sign-clear (loop .all) (sym (zero-leZ (toZ w64 (loop .all))) ∙ yes))
+    let loop = c .before .before .loop in
+    let none = sym (negative-tested (toZ w64 (loop .all))) ∙ ap (λ (k : ℕ). eqb k 0) (sym (c .shortfall .ensures)) ∙ yes in
+    loop .inv .1 j (omega arith) (sign-clear (loop .all) none)
 
 pub covers-row-spec : {M : Type 1} → statement M
 covers-row-spec =
@@ -96,4 +97,5 @@ covers-row-spec =
     (λ c. search needs)
     (λ c. search needs)
     loop-again
+    (λ c κs. search needs)
     returns)

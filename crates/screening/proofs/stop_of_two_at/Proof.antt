@@ -1,19 +1,19 @@
--- `screening::pair_at` meets its contract.
+-- `screening::stop_of_two_at` meets its contract.
 use mathlib.Core.Path.{ap₂, _∙_}
 use native.Mathlib.Omega.{arith}
 use borrow.Author.Needs.{needs}
 use lib.ListN.{length-take}
-use Rattle.screening.specs.Searching.{firstOf, part-below, reach-means}
-use Rattle.screening.proofs.pair_at.Statement.{statement}
-use Rattle.screening.proofs.pair_at.Tie as tie
+use Rattle.screening.specs.Searching.{firstOf, part-below, stop-means}
+use Rattle.screening.proofs.stop_of_two_at.Statement.{statement}
+use Rattle.screening.proofs.stop_of_two_at.Tie as tie
 
-slice-aggregate-pair-permitted : tie.Need-slice-aggregate-pair-permitted
-slice-aggregate-pair-permitted c =
+slice-aggregate-stop-of-two : tie.Need-slice-aggregate-stop-of-two
+slice-aggregate-stop-of-two c =
     let start = c .before .before .before .before .before in
     omega (arith, length-take (start .args .end) (start .args .word .now))
 
-pair-permitted-requires : tie.Need-pair-permitted-requires
-pair-permitted-requires c κs =
+stop-of-two-requires : tie.Need-stop-of-two-requires
+stop-of-two-requires c κs =
     let start = c .before .before .before .before .before in
     let args = start .args in
     record {
@@ -24,10 +24,10 @@ pair-permitted-requires c κs =
 returns : tie.Need-returns
 returns c =
     let second = c .before .before in
-    c .pair-permitted .ensures ∙ ap₂ firstOf (reach-means _ _ _ _ _ (second .before .place-at .ensures)) (reach-means _ _ _ _ _ (second .place-at2 .ensures))
+    c .stop-of-two .ensures ∙ ap₂ firstOf (stop-means _ _ _ _ _ (second .before .place-at .ensures)) (stop-means _ _ _ _ _ (second .place-at2 .ensures))
 
-pub pair-at-spec : {M : Type 1} → statement M
-pair-at-spec =
+pub stop-of-two-at-spec : {M : Type 1} → statement M
+stop-of-two-at-spec =
     tie.close
     (tie.spec
     (λ c κs. search needs)
@@ -36,6 +36,6 @@ pair-at-spec =
     (λ c. search needs)
     (λ c. search needs)
     (λ c κs. search needs)
-    slice-aggregate-pair-permitted
-    pair-permitted-requires
+    slice-aggregate-stop-of-two
+    stop-of-two-requires
     returns)
