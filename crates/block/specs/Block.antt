@@ -35,10 +35,6 @@ withSums bytes = bytes ++ (le16 (plainSum bytes) ++ le16 (positionSum bytes))
 unfoldable pub block : ℕ → List ℕ → List ℕ
 block number contents = withSums (summedBytes number contents)
 
--- a block before anything is written to it
-unfoldable pub blank : List ℕ
-blank = replicate 512 0
-
 -- ---- The rules of a block
 
 -- bytes 2 and 3

@@ -2,19 +2,19 @@
 use mathlib.Core.Path.{_≡_, refl, sym, ap, ap₂, _∙_}
 use mathlib.Core.Bool.{Bool, true, false}
 use mathlib.Core.Logic.{_↔_, Iff·trans}
-use mathlib.Core.List.{List, [], _∷_, _++_, append-assoc, append-nil}
+use mathlib.Core.List.{List, [], _∷_, _++_, append-assoc}
 use Prim.Native.Nat.{ℕ, zero, suc, _+_, _-_, _≤_, _<_}
 use native.Mathlib.Omega.{arith}
-use lib.ListN.{length, take, drop, replicate, length-append, length-take, length-drop, length-replicate, replicate-append-replicate}
+use lib.ListN.{length, take, drop, replicate, length-append, length-take, length-drop, length-replicate}
 use lib.Seq.{take-all, take-at, drop-at}
 use lib.Dec.{eqb, leb}
 use borrow.Author.Tests.{leb-true, eqb-true, eqb-false, eq-eqb, ne-eqb, le-leb}
 use Rattle.laws.specs.Booleans.{impossible, and-left, and-right}
 use Rattle.laws.specs.Lists.{all}
-use Rattle.laws.specs.Parts.{front, spliced, front-next, adjacent, drop-replicate}
+use Rattle.laws.specs.Parts.{spliced, spliced-next, adjacent}
 use Rattle.laws.specs.Numbers.{Bytes, le16, numberAt, numberAt-after, le16-numberAt}
 use Rattle.refusals.specs.Table.{BLOCK-SUMS, BLOCK-NUMBER, BLOCK-USE}
-use Rattle.block.specs.Block.{plainSum, positionSum, padded, summedBytes, withSums, block, blank, usedCount, usedContents, isZero, rightNumber, rightCount, rightPadding, rightUse, rightSums, unless, fault}
+use Rattle.block.specs.Block.{plainSum, positionSum, padded, summedBytes, withSums, block, usedCount, usedContents, isZero, rightNumber, rightCount, rightPadding, rightUse, rightSums, unless, fault}
 
 -- ---- What the rules say
 
@@ -122,35 +122,26 @@ pub length-summedBytes : (number : ℕ) (contents : List ℕ) → length content
 unfolding summedBytes padded
 length-summedBytes number contents h = simp (length-append, length-replicate) (omega arith)
 
-drop-blank : (k : ℕ) → drop k blank ≡ replicate (512 - k) 0
-unfolding blank
-drop-blank k = drop-replicate k 512 0
+-- its pieces, written one after the other from `at` on
+pub written-summed : (at number : ℕ) (contents l : List ℕ) → length contents ≤ 504 → at + 508 ≤ length l
+    → spliced (at + 4 + length contents) (replicate (504 - length contents) 0)
+    (spliced (at + 4) contents (spliced (at + 2) (le16 (length contents)) (spliced at (le16 number) l)))
+    ≡ spliced at (summedBytes number contents) l
+unfolding summedBytes padded
+written-summed at number contents l most room =
+    let head : List ℕ = le16 number ++ le16 (length contents) in
+    let zeros : List ℕ = replicate (504 - length contents) 0 in
+    let behind : at + 4 + length contents ≡ at + length (head ++ contents) = omega arith in
+    rw (spliced-next at (le16 number) (le16 (length contents)) l (omega arith), spliced-next at head contents l (omega arith), behind)
+    (spliced-next at (head ++ contents) zeros l (omega arith))
 
--- zeros after the contents are their padding
-padding-left : (contents : List ℕ) → length contents ≤ 504
-    → contents ++ drop (suc (suc (suc (suc (length contents))))) blank ≡ padded contents ++ drop (suc (suc (suc (suc (length (padded contents)))))) blank
-unfolding padded
-padding-left contents h =
-    let whole : length (padded contents) ≡ 504 = simp (length-append, length-replicate) (omega arith) in
-    let e : 512 - suc (suc (suc (suc (length contents)))) ≡ (504 - length contents) + (512 - suc (suc (suc (suc (length (padded contents)))))) = omega arith in
-    rw (drop-blank (suc (suc (suc (suc (length contents))))), drop-blank (suc (suc (suc (suc (length (padded contents)))))), e, ← replicate-append-replicate) (sym (append-assoc contents _ _))
-
--- number and used count, then the contents, written into a blank block
-pub filled-block : (number : ℕ) (contents : List ℕ) → length contents ≤ 504
-    → spliced 4 contents (spliced 0 (le16 number ++ le16 (length contents)) blank) ≡ front (summedBytes number contents) blank
-unfolding front spliced summedBytes
-filled-block number contents h =
-    front-next (le16 number ++ le16 (length contents)) contents blank
-    ∙ ap (λ (l : List ℕ). le16 number ++ (le16 (length contents) ++ l)) (padding-left contents h)
-
--- the two sums, written after the bytes that they are of
-pub finished-block : (body : List ℕ) (p q : ℕ) → length body ≡ 508 → spliced 508 (le16 p ++ le16 q) (front body blank) ≡ body ++ (le16 p ++ le16 q)
-unfolding front
-finished-block body p q h =
-    let next : spliced 508 (le16 p ++ le16 q) (front body blank) ≡ front (body ++ (le16 p ++ le16 q)) blank = rw (← h) (front-next body (le16 p ++ le16 q) blank) in
-    let whole : length (body ++ (le16 p ++ le16 q)) ≡ 512 = simp length-append (omega arith) in
-    let none : drop (length (body ++ (le16 p ++ le16 q))) blank ≡ [] = rw whole (drop-blank 512) in
-    next ∙ rw (none, append-nil)
+-- and the two sums after the bytes that they are of
+pub written-sums : (at p q : ℕ) (body l : List ℕ) → length body ≡ 508 → at ≤ length l
+    → spliced (at + 510) (le16 q) (spliced (at + 508) (le16 p) (spliced at body l)) ≡ spliced at (body ++ (le16 p ++ le16 q)) l
+written-sums at p q body l size room =
+    let first : spliced (at + 508) (le16 p) (spliced at body l) ≡ spliced at (body ++ le16 p) l = rw (← size) (spliced-next at body (le16 p) l room) in
+    let behind : at + 510 ≡ at + length (body ++ le16 p) = omega (arith, length-append body (le16 p)) in
+    rw (first, behind) (spliced-next at (body ++ le16 p) (le16 q) l room ∙ rw append-assoc)
 
 -- ---- A built block keeps the rules
 

@@ -58,7 +58,8 @@ module _ (bundle : List ℕ) (some : 1 ≤ length bundle) (most : length bundle 
       rw (count-sealed, blockAt-sealed k h)
       (block-sound k (partAt bundle k) (number-small k h) (omega (arith, length-partAt bundle k)) _ (counted-part k h))
 
-  contentsAt-sealed : (k : ℕ) → k < blocksFor (length bundle) → contentsAt (sealedFile bundle) k ≡ partAt bundle k
+  -- a block of the sealed file holds its part of the bundle
+  pub contentsAt-sealed : (k : ℕ) → k < blocksFor (length bundle) → contentsAt (sealedFile bundle) k ≡ partAt bundle k
   unfolding contentsAt sealedBlockAt
   contentsAt-sealed k h =
       rw (blockAt-sealed k h) (block-contents k (partAt bundle k) (number-small k h) (omega (arith, length-partAt bundle k)))

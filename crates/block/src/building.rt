@@ -1,51 +1,37 @@
-// The blocks of a bundle, built one by one. (Inner functions.)
+// The blocks of a bundle, each written where it stands in the output. (Inner functions.)
 use crate::sums::sums_of;
 use slices::write_at;
+use slices::write_number;
+use slices::write_zeros;
 ghost use mathlib.Core.Path.{_≡_};
-ghost use Prim.Native.Nat.{_*_, min, _≤_};
+ghost use Prim.Native.Nat.{_+_, _*_, min, _≤_};
 ghost use lib.ListN.{length};
-ghost use Rattle.laws.specs.Parts.{front};
+ghost use Rattle.laws.specs.Parts.{front, spliced};
 ghost use Rattle.limits.specs.Limits.{MAX-BUNDLE-SIZE};
-ghost use Rattle.block.specs.Block.{summedBytes, block, blank};
+ghost use Rattle.block.specs.Block.{summedBytes, block};
 ghost use Rattle.block.specs.File.{partAt, blocksFor, sealedFile};
 
-fn blank_block() -> [u8; 512]
-    ensures { λ r. ⌜ r ≡ blank ⌝ }
-{
-    [0u8; 512]
-}
-
-// The number, the used count and the contents of a block, with zeros after them.
-fn filled(number: usize, contents: &[u8]) -> [u8; 512]
-    requires { ⌜ length (now contents) ≤ 504 ⌝ }
-    ensures { λ r. ⌜ r ≡ front (summedBytes number (now (contents .entry))) blank ⌝ }
+// Writes the bytes of a block that its sums are of, from `at` on: the number, the used count, the contents, and zeros after them.
+fn write_summed(output: &mut [u8], at: usize, number: usize, contents: &[u8])
+    requires { ⌜ (length (now contents) ≤ 504) × (at + 508 ≤ length (now output)) ⌝ }
+    ensures { λ _. ⌜ now (output .exit) ≡ spliced at (summedBytes number (now (contents .entry))) (now (output .entry)) ⌝ }
 {
     let used = contents.len();
-    let mut block = blank_block();
-    block[0] = (number % 256) as u8;
-    block[1] = (number / 256 % 256) as u8;
-    block[2] = (used % 256) as u8;
-    block[3] = (used / 256 % 256) as u8;
-    let mut i: usize = 0;
-    while i < used {
-        block[4 + i] = contents[i];
-        i += 1;
-    }
-    block
+    write_number(output, at, number);
+    write_number(output, at + 2, used);
+    write_at(output, at + 4, contents);
+    write_zeros(output, at + 4 + used, 504 - used);
 }
 
-// The block of a number and contents.
-fn sealed_block(number: usize, contents: &[u8]) -> [u8; 512]
-    requires { ⌜ length (now contents) ≤ 504 ⌝ }
-    ensures { λ r. ⌜ r ≡ block number (now (contents .entry)) ⌝ }
+// Writes the block of a number and contents from `at` on.
+fn write_block(output: &mut [u8], at: usize, number: usize, contents: &[u8])
+    requires { ⌜ (length (now contents) ≤ 504) × (at + 512 ≤ length (now output)) ⌝ }
+    ensures { λ _. ⌜ now (output .exit) ≡ spliced at (block number (now (contents .entry))) (now (output .entry)) ⌝ }
 {
-    let mut block = filled(number, contents);
-    let sums = sums_of(&block[..508]);
-    block[508] = (sums.plain % 256) as u8;
-    block[509] = (sums.plain / 256 % 256) as u8;
-    block[510] = (sums.position % 256) as u8;
-    block[511] = (sums.position / 256 % 256) as u8;
-    block
+    write_summed(output, at, number, contents);
+    let sums = sums_of(&output[at..at + 508]);
+    write_number(output, at + 508, sums.plain);
+    write_number(output, at + 510, sums.position);
 }
 
 // The smaller of two numbers.
@@ -74,8 +60,7 @@ pub fn write_blocks(bundle: &[u8], output: &mut [u8])
     let blocks = (bundle.len() + 503) / 504;
     let mut k: usize = 0;
     while k < blocks {
-        let block = sealed_block(k, part_of(bundle, k));
-        write_at(output, 512 * k, &block);
+        write_block(output, 512 * k, k, part_of(bundle, k));
         k += 1;
     }
 }

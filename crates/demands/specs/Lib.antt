@@ -4,6 +4,7 @@ pub mod Tables
 pub mod Judging
 pub mod Screening
 pub mod Shortfalls
+pub mod Sealing
 pub mod Demands
 pub mod OpeningProved
 pub mod BlockOrderProved
@@ -11,6 +12,7 @@ pub mod TablesProved
 pub mod JudgingProved
 pub mod ScreeningProved
 pub mod ShortfallsProved
+pub mod SealingProved
 pub mod Comparing
 pub mod Proved
 pub mod Files

@@ -171,7 +171,7 @@ module _ (file : List ℕ) (blocks : ℕ) (whole : WholeBlocks file blocks) wher
     numbered-exactly = let same = block-field file k 0 (omega arith) in ((λ e. sym same ∙ e), (λ e. same ∙ e))
 
     -- a block keeps the rules exactly when it has no fault
-    kept-exactly : (faultAt file k ≡ 0) ↔ BlockKept file blocks k
+    pub kept-exactly : (faultAt file k ≡ 0) ↔ BlockKept file blocks k
     kept-exactly = Iff·trans (faultAt-none file k) (rw count (
       (λ (n, c, s). record { number = numbered-exactly .0 n; contents = use-exactly .0 c; sums = sums-exactly .0 s }),
       (λ r. (numbered-exactly .1 (r .number), use-exactly .1 (r .contents), sums-exactly .1 (r .sums))),
@@ -233,21 +233,24 @@ whole-exactly file = (
   )),
 )
 
--- the bundle, by the bytes of the file
-bundle-is : (file : List ℕ) (blocks : ℕ) → WholeBlocks file blocks → ((k : ℕ) → k < blocks → faultAt file k ≡ 0)
-    → bundleOf file ≡ joined (contentsOf file) blocks
-unfolding bundleOf
-bundle-is file blocks whole none =
-    let count = count file blocks whole in
-    let sound : Sound file = record {
-      whole = rw count (whole .size);
-      some = rw count (whole .some);
-      most = rw count
-          (whole .most);
-      each = rw count none;
-    } in
-    rw count (joined-same (contentsAt file) (contentsOf file) blocks (λ k h.
-    sym (contents-part file sound k (rw count h)) ∙ ap (λ (u : ℕ). take u (drop (512 * k + 4) file)) (used-is file blocks whole k h)))
+-- the contents of a block and the bundle, by the bytes of the file
+module _ (file : List ℕ) (blocks : ℕ) (whole : WholeBlocks file blocks) (none : (k : ℕ) → k < blocks → faultAt file k ≡ 0) where
+  sound-is : Sound file
+  sound-is = let same = count file blocks whole in record {
+    whole = rw same (whole .size);
+    some = rw same (whole .some);
+    most = rw same (whole .most);
+    each = rw same none;
+  }
+
+  pub contents-is : (k : ℕ) → k < blocks → contentsAt file k ≡ contentsOf file k
+  contents-is k h =
+      sym (contents-part file sound-is k (rw (count file blocks whole) h))
+      ∙ ap (λ (u : ℕ). take u (drop (512 * k + 4) file)) (used-is file blocks whole k h)
+
+  bundle-is : bundleOf file ≡ joined (contentsOf file) blocks
+  unfolding bundleOf
+  bundle-is = rw (count file blocks whole) (joined-same (contentsAt file) (contentsOf file) blocks contents-is)
 
 bundle-exactly : (file b : List ℕ) → (opened file ≡ value b)
     ↔ ((blocks : ℕ) × WholeBlocks file blocks × ((k : ℕ) → k < blocks → BlockKept file blocks k) × (b ≡ joined (contentsOf file) blocks))
@@ -298,7 +301,7 @@ open-exactly file room = record {
 -- ---- Seal
 
 -- a bundle that is sealed has the right size, and its file is so long
-sealed-size : (b file : List ℕ) → (sealed b ≡ value file) → (1 ≤ length b) × (length b ≤ 64512) × (length file ≡ sealedSize (length b))
+pub sealed-size : (b file : List ℕ) → (sealed b ≡ value file) → (1 ≤ length b) × (length b ≤ 64512) × (length file ≡ sealedSize (length b))
 sealed-size b file e =
     let (right, is) = sealed-gives b .line file .0 e in
     let bounds = rightSize-bounds (length b) right in

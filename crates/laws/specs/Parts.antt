@@ -1,11 +1,11 @@
 -- Parts of lists: a new front, a new middle, a part of a part.
-use mathlib.Core.Path.{_≡_, refl, ap, _∙_}
+use mathlib.Core.Path.{_≡_, refl, sym, ap, _∙_}
 use mathlib.Core.List.{List, [], _∷_, _++_, append-assoc, append-nil}
-use Prim.Native.Nat.{ℕ, zero, suc, _+_, _-_, _≤_, min}
-use native.Mathlib.Nat.{add-zero, zero-add, add-assoc, zero-min, min-zero, suc-min-suc, sub-zero, zero-sub, suc-sub-suc}
+use Prim.Native.Nat.{ℕ, zero, suc, _+_, _-_, _≤_, _<_, min}
+use native.Mathlib.Nat.{add-zero, zero-add, add-assoc, zero-min, min-zero, suc-min-suc}
 use native.Mathlib.Omega.{arith}
-use lib.ListN.{length, take, drop, getD, replicate, length-append, length-drop, drop-of-length-le, take-append-drop}
-use lib.Seq.{length-take-le, drop-append-seam, take-take, take-all, take-length, take-add, paste, sets, sets-eq, take-append-seam, drop-append-add, drop-drop}
+use lib.ListN.{length, take, drop, getD, set, replicate, length-append, length-drop, length-replicate, replicate-append-replicate, drop-of-length-le, take-append-drop}
+use lib.Seq.{take-at, drop-at, length-take-le, drop-append-seam, take-take, take-all, take-length, take-add, sets, sets-eq, take-append-seam, drop-append-add, drop-drop}
 
 module _ {A : Type 0} where
   -- `new` in front of a list, over as many of its elements
@@ -54,6 +54,34 @@ module _ {A : Type 0} where
       let size : length (take at l ++ a) ≡ at + length a = simp (length-append, length-take-le at l h) in
       rw (← size, take-append-seam, drop-append-add, drop-drop, size) (simp (length-append, append-assoc, add-assoc))
 
+  pub length-spliced : (at : ℕ) (new l : List A) → at + length new ≤ length l → length (spliced at new l) ≡ length l
+  unfolding spliced
+  length-spliced at new l h = simp (length-append, length-drop) (omega (arith, length-take-le at l (omega arith)))
+
+  -- stores one after the other
+  pub spliced-sets : (at : ℕ) (new l : List A) → at + length new ≤ length l → sets l at new ≡ spliced at new l
+  unfolding spliced
+  spliced-sets at new l h = sets-eq new l at h
+
+  -- one element more behind a piece
+  pub spliced-snoc : (at : ℕ) (a l : List A) (x : A) → at + length a < length l → set (spliced at a l) (at + length a) x ≡ spliced at (a ++ x ∷ []) l
+  spliced-snoc at a l x h =
+      spliced-sets (at + length a) (x ∷ []) (spliced at a l) (omega (arith, length-spliced at a l (omega arith))) ∙ spliced-next at a (x ∷ []) l (omega arith)
+
+  -- and where all of them are the same
+  pub spliced-again : (at i : ℕ) (l : List A) (x : A) → at + i < length l → set (spliced at (replicate i x) l) (at + i) x ≡ spliced at (replicate (i + 1) x) l
+  spliced-again at i l x h =
+      let size = length-replicate i x in
+      ap (λ (k : ℕ). set (spliced at (replicate i x) l) (at + k) x) (sym size)
+      ∙ spliced-snoc at (replicate i x) l x (omega (arith, size))
+      ∙ ap (λ (t : List A). spliced at t l) (replicate-append-replicate i 1 x)
+
+  -- the piece, read back
+  pub part-spliced : (at n : ℕ) (new l : List A) → length new ≡ n → at ≤ length l → take n (drop at (spliced at new l)) ≡ new
+  unfolding spliced
+  part-spliced at n new l size h =
+      rw (append-assoc, drop-at (take at l) (new ++ drop (at + length new) l) at (length-take-le at l h)) (take-at new (drop (at + length new) l) n size)
+
   -- a copy into the part of a list from `at` on, as the list has it afterwards
   pub spliced-part : (at : ℕ) (new l : List A) → at ≤ length l
       → take at l ++ (take (length new) new ++ drop (length new) (take (length l - at) (drop at l)) ++ drop (length l - at) (drop at l)) ≡ spliced at new l
@@ -62,18 +90,6 @@ module _ {A : Type 0} where
       let rest : take (length l - at) (drop at l) ≡ drop at l = take-all (length l - at) (drop at l) (omega (arith, length-drop at l)) in
       let none : drop (length l - at) (drop at l) ≡ [] = drop-of-length-le (drop at l) {i = length l - at} (omega (arith, length-drop at l)) in
       simp (take-length, rest, none, append-nil, drop-drop, append-assoc)
-
-  -- a copy of the whole of `new`, element by element, is `new` in its place
-  pub spliced-paste : (at : ℕ) (new l : List A) (n : ℕ) → length new ≤ n → n ≤ length new → paste l at new n ≡ spliced at new l
-  unfolding spliced
-  spliced-paste at new l n above below =
-      let whole : n ≡ length new = omega arith in
-      rw (whole, take-length)
-
-  -- stores one after the other
-  pub spliced-sets : (at : ℕ) (new l : List A) → at + length new ≤ length l → sets l at new ≡ spliced at new l
-  unfolding spliced
-  spliced-sets at new l h = sets-eq new l at h
 
   -- a part within a part
   pub take-drop-take : (n m size : ℕ) (l : List A) → m + n ≤ size → take n (drop m (take size l)) ≡ take n (drop m l)
@@ -91,11 +107,6 @@ module _ {A : Type 0} where
   take-min zero l = rw zero-min
   take-min (suc n) [] = rw min-zero
   take-min (suc n) (x ∷ l) = rw suc-min-suc (ap (λ (t : List A). x ∷ t) (take-min n l))
-
-  pub drop-replicate : (k n : ℕ) (a : A) → drop k (replicate n a) ≡ replicate (n - k) a
-  drop-replicate zero n a = rw sub-zero
-  drop-replicate (suc k) zero a = rw zero-sub
-  drop-replicate (suc k) (suc n) a = rw suc-sub-suc (drop-replicate k n a)
 
   -- what stands past the end of a list is the default, so more of it there changes nothing
   pub getD-padded : (l : List A) (k i : ℕ) (d : A) → getD (l ++ replicate k d) i d ≡ getD l i d

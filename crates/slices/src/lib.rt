@@ -1,9 +1,9 @@
-// Inner functions on slices of bytes that several crates share: a byte, a number of two bytes, and a copy to an offset.
+// Inner functions on slices of bytes that several crates share: reading and writing bytes and numbers of two bytes at an offset.
 ghost use mathlib.Core.Path.{_≡_};
 ghost use Prim.Native.Nat.{_+_, _≤_, _<_};
-ghost use lib.ListN.{length, getD};
+ghost use lib.ListN.{length, getD, replicate};
 ghost use Rattle.laws.specs.Parts.{spliced};
-ghost use Rattle.laws.specs.Numbers.{numberAt};
+ghost use Rattle.laws.specs.Numbers.{numberAt, le16};
 
 // The byte at `at`.
 pub fn byte_at(bytes: &[u8], at: usize) -> usize
@@ -27,4 +27,25 @@ pub fn write_at(output: &mut [u8], at: usize, piece: &[u8])
     ensures { λ _. ⌜ now (output .exit) ≡ spliced at (now (piece .entry)) (now (output .entry)) ⌝ }
 {
     bytes::copy(piece, &mut output[at..]);
+}
+
+// Writes a number to the two bytes at `at`, the low byte first; of a number of more bytes the lowest two.
+pub fn write_number(output: &mut [u8], at: usize, number: usize)
+    requires { ⌜ at + 2 ≤ length (now output) ⌝ }
+    ensures { λ _. ⌜ now (output .exit) ≡ spliced at (le16 number) (now (output .entry)) ⌝ }
+{
+    output[at] = (number % 256) as u8;
+    output[at + 1] = (number / 256 % 256) as u8;
+}
+
+// Writes `count` zeros from `at` on.
+pub fn write_zeros(output: &mut [u8], at: usize, count: usize)
+    requires { ⌜ at + count ≤ length (now output) ⌝ }
+    ensures { λ _. ⌜ now (output .exit) ≡ spliced at (replicate count 0) (now (output .entry)) ⌝ }
+{
+    let mut i: usize = 0;
+    while i < count {
+        output[at + i] = 0;
+        i += 1;
+    }
 }

@@ -181,9 +181,14 @@ impl Run {
     /// Seals on both sides and compares.
     pub fn seal(&mut self, bundle: &[u8], output_len: usize) -> Done {
         let noise = self.rng.bytes(output_len);
+        self.seal_into(bundle, noise)
+    }
+
+    /// Seals on both sides, with copies of this output, and compares.
+    pub fn seal_into(&mut self, bundle: &[u8], output: Vec<u8>) -> Done {
         let (outcome, output) = self.compare(
             [bundle],
-            noise,
+            output,
             |[bundle], output, answer| ffi::seal(bundle, output, answer),
             |[bundle], output| reference::seal(bundle, output),
             Written::length,

@@ -66,3 +66,30 @@ fn random_lengths() {
     }
     run.finish(&[(0, 1_600), (3, 800), (4, 1_200)]);
 }
+
+/// Every used count of the last block, so every length of padding, with outputs that
+/// held zeros, ones in every bit, another sealed file, or anything: none of it shows.
+#[test]
+fn what_the_output_held() {
+    let mut run = Run::start("what_the_output_held");
+    for used in 1..=CONTENTS {
+        let full_blocks = run.rng.choose(&[0, 1, 2]);
+        let bundle = Filling::Noise.bundle(&mut run.rng, full_blocks * CONTENTS + used);
+        let file = build(&bundle);
+        let behind = run.rng.within(0..=700);
+        let other = Filling::Noise.bundle(&mut run.rng, (full_blocks + 2) * CONTENTS);
+        let held = [
+            vec![0x00; file.len() + behind],
+            vec![0xff; file.len() + behind],
+            build(&other),
+            run.rng.bytes(file.len() + behind),
+        ];
+        for output in held {
+            let done = run.seal_into(&bundle, output.clone());
+            assert_eq!(done.outcome, Ok(file.len()), "{run}");
+            assert!(done.output[..file.len()] == file, "another file: {run}");
+            assert!(done.output[file.len()..] == output[file.len()..], "{run}");
+        }
+    }
+    run.finish(&[(0, 4 * 504)]);
+}

@@ -1,21 +1,28 @@
 //! The cases of `tests/data`, answered by another implementation: opening and then
-//! judging, and screening, on both sides. Those of `01.txt` are with request 1 in
-//! force, those of `02.txt` with requests 1 and 2. Only the first have a refusal 12,
-//! and only the second shortfalls and refusals 17.
+//! judging, and screening, on both sides. The cases of a file are with the requests
+//! up to its number in force.
 
-use differential::files::MAX_BUNDLE_SIZE;
+use differential::files::{BLOCK, MAX_BLOCKS, MAX_BUNDLE_SIZE};
 use differential::judging::judge;
-use differential::run::Run;
+use differential::run::{Outcome, Run};
 use differential::screening::screen;
 use differential::vectors::{line, read, screened_line, screened_line_without_shortfall};
+use reference::Screened;
 
-const FIRST: &str = include_str!("data/01.txt");
-const SECOND: &str = include_str!("data/02.txt");
+/// A file's cases, and how it puts an answer of screening into words.
+type File = (&'static str, fn(Outcome<Screened>) -> String);
+
+/// Screening tells the shortfall from request 2 on.
+const FILES: [File; 3] = [
+    (include_str!("data/01.txt"), screened_line_without_shortfall),
+    (include_str!("data/02.txt"), screened_line),
+    (include_str!("data/03.txt"), screened_line),
+];
 
 #[test]
 fn judged() {
     let mut run = Run::start("vectors::judged");
-    for text in [FIRST, SECOND] {
+    for (text, _) in FILES {
         let cases = read(text).judge;
         assert_eq!(cases.len(), 120);
         for case in cases {
@@ -28,29 +35,44 @@ fn judged() {
     }
     run.finish(&[
         // Each file that is opened, and each bundle that is accepted.
-        (0, 110 + 61 + 105 + 53),
-        (1, 4 + 1),
-        (2, 1 + 1),
-        (6, 15 + 10),
-        (7, 8 + 7),
+        (0, 110 + 61 + 105 + 53 + 112 + 52),
+        (1, 4 + 1 + 3),
+        (2, 1 + 1 + 2),
+        (6, 15 + 10 + 15),
+        (7, 8 + 7 + 9),
         (8, 1 + 1),
-        (9, 5 + 12),
-        (10, 5 + 8),
-        (11, 4 + 5),
-        (12, 1),
-        (13, 10 + 9),
+        (9, 5 + 12 + 8),
+        (10, 5 + 8 + 10),
+        (11, 4 + 5 + 8),
+        (12, 1 + 1),
+        (13, 10 + 9 + 9),
         (17, 6),
-        (18, 5 + 7),
+        (18, 5 + 7 + 3),
     ]);
+}
+
+/// Each file that opens is the one that sealing makes of its bundle, whatever the
+/// output held.
+#[test]
+fn sealed_again() {
+    let mut run = Run::start("vectors::sealed_again");
+    for (text, _) in FILES {
+        for case in read(text).judge {
+            let opened = run.open(&case.file, MAX_BUNDLE_SIZE);
+            if let Ok(length) = opened.outcome {
+                let sealed = run.seal(&opened.output[..length], MAX_BLOCKS * BLOCK);
+                assert_eq!(sealed.outcome, Ok(case.file.len()), "{run}");
+                assert!(sealed.output[..case.file.len()] == case.file, "{run}");
+            }
+        }
+    }
+    run.finish(&[(0, 2 * (110 + 105 + 112))]);
 }
 
 #[test]
 fn screened() {
     let mut run = Run::start("vectors::screened");
-    for (text, in_words) in [
-        (FIRST, screened_line_without_shortfall as fn(_) -> _),
-        (SECOND, screened_line),
-    ] {
+    for (text, in_words) in FILES {
         let cases = read(text).screen;
         assert_eq!(cases.len(), 80);
         for case in cases {
@@ -59,7 +81,12 @@ fn screened() {
         }
     }
     run.finish_with_classes(
-        &[(0, 70 + 74), (6, 2 + 3), (7, 2 + 1), (15, 6 + 2)],
-        &[("permitted", 32 + 30), ("stopped", 38 + 44)],
+        &[
+            (0, 70 + 74 + 76),
+            (6, 2 + 3),
+            (7, 2 + 1 + 1),
+            (15, 6 + 2 + 3),
+        ],
+        &[("permitted", 32 + 30 + 37), ("stopped", 38 + 44 + 39)],
     );
 }

@@ -22,33 +22,25 @@ loop-holds : tie.Need-loop-holds Inv-loop μ-loop
 unfolding front joined
 loop-holds c = (search needs, refl, refl)
 
-sealed-block-requires : tie.Need-sealed-block-requires Inv-loop μ-loop
-sealed-block-requires c κs = omega (arith, ap length (c .part-of .ensures), length-partAt (c .before .before .before .before .before .args .bundle .now) (c .before .before .loop .k))
-
-slice-aggregate-write-at : tie.Need-slice-aggregate-write-at Inv-loop μ-loop
-slice-aggregate-write-at c =
-    let size : length (c .before .before .sealed-block .result) ≡ 512 = search needs in
-    omega arith
-
-write-at-requires : tie.Need-write-at-requires Inv-loop μ-loop
+write-block-requires : tie.Need-write-block-requires Inv-loop μ-loop
 unfolding blocksFor
-write-at-requires c κs =
-    let size : length (c .before .before .sealed-block .result) ≡ 512 = search needs in
-    omega arith
+write-block-requires c κs =
+    let loop = c .before .before .before in
+    (omega (arith, ap length (c .part-of .ensures), length-partAt (loop .before .before .before .args .bundle .now) (loop .loop .k)), omega arith)
 
 loop-again : tie.Need-loop-again Inv-loop μ-loop
 unfolding sealedBlockAt
 loop-again c =
     let d = c .before .before in
-    let b = d .before .before .before in
-    let s = b .before .before .before in
+    let p = d .before in
+    let s = p .before .before .before in
     let a = s .before .before .before in
     let bundle = a .args .bundle .now in (
       search needs,
-      d .write-at .ensures
-          ∙ rw (b .sealed-block .ensures, b .before .part-of .ensures, s .loop .inv .1)
+      d .write-block .ensures
+          ∙ rw (p .part-of .ensures, s .loop .inv .1)
           (front-joined (sealedBlockAt bundle) (s .loop .k) (512 * s .loop .k) (a .args .output .now) (length-blocksBefore bundle (s .loop .k))),
-      d .write-at .kept .0 ∙ s .loop .inv .2,
+      d .write-block .kept .0 ∙ s .loop .inv .2,
     )
 
 same-length : tie.Need-same-length Inv-loop μ-loop
@@ -70,11 +62,9 @@ write-blocks-spec =
     μ-loop
     (λ c. search needs)
     loop-holds
-    (λ c κs. search needs)
-    sealed-block-requires
     (λ c. search needs)
-    slice-aggregate-write-at
-    write-at-requires
+    (λ c κs. search needs)
+    write-block-requires
     (λ c. search needs)
     (λ c. search needs)
     loop-again
