@@ -7,5 +7,7 @@ pub mod RoundTrip
 pub mod RefusalNumbers
 pub mod Causes
 pub mod OtherBlocks
+pub mod SumLaws
+pub mod Alterations
 pub mod Rooms
 pub mod Whole

@@ -5,9 +5,11 @@ use mathlib.Core.List.{List}
 use Prim.Native.Nat.{ℕ, _+_, _*_, _<_}
 use native.Mathlib.Omega.{arith}
 use lib.ListN.{length, take, drop}
+use lib.Seq.{take-all}
 use borrow.Author.Tests.{ne-eqb}
 use Rattle.laws.specs.Numbers.{numberAt}
 use Rattle.laws.specs.Parts.{take-drop-take}
+use Rattle.laws.specs.Pieces.{joined-same, joined-parts}
 use Rattle.refusals.specs.Table.{BLOCK-NUMBER}
 use Rattle.refusals.specs.Results.{value, refused}
 use Rattle.block.specs.File.{blockCount, blockAt, faultAt, rightLength, opened}
@@ -21,6 +23,17 @@ module _ (file other : List ℕ) where
       sym (take-drop-take 512 (512 * j) (512 * k) other (omega arith))
       ∙ ap (λ (l : List ℕ). take 512 (drop (512 * j) l)) same
       ∙ take-drop-take 512 (512 * j) (512 * k) file (omega arith)
+
+  -- files of whole blocks that have the same blocks are the same
+  pub same-blocks : (blocks : ℕ) → length file ≡ 512 * blocks → length other ≡ 512 * blocks
+      → ((k : ℕ) → k < blocks → blockAt other k ≡ blockAt file k) → other ≡ file
+  unfolding blockAt
+  same-blocks blocks size others each =
+      sym (take-all (512 * blocks) other (omega arith))
+      ∙ sym (joined-parts other 512 blocks)
+      ∙ joined-same (blockAt other) (blockAt file) blocks each
+      ∙ joined-parts file 512 blocks
+      ∙ take-all (512 * blocks) file (omega arith)
 
   -- a block that is the last of neither has the same fault in both
   same-fault : (j : ℕ) → blockAt other j ≡ blockAt file j → j + 1 < blockCount other → j + 1 < blockCount file → faultAt other j ≡ faultAt file j

@@ -1,28 +1,26 @@
 -- The order of blocks, proved: the lines of BlockOrder.antt from the laws of the blocks.
 use mathlib.Core.Path.{_≡_, refl, sym, ap, _∙_, subst}
-use mathlib.Core.Bool.{Bool}
 use mathlib.Core.Logic.{_⊎_, inl, inr, ⊎-elim}
 use mathlib.Core.List.{List, _++_}
 use Prim.Native.Nat.{ℕ, _+_, _-_, _*_, _≤_, _<_}
-use native.Mathlib.Nat.{eq-or-lt-of-le}
 use native.Mathlib.Omega.{arith}
 use lib.Dec.{eqb}
 use lib.ListN.{length, take, drop, length-append, length-take, length-drop}
-use lib.Seq.{take-at, drop-at, length-take-le, take-all}
+use lib.Seq.{take-at, drop-at, length-take-le}
 use borrow.Author.Tests.{eqb-true, eqb-false}
-use Rattle.laws.specs.Pieces.{joined, length-joined, joined-same, joined-parts, part-joined}
-use Rattle.laws.specs.Scans.{firstFalse, firstFalse-none, firstFalse-fails, firstFalse-most, firstFalse-below}
+use Rattle.laws.specs.Pieces.{joined, length-joined, part-joined}
+use Rattle.laws.specs.Scans.{firstFalse-cases}
 use Rattle.refusals.specs.Results.{Result, value, refused, bind}
 use Rattle.refusals.specs.Answers.{refusal, fitted, answerOf, answer}
 use Rattle.refusals.specs.declared.Written.the-variants as writing
 use Rattle.block.specs.File.{blockCount, blockAt, opened}
-use Rattle.block.specs.OtherBlocks.{front-blocks, other-block}
+use Rattle.block.specs.OtherBlocks.{front-blocks, same-blocks, other-block}
 use Rattle.demands.specs.Opening.{WholeBlocks}
 use Rattle.demands.specs.OpeningProved.{whole-exactly, open-exactly}
 use Rattle.demands.specs.BlockOrder.{blockOf, InOrder, inOrder, LowestMoved, withBlockTwice, BlockOrder, Request1}
 
 -- a refusal is the answer, whatever the output
-answer-refused : (result : Result (List ℕ)) (number spot room : ℕ) → result ≡ refused number spot
+pub answer-refused : (result : Result (List ℕ)) (number spot room : ℕ) → result ≡ refused number spot
     → answer result room ≡ writing.Refused (refusal number spot)
 unfolding answer answerOf fitted bind
 answer-refused result number spot room e = rw e
@@ -34,22 +32,12 @@ count-of file blocks size = omega (arith, size)
 -- which block is moved
 some-moved : (order : ℕ → ℕ) (blocks : ℕ) → ((k : ℕ) × LowestMoved order blocks k) ⊎ ((k : ℕ) → k < blocks → order k ≡ k)
 some-moved order blocks = ⊎-elim
-    (λ e. inr (λ k h. eqb-true _ _ (firstFalse-none own blocks e k h)))
-    (λ less. inl (
-      first,
-      record {
-        within = less;
-        moved = eqb-false _ _ (firstFalse-fails own blocks less);
-        lower = λ j below. eqb-true _ _ (firstFalse-below own blocks j below);
-      },
+    (λ (k, within, here, lower). inl (
+      k,
+      record { within = within; moved = eqb-false _ _ here; lower = λ j below. eqb-true _ _ (lower j below) },
     ))
-    (eq-or-lt-of-le (firstFalse-most own blocks))
-  where
-    own : ℕ → Bool
-    own k = eqb (order k) k
-
-    first : ℕ
-    first = firstFalse own blocks
+    (λ own. inr (λ k h. eqb-true _ _ (own k h)))
+    (firstFalse-cases (λ k. eqb (order k) k) blocks)
 
 module _ (file b : List ℕ) (opens : opened file ≡ value b) (blocks : ℕ) (whole : WholeBlocks file blocks) (room : ℕ) where
   count : blockCount file ≡ blocks
@@ -91,12 +79,8 @@ module _ (file b : List ℕ) (opens : opened file ≡ value b) (blocks : ℕ) (w
 
   -- every block in its own position
   same-file : (other : List ℕ) → length other ≡ length file → ((k : ℕ) → k < blocks → blockOf other k ≡ blockOf file k) → other ≡ file
-  same-file other size each =
-      sym (take-all (512 * blocks) other (omega (arith, size, whole .size)))
-      ∙ sym (joined-parts other 512 blocks)
-      ∙ joined-same (blockOf other) (blockOf file) blocks each
-      ∙ joined-parts file 512 blocks
-      ∙ take-all (512 * blocks) file (omega (arith, whole .size))
+  unfolding blockAt
+  same-file other size = same-blocks file other blocks (whole .size) (size ∙ whole .size)
 
   too-long : (i : ℕ) → i < blocks → blocks ≡ 128 → answer (opened (withBlockTwice i file)) room ≡ writing.Refused (refusal 1 0)
   too-long i inside most = open-exactly (withBlockTwice i file) room .file-length 0 .1 (refl, inr (inr long))

@@ -3,9 +3,11 @@ use mathlib.Core.Path.{_≡_, refl, ap, _∙_}
 use mathlib.Core.Bool.{true}
 use mathlib.Core.List.{List, [], _∷_, _++_}
 use Prim.Native.Nat.{ℕ}
-use lib.ListN.{take, drop, replicate}
+use native.Mathlib.Omega.{arith}
+use lib.ListN.{take, drop, getD, set, replicate}
 use Rattle.laws.specs.Lists.{all, any, equal}
-use Rattle.laws.specs.Numbers.{numberAt}
+use Rattle.laws.specs.Distance.{differing, distance}
+use Rattle.laws.specs.Numbers.{all-bytes, numberAt}
 use Rattle.laws.specs.Pieces.{joined}
 use Rattle.laws.specs.Scans.{firstFalse, firstFailing}
 use Rattle.laws.specs.Sums.{weighted}
@@ -26,6 +28,7 @@ use Rattle.verdicts.specs.Judging.{judged, verdictOf, verdict}
 use Rattle.verdicts.specs.declared.Verdict.the-variants as judging
 use Rattle.judging.specs.Files.{fileJudged, fileVerdict}
 use Rattle.demands.specs.BlockOrder.{withoutBlock, withBlockTwice}
+use Rattle.demands.specs.Alterations.{swapped, ThreeUncaught}
 use Rattle.demands.specs.Samples.{bytesA, countsA, computed}
 
 -- 0 and the bytes, or the refusal's number and spot
@@ -41,6 +44,10 @@ ofTaken (taking.Refused r) = r .number ∷ r .spot ∷ []
 -- case A, sealed: one block, number 0, 53 bytes used, S = 85, W = 991
 unfoldable pub fileA : List ℕ
 fileA = (0 ∷ 0 ∷ 53 ∷ 0 ∷ []) ++ bytesA ++ replicate 451 0 ++ (85 ∷ 0 ∷ 223 ∷ 3 ∷ [])
+
+-- bytes 4 to 6 of it, altered by +1, −2 and +1
+unfoldable pub fileThree : List ℕ
+fileThree = take 4 fileA ++ (3 ∷ 0 ∷ 2 ∷ drop 7 fileA)
 
 -- a table of sevens, as long as a call asks for, and one of zeros
 unfoldable sevens : List ℕ
@@ -91,6 +98,16 @@ callSamples =
     ∷ (ofResult (opened (drop 512 fileTwo ++ take 512 fileTwo)), 17 ∷ 0 ∷ [])
     ∷ (ofResult (opened (withoutBlock 0 fileTwo)), 17 ∷ 0 ∷ [])
     ∷ (ofResult (opened (withBlockTwice 0 fileTwo)), 17 ∷ 1 ∷ [])
+    -- bytes that changed places: two of the contents, then one of them and the used count; a byte altered, and S put right, then W; a byte of W
+    ∷ (ofResult (opened (swapped 4 6 fileA)), 2 ∷ 0 ∷ [])
+    ∷ (ofResult (opened (swapped 2 4 fileA)), 18 ∷ 0 ∷ [])
+    ∷ (ofResult (opened (set (set fileA 4 3) 508 86)), 2 ∷ 0 ∷ [])
+    ∷ (ofResult (opened (set (set fileA 4 3) 510 228)), 2 ∷ 0 ∷ [])
+    ∷ (ofResult (opened (set fileA 511 4)), 2 ∷ 0 ∷ [])
+    -- in block 1: its number, its padding; a byte of each block
+    ∷ (ofResult (opened (set fileTwo 512 0)), 17 ∷ 1 ∷ [])
+    ∷ (ofResult (opened (set fileTwo 517 1)), 18 ∷ 1 ∷ [])
+    ∷ (ofResult (opened (set (set fileTwo 512 0) 4 0)), 2 ∷ 0 ∷ [])
     -- fresh: a summary; 5; 16
     ∷ (ofTaken (freshAnswer 2 sevens), 0 ∷ 2 ∷ 1 ∷ 0 ∷ [])
     ∷ (ofTaken (freshAnswer 13 (drop 1 sevens)), 5 ∷ 3328 ∷ [])
@@ -108,6 +125,23 @@ callSamples =
 pub call-samples-hold : all (λ c. equal (c .0) (c .1)) callSamples ≡ true
 unfolding callSamples ofResult ofTaken bytesA fileA fileTwo sevens zeros rows001 tableAfter all any equal numberAt joined firstFalse firstFailing weighted withBit rightSize bind require firstBad plainSum positionSum padded summedBytes withSums block usedCount usedContents rightNumber rightCount rightPadding rightUse rightSums fault blockCount blockAt faultAt firstFaulty firstFault contentsAt bundleOf rightLength opened partAt sealedBlockAt blocksFor sealedFile sealed rowAt numbers rowsOf flat findRow visit updateAt follow addEvent takeWord rightEventCount rightSummary takenOf logStarted freshAnswer wordTaken takenAnswer takenTable
 call-samples-hold = refl
+
+-- the bundle of case A: its first three bytes, 2 2 1, are now 3 0 2. Neither sum changes
+pub three-uncaught : ThreeUncaught
+unfolding bytesA fileA fileThree all numberAt joined firstFalse weighted differing distance rightSize bind require plainSum positionSum padded summedBytes withSums block usedCount usedContents rightNumber rightCount rightPadding rightUse rightSums fault blockCount blockAt faultAt firstFaulty firstFault contentsAt bundleOf rightLength opened partAt sealedBlockAt blocksFor sealedFile sealed
+three-uncaught = record {
+  bundle = bytesA;
+  file = fileA;
+  altered = fileThree;
+  other = 3 ∷ 0 ∷ 2 ∷ drop 3 bytesA;
+  small = all-bytes bytesA refl;
+  seals = refl;
+  size = refl;
+  bytes = all-bytes fileThree refl;
+  three = refl;
+  opens = refl;
+  differs = λ e. let first : _≡_ {A = ℕ} 3 2 = ap (λ (l : List ℕ). getD l 0 0) e in omega (arith, first);
+}
 
 -- judging a file: A, sealed, into an output as long as the bundle, and into one that is a byte shorter
 fitsA : fitted (opened fileA) 53 ≡ value bytesA

@@ -1,8 +1,8 @@
 -- The user's three demands, as types: the summary. Proved.antt proves each of them; docs/ASSURANCE.md says how to read them.
 -- A page for each group of calls says exactly when which refusal meets a call, and at which spot, in the words of the requirements: Opening.antt
 -- (open, seal), Tables.antt (fresh, take, and what stands in a table), Judging.antt and Screening.antt. Here they are gathered by name. A page for
--- each change request says what it promised beyond that: BlockOrder.antt (request 1), Shortfalls.antt (2), Sealing.antt (3). The demands are stated with
--- the requests' changes in them.
+-- each change request says what it promised beyond that: BlockOrder.antt (request 1), Shortfalls.antt (2), Sealing.antt (3), Alterations.antt (4). The
+-- demands are stated with the requests' changes in them.
 -- A file, a bundle, an output, a table and a word are lists of numbers; `Bytes` says that each number is below 256.
 use mathlib.Core.Path.{_≡_}
 use mathlib.Core.Bool.{true, false, not}

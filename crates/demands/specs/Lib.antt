@@ -1,5 +1,6 @@
 pub mod Opening
 pub mod BlockOrder
+pub mod Alterations
 pub mod Tables
 pub mod Judging
 pub mod Screening
@@ -8,6 +9,7 @@ pub mod Sealing
 pub mod Demands
 pub mod OpeningProved
 pub mod BlockOrderProved
+pub mod AlterationsProved
 pub mod TablesProved
 pub mod JudgingProved
 pub mod ScreeningProved

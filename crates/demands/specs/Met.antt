@@ -3,15 +3,13 @@
 use mathlib.Core.Path.{_≡_, sym, ap, _∙_, refl}
 use mathlib.Core.Bool.{true}
 use mathlib.Core.List.{List, [], _∷_}
-use Prim.Native.Nat.{ℕ, zero, suc, _≤_}
+use Prim.Native.Nat.{ℕ, _≤_}
 use native.Mathlib.Omega.{arith}
-use lib.Dec.{T, T-not, ltb}
+use lib.Dec.{T, T-not}
 use lib.ListN.{length, take, replicate, length-replicate}
-use borrow.Author.Tests.{ltb-true}
-use Rattle.laws.specs.Booleans.{and-left, and-right}
 use Rattle.laws.specs.Parts.{take-front}
 use Rattle.laws.specs.Lists.{all, member, all-member, member→}
-use Rattle.laws.specs.Numbers.{Bytes}
+use Rattle.laws.specs.Numbers.{Bytes, all-bytes}
 use Rattle.limits.specs.Limits.{rightSize}
 use Rattle.refusals.specs.Results.{value}
 use Rattle.refusals.specs.Laws.{ends-written}
@@ -32,12 +30,6 @@ use Rattle.demands.specs.Proved.{demand-3}
 use Rattle.demands.specs.Samples.{bytesA, bytesA′, countsA, computed}
 
 -- ---- two different files
-
-all-bytes : (b : List ℕ) → all (λ x. ltb x 256) b ≡ true → Bytes b
-unfolding all
-all-bytes [] e i = omega arith
-all-bytes (x ∷ b) e zero = ltb-true x 256 (and-left (ltb x 256) (all (λ y. ltb y 256) b) e)
-all-bytes (x ∷ b) e (suc i) = all-bytes b (and-right (ltb x 256) (all (λ y. ltb y 256) b) e) i
 
 prefixes-in : (log₁ log₂ : Log) → all (λ w. member w (prefixes log₂)) (prefixes log₁) ≡ true → PrefixesIn log₁ log₂
 prefixes-in log₁ log₂ e u m = member→ u (prefixes log₂) (all-member (λ w. member w (prefixes log₂)) (prefixes log₁) (rw e tt) m)

@@ -7,6 +7,8 @@ pub mod Parts
 pub mod Pieces
 pub mod Scans
 pub mod Sums
+pub mod Distance
+pub mod Primes
 pub mod Differences
 pub mod Bits
 pub mod Numbers

@@ -1,7 +1,7 @@
 -- The lowest index at which a test fails: of the numbers below n, and of the elements of a list.
 use mathlib.Core.Path.{_≡_, refl, sym, ap, ap₂, _∙_}
 use mathlib.Core.Bool.{Bool, true, false, true≢false, cond, _&&_}
-use mathlib.Core.Logic.{_↔_, ⊎-elim}
+use mathlib.Core.Logic.{_↔_, _⊎_, inl, inr, ⊎-elim}
 use mathlib.Core.List.{List, [], _∷_, _++_, map}
 use Prim.Native.Nat.{ℕ, zero, suc, _+_, _≤_, _<_, zero-le, suc-le-suc}
 use native.Mathlib.Nat.{not-suc-le-zero, le-of-suc-le-suc, le-antisymm, le-of-eq, zero-lt-suc, suc-inj}
@@ -10,7 +10,7 @@ use native.Mathlib.Omega.{arith}
 use lib.ListN.{length, take, drop, getD, drop-of-length-le}
 use lib.Seq.{drop-cons, take-at, drop-at}
 use Rattle.laws.specs.Booleans.{lt-or-le}
-use Rattle.laws.specs.Lists.{all}
+use Rattle.laws.specs.Lists.{all, allBelow, tabulate, getD-tabulate, length-tabulate}
 
 -- ---- Of numbers
 
@@ -76,6 +76,14 @@ firstFalse-below test (suc n) k h = go (test 0) refl (firstFalse-below (λ (j : 
     go true p rest zero h = p
     go true p rest (suc k) h = rest k (le-of-suc-le-suc h)
     go false p rest k h = absurd (not-suc-le-zero h)
+
+-- the test is false somewhere, and there is a lowest such number; or it is true throughout
+pub firstFalse-cases : (test : ℕ → Bool) (n : ℕ)
+    → ((k : ℕ) × (k < n) × (test k ≡ false) × ((j : ℕ) → j < k → test j ≡ true)) ⊎ ((k : ℕ) → k < n → test k ≡ true)
+firstFalse-cases test n = ⊎-elim
+    (λ less. inl (firstFalse test n, less, firstFalse-fails test n less, λ j below. firstFalse-below test n j below))
+    (λ none. inr (firstFalse-none test n (le-antisymm (firstFalse-most test n) none)))
+    (lt-or-le (firstFalse test n) n)
 
 -- ---- Of elements
 
@@ -202,6 +210,11 @@ all-exactly test d l = (
   (λ e. failing-none test d l (le-of-eq (sym (all-failing test l e)))),
   (λ each. failing-all test l (le-of-eq (sym (failing-never test d l each)))),
 )
+
+-- each number below n passes
+pub allBelow-each : (n : ℕ) (f : ℕ → Bool) → allBelow n f ≡ true → (i : ℕ) → i < n → f i ≡ true
+allBelow-each n f e i h =
+    ap f (sym (getD-tabulate n (λ j. j) i 0 h)) ∙ all-exactly f 0 (tabulate n (λ j. j)) .0 e i (omega (arith, length-tabulate n (λ (j : ℕ). j)))
 
 -- the first element that fails, exactly: it fails, and those before it pass
 module _ {A : Type 0} (test : A → Bool) (d : A) where

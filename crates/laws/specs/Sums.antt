@@ -24,12 +24,16 @@ weighted-next w xs i h = ap (λ (k : ℕ). weighted w (take k xs)) (add-one i) �
     go w (x ∷ xs) zero h = omega arith
     go w (x ∷ xs) (suc i) h = omega (arith, go (λ (k : ℕ). w (suc k)) xs i (le-of-suc-le-suc h))
 
--- x more at element i adds w(i) × x
-pub weighted-more : (w : ℕ → ℕ) (xs : List ℕ) (i x : ℕ) → i < length xs → weighted w (set xs i (getD xs i 0 + x)) ≡ weighted w xs + w i * x
+-- another number at index i: the sums differ by its term
+pub weighted-set : (w : ℕ → ℕ) (xs : List ℕ) (i x : ℕ) → i < length xs → weighted w (set xs i x) + w i * getD xs i 0 ≡ weighted w xs + w i * x
 unfolding weighted
-weighted-more w [] i x h = absurd (not-suc-le-zero h)
-weighted-more w (y ∷ xs) zero x h = omega (arith, mul-add (w 0) y x)
-weighted-more w (y ∷ xs) (suc i) x h = omega (arith, weighted-more (λ (k : ℕ). w (suc k)) xs i x (le-of-suc-le-suc h))
+weighted-set w [] i x h = absurd (not-suc-le-zero h)
+weighted-set w (y ∷ xs) zero x h = omega arith
+weighted-set w (y ∷ xs) (suc i) x h = omega (arith, weighted-set (λ (k : ℕ). w (suc k)) xs i x (le-of-suc-le-suc h))
+
+-- x more there adds w(i) × x
+pub weighted-more : (w : ℕ → ℕ) (xs : List ℕ) (i x : ℕ) → i < length xs → weighted w (set xs i (getD xs i 0 + x)) ≡ weighted w xs + w i * x
+weighted-more w xs i x h = omega (arith, weighted-set w xs i (getD xs i 0 + x) h, mul-add (w i) (getD xs i 0) x)
 
 -- zeros have the sum 0
 pub weighted-zeros : (w : ℕ → ℕ) (n : ℕ) → weighted w (replicate n 0) ≡ 0

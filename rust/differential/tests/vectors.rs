@@ -13,10 +13,11 @@ use reference::Screened;
 type File = (&'static str, fn(Outcome<Screened>) -> String);
 
 /// Screening tells the shortfall from request 2 on.
-const FILES: [File; 3] = [
+const FILES: [File; 4] = [
     (include_str!("data/01.txt"), screened_line_without_shortfall),
     (include_str!("data/02.txt"), screened_line),
     (include_str!("data/03.txt"), screened_line),
+    (include_str!("data/04.txt"), screened_line),
 ];
 
 #[test]
@@ -35,19 +36,19 @@ fn judged() {
     }
     run.finish(&[
         // Each file that is opened, and each bundle that is accepted.
-        (0, 110 + 61 + 105 + 53 + 112 + 52),
-        (1, 4 + 1 + 3),
-        (2, 1 + 1 + 2),
-        (6, 15 + 10 + 15),
-        (7, 8 + 7 + 9),
-        (8, 1 + 1),
-        (9, 5 + 12 + 8),
-        (10, 5 + 8 + 10),
-        (11, 4 + 5 + 8),
+        (0, 110 + 61 + 105 + 53 + 112 + 52 + 103 + 53),
+        (1, 4 + 1 + 3 + 5),
+        (2, 1 + 1 + 2 + 3),
+        (6, 15 + 10 + 15 + 15),
+        (7, 8 + 7 + 9 + 9),
+        (8, 1 + 1 + 1),
+        (9, 5 + 12 + 8 + 8),
+        (10, 5 + 8 + 10 + 7),
+        (11, 4 + 5 + 8 + 3),
         (12, 1 + 1),
-        (13, 10 + 9 + 9),
-        (17, 6),
-        (18, 5 + 7 + 3),
+        (13, 10 + 9 + 9 + 7),
+        (17, 6 + 3),
+        (18, 5 + 7 + 3 + 6),
     ]);
 }
 
@@ -66,7 +67,7 @@ fn sealed_again() {
             }
         }
     }
-    run.finish(&[(0, 2 * (110 + 105 + 112))]);
+    run.finish(&[(0, 2 * (110 + 105 + 112 + 103))]);
 }
 
 #[test]
@@ -82,11 +83,14 @@ fn screened() {
     }
     run.finish_with_classes(
         &[
-            (0, 70 + 74 + 76),
-            (6, 2 + 3),
-            (7, 2 + 1 + 1),
-            (15, 6 + 2 + 3),
+            (0, 70 + 74 + 76 + 70),
+            (6, 2 + 3 + 5),
+            (7, 2 + 1 + 1 + 3),
+            (15, 6 + 2 + 3 + 2),
         ],
-        &[("permitted", 32 + 30 + 37), ("stopped", 38 + 44 + 39)],
+        &[
+            ("permitted", 32 + 30 + 37 + 28),
+            ("stopped", 38 + 44 + 39 + 42),
+        ],
     );
 }
