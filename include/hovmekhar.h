@@ -105,14 +105,18 @@ extern "C" {
 /** The largest event count n. */
 #define HOV_MAX_EVENTS 12
 
-/** Numbers of a row of the log table: HOV_MAX_EVENTS counts and the mask. */
-#define HOV_ROW_SIZE 13
+/**
+ * Numbers of a row of the log table: HOV_MAX_EVENTS counts, the mask of the
+ * events that may follow, and the traffic: how many words of the log have a
+ * prefix with these counts, up to 65,535.
+ */
+#define HOV_ROW_SIZE 14
 
 /** The largest number of rows in the log table. */
 #define HOV_MAX_ROWS 256
 
 /** Numbers of the log table: HOV_MAX_ROWS * HOV_ROW_SIZE. */
-#define HOV_TABLE_SIZE 3328
+#define HOV_TABLE_SIZE 3584
 
 /** The largest number of events in a log, over all its words. */
 #define HOV_MAX_LOG_EVENTS 1024
@@ -170,8 +174,8 @@ enum hov_refusal {
     HOV_BUNDLE_LENGTH = 4,
 
     /**
-     * fresh, take, judge: the table has fewer than 3,328 numbers.
-     * Spot: 3,328. As it was: the table.
+     * fresh, take, judge: the table has fewer than 3,584 numbers.
+     * Spot: 3,584. As it was: the table.
      */
     HOV_NUMBERS_SHORT = 5,
 
@@ -187,7 +191,7 @@ enum hov_refusal {
      * or place that is not there.
      * Spot: the offset of the field; in a lent word, the position in the word.
      * As it was: from take, the table. The judge, refusing with any number but
-     * 4 and 5, leaves the table's numbers 0 to 3,327 zero and the rest as it
+     * 4 and 5, leaves the table's numbers 0 to 3,583 zero and the rest as it
      * was.
      */
     HOV_VALUE = 7,
@@ -320,9 +324,10 @@ uint32_t hov_fresh(size_t n,
  *
  * For each prefix of the word, shortest first, from the empty one to the whole
  * word: the lowest of the rows with its counts is used; where there is none, a
- * row with its counts and mask 0 is appended. Then, where an event follows in
- * the word, that event's bit is set in the row's mask. No other number of the
- * table changes.
+ * row with its counts, mask 0 and traffic 0 is appended. The row's traffic then
+ * grows by 1, where it is not 65,535, and where an event follows in the word,
+ * that event's bit is set in the row's mask. No other number of the table
+ * changes.
  *
  * Returns HOV_OK, with the next summary in answer[0] to answer[2]: the event
  * count n, the rows and the events so far, to be handed to the next call.
@@ -426,7 +431,7 @@ static inline const char *hov_refusal_text(uint32_t number)
     case HOV_BUNDLE_LENGTH:
         return "the bundle's length is 0 or above 64,512";
     case HOV_NUMBERS_SHORT:
-        return "the table has fewer than 3,328 numbers";
+        return "the table has fewer than 3,584 numbers";
     case HOV_BUNDLE_END:
         return "the bundle ends before or inside a field";
     case HOV_VALUE:

@@ -21,8 +21,8 @@ use Rattle.refusals.specs.Results.{value, refused, bind}
 use Rattle.nets.specs.Nets.{Place, Step, Counts, rows, surplus, placePermits, refusedBy, weightsHold, solves}
 use Rattle.nets.specs.Surplus.{tokens-row}
 use Rattle.nets.specs.Wide.{wide}
-use Rattle.logs.specs.Rows.{ROW, Row, rowAt, rowsOf, newRow, none}
-use Rattle.logs.specs.Flat.{rows-at}
+use Rattle.rows.specs.Rows.{ROW, Row, rowAt, rowsOf, newRow, none}
+use Rattle.rows.specs.Flat.{rows-at}
 use Rattle.logs.specs.Log.{logRows}
 use Rattle.bundles.specs.Reading.{Read, got, item, andThen, give, require, byte, number, onward}
 use Rattle.bundles.specs.Layout.{PlaceFields, CertificateFields, kind0, kind1, Head, CertificateInLimits, toPlace, toNet, toCertificate, WeightFields, WeightsInLimits, rowsIn, allowedIn, solvesIn, toWeights}

@@ -19,7 +19,7 @@ use Rattle.nets.specs.Nets.{Word}
 use Rattle.nets.specs.Events.{firstBad}
 use Rattle.block.specs.Block.{plainSum, positionSum, padded, summedBytes, withSums, block, usedCount, usedContents, rightNumber, rightCount, rightPadding, rightUse, rightSums, fault}
 use Rattle.block.specs.File.{blockCount, blockAt, faultAt, firstFaulty, firstFault, contentsAt, bundleOf, rightLength, opened, partAt, sealedBlockAt, blocksFor, sealedFile, sealed}
-use Rattle.logs.specs.Rows.{rowAt, numbers, rowsOf, flat, findRow, visit, updateAt, follow, addEvent, takeWord}
+use Rattle.rows.specs.Rows.{rowAt, numbers, rowsOf, flat, findRow, present, visit, updateAt, follow, addEvent, takeWord}
 use Rattle.logs.specs.Answers.{TABLE, rightEventCount, rightSummary, takenOf, logStarted, freshAnswer, wordTaken, takenAnswer, takenTable}
 use Rattle.logs.specs.declared.Summary.{Summary}
 use Rattle.logs.specs.declared.Taken.{Taken}
@@ -59,14 +59,21 @@ zeros = replicate TABLE 0
 abbrev summary : ℕ → ℕ → ℕ → Summary
 summary n rows events = record { n = n; rows = rows; events = events }
 
--- the word 0 0 1 over 2 events, taken into a fresh table: rows 0 0, 1 0, 2 0 and 2 1, with their masks, and zeros behind them
+-- the word 0 0 1 over 2 events, taken into a fresh table: rows 0 0, 1 0, 2 0 and 2 1, with their masks and 1 word each, and zeros behind them
 unfoldable rows001 : List ℕ
 rows001 =
-    0 ∷ 0 ∷ 0 ∷ 0 ∷ 0 ∷ 0 ∷ 0 ∷ 0 ∷ 0 ∷ 0 ∷ 0 ∷ 0 ∷ 1
-    ∷ 1 ∷ 0 ∷ 0 ∷ 0 ∷ 0 ∷ 0 ∷ 0 ∷ 0 ∷ 0 ∷ 0 ∷ 0 ∷ 0 ∷ 1
-    ∷ 2 ∷ 0 ∷ 0 ∷ 0 ∷ 0 ∷ 0 ∷ 0 ∷ 0 ∷ 0 ∷ 0 ∷ 0 ∷ 0 ∷ 2
-    ∷ 2 ∷ 1 ∷ 0 ∷ 0 ∷ 0 ∷ 0 ∷ 0 ∷ 0 ∷ 0 ∷ 0 ∷ 0 ∷ 0 ∷ 0
+    0 ∷ 0 ∷ 0 ∷ 0 ∷ 0 ∷ 0 ∷ 0 ∷ 0 ∷ 0 ∷ 0 ∷ 0 ∷ 0 ∷ 1 ∷ 1
+    ∷ 1 ∷ 0 ∷ 0 ∷ 0 ∷ 0 ∷ 0 ∷ 0 ∷ 0 ∷ 0 ∷ 0 ∷ 0 ∷ 0 ∷ 1 ∷ 1
+    ∷ 2 ∷ 0 ∷ 0 ∷ 0 ∷ 0 ∷ 0 ∷ 0 ∷ 0 ∷ 0 ∷ 0 ∷ 0 ∷ 0 ∷ 2 ∷ 1
+    ∷ 2 ∷ 1 ∷ 0 ∷ 0 ∷ 0 ∷ 0 ∷ 0 ∷ 0 ∷ 0 ∷ 0 ∷ 0 ∷ 0 ∷ 0 ∷ 1
     ∷ 0 ∷ []
+
+-- two rows with the same counts in front of sevens, the lower with 65,535 words; and with the word 0 taken: its bit and its row, and 65,535 stays
+unfoldable twins : List ℕ
+twins = replicate 12 0 ++ (4 ∷ 65535 ∷ []) ++ replicate 12 0 ++ (8 ∷ 7 ∷ []) ++ replicate 3556 7
+
+unfoldable twins0 : List ℕ
+twins0 = replicate 12 0 ++ (5 ∷ 65535 ∷ []) ++ replicate 12 0 ++ (8 ∷ 7 ∷ 1 ∷ []) ++ replicate 11 0 ++ (0 ∷ 1 ∷ 7 ∷ [])
 
 -- a sealed file of two blocks
 fileTwo : List ℕ
@@ -110,12 +117,13 @@ callSamples =
     ∷ (ofResult (opened (set (set fileTwo 512 0) 4 0)), 2 ∷ 0 ∷ [])
     -- fresh: a summary; 5; 16
     ∷ (ofTaken (freshAnswer 2 sevens), 0 ∷ 2 ∷ 1 ∷ 0 ∷ [])
-    ∷ (ofTaken (freshAnswer 13 (drop 1 sevens)), 5 ∷ 3328 ∷ [])
+    ∷ (ofTaken (freshAnswer 13 (drop 1 sevens)), 5 ∷ 3584 ∷ [])
     ∷ (ofTaken (freshAnswer 13 sevens), 16 ∷ 0 ∷ [])
     -- take: the next summary and the table; 5; 16; 8; 7; 9
     ∷ (ofTaken (takenAnswer (summary 2 1 0) zeros (0 ∷ 0 ∷ 1 ∷ [])), 0 ∷ 2 ∷ 4 ∷ 3 ∷ [])
-    ∷ (take 53 (tableAfter (summary 2 1 0) zeros (0 ∷ 0 ∷ 1 ∷ [])), rows001)
-    ∷ (ofTaken (takenAnswer (summary 2 0 0) (drop 1 zeros) (2 ∷ [])), 5 ∷ 3328 ∷ [])
+    ∷ (take 57 (tableAfter (summary 2 1 0) zeros (0 ∷ 0 ∷ 1 ∷ [])), rows001)
+    ∷ (take 43 (tableAfter (summary 1 2 0) twins (0 ∷ [])), twins0)
+    ∷ (ofTaken (takenAnswer (summary 2 0 0) (drop 1 zeros) (2 ∷ [])), 5 ∷ 3584 ∷ [])
     ∷ (ofTaken (takenAnswer (summary 2 0 1024) zeros (2 ∷ [])), 16 ∷ 0 ∷ [])
     ∷ (ofTaken (takenAnswer (summary 2 1 1024) zeros (2 ∷ [])), 8 ∷ 0 ∷ [])
     ∷ (ofTaken (takenAnswer (summary 2 256 0) zeros (1 ∷ 2 ∷ [])), 7 ∷ 1 ∷ [])
@@ -123,7 +131,7 @@ callSamples =
     ∷ []
 
 pub call-samples-hold : all (λ c. equal (c .0) (c .1)) callSamples ≡ true
-unfolding callSamples ofResult ofTaken bytesA fileA fileTwo sevens zeros rows001 tableAfter all any equal numberAt joined firstFalse firstFailing weighted withBit rightSize bind require firstBad plainSum positionSum padded summedBytes withSums block usedCount usedContents rightNumber rightCount rightPadding rightUse rightSums fault blockCount blockAt faultAt firstFaulty firstFault contentsAt bundleOf rightLength opened partAt sealedBlockAt blocksFor sealedFile sealed rowAt numbers rowsOf flat findRow visit updateAt follow addEvent takeWord rightEventCount rightSummary takenOf logStarted freshAnswer wordTaken takenAnswer takenTable
+unfolding callSamples ofResult ofTaken bytesA fileA fileTwo sevens zeros rows001 twins twins0 tableAfter all any equal numberAt joined firstFalse firstFailing weighted withBit rightSize bind require firstBad plainSum positionSum padded summedBytes withSums block usedCount usedContents rightNumber rightCount rightPadding rightUse rightSums fault blockCount blockAt faultAt firstFaulty firstFault contentsAt bundleOf rightLength opened partAt sealedBlockAt blocksFor sealedFile sealed rowAt numbers rowsOf flat findRow present visit updateAt follow addEvent takeWord rightEventCount rightSummary takenOf logStarted freshAnswer wordTaken takenAnswer takenTable
 call-samples-hold = refl
 
 -- the bundle of case A: its first three bytes, 2 2 1, are now 3 0 2. Neither sum changes

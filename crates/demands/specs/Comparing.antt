@@ -18,7 +18,7 @@ use Rattle.nets.specs.Fits.{LogBelow, prefix-below}
 use Rattle.nets.specs.TokenGame.{placesOf}
 use Rattle.nets.specs.SeparationProblems.{Complete, Suboptimal, accepted-complete, accepted-suboptimal}
 use Rattle.nets.specs.Comparison.{PrefixesIn, first-exactly, second-permits, nets-agree, first-screened, second-screened, tallies-agree}
-use Rattle.logs.specs.Rows.{withRows, cleared}
+use Rattle.rows.specs.Rows.{withRows, cleared}
 use Rattle.logs.specs.Answers.{TABLE}
 use Rattle.logs.specs.Log.{logRows}
 use Rattle.bundles.specs.Layout.{CertificateFields, Head, Contents, WordInLimits, toNet, toBundle, certificateBytes, bytesOf}

@@ -1,8 +1,8 @@
 -- The user's three demands, as types: the summary. Proved.antt proves each of them; docs/ASSURANCE.md says how to read them.
 -- A page for each group of calls says exactly when which refusal meets a call, and at which spot, in the words of the requirements: Opening.antt
 -- (open, seal), Tables.antt (fresh, take, and what stands in a table), Judging.antt and Screening.antt. Here they are gathered by name. A page for
--- each change request says what it promised beyond that: BlockOrder.antt (request 1), Shortfalls.antt (2), Sealing.antt (3), Alterations.antt (4). The
--- demands are stated with the requests' changes in them.
+-- each change request says what it promised beyond that: BlockOrder.antt (request 1), Shortfalls.antt (2), Sealing.antt (3), Alterations.antt (4),
+-- Traffic.antt (5). The demands are stated with the requests' changes in them.
 -- A file, a bundle, an output, a table and a word are lists of numbers; `Bytes` says that each number is below 256.
 use mathlib.Core.Path.{_≡_}
 use mathlib.Core.Bool.{true, false, not}
@@ -27,7 +27,7 @@ use Rattle.nets.specs.Comparison.{PrefixesIn}
 use Rattle.nets.specs.Screening.{FirstRefused, shortfallAt}
 use Rattle.nets.specs.TokenGame.{placesOf}
 use Rattle.nets.specs.SeparationProblems.{Complete, Suboptimal}
-use Rattle.logs.specs.Rows.{withRows, cleared}
+use Rattle.rows.specs.Rows.{withRows, cleared}
 use Rattle.logs.specs.Answers.{TABLE, freshAnswer, freshTable, takenAnswer, takenTable, takenNumber}
 use Rattle.logs.specs.Log.{logRows, Takes}
 use Rattle.logs.specs.declared.Summary.{Summary}
@@ -84,14 +84,14 @@ pub record Demand1 : Type 0 where
       → (new : List ℕ) × (result ≡ value new) × (n ≡ length new) × (written result output ≡ front new output)
   pub result-rest : (result : Result (List ℕ)) (output : List ℕ) (n : ℕ) → answer result (length output) ≡ writing.Length n
       → (length (written result output) ≡ length output) × (drop n (written result output) ≡ drop n output)
-  -- a fresh summary leaves zeros up to number 3,327, and the rest; from there on the words that are taken leave the rows of their log, each
-  -- with its mask, zeros up to number 3,327, and the rest
+  -- a fresh summary leaves zeros up to number 3,583, and the rest; from there on the words that are taken leave the rows of their log, each
+  -- with its mask and its traffic, zeros up to number 3,583, and the rest
   pub fresh-table : (n : ℕ) (table : List ℕ) (s : Summary) → freshAnswer n table ≡ taking.Next s
       → freshTable (freshAnswer n table) table ≡ cleared TABLE table
   pub log-table : (n : ℕ) (table : List ℕ) (log : Log) (s s′ : Summary) (table′ : List ℕ)
       → freshAnswer n table ≡ taking.Next s → Takes s (freshTable (freshAnswer n table) table) log s′ table′
       → (s′ ≡ record { n = n; rows = length (rows n log); events = eventCount log }) × (table′ ≡ withRows (logRows log) (cleared TABLE table))
-  -- number by number: n counts, zeros from n on, bits for the allowed steps
+  -- number by number: n counts, zeros from n on, bits for the allowed steps, and the traffic
   pub log-numbers : (n : ℕ) (table : List ℕ) (log : Log) (s s′ : Summary) (table′ : List ℕ)
       → freshAnswer n table ≡ taking.Next s → Takes s (freshTable (freshAnswer n table) table) log s′ table′ → LogLeft n log table table′
   -- what a taken word leaves in any table
@@ -101,11 +101,11 @@ pub record Demand1 : Type 0 where
   pub refused-fresh : (n : ℕ) (table : List ℕ) (r : Refusal) → freshAnswer n table ≡ taking.Refused r → freshTable (freshAnswer n table) table ≡ table
   pub refused-take : (s : Summary) (table : List ℕ) (w : Word) (r : Refusal) → takenAnswer s table w ≡ taking.Refused r
       → takenTable (takenAnswer s table w) s table w ≡ table
-  -- the judge, refusing with 4 or 5, leaves the table; with any other number it leaves zeros up to number 3,327, and the rest
+  -- the judge, refusing with 4 or 5, leaves the table; with any other number it leaves zeros up to number 3,583, and the rest
   pub refused-judge : (table b : List ℕ) (r : Refusal) → verdict (length table) b ≡ judging.Refused r
       → ((among (r .number) (4 ∷ 5 ∷ []) ≡ true) → tableAfter b table ≡ table)
       × ((among (r .number) (4 ∷ 5 ∷ []) ≡ false) → tableAfter b table ≡ cleared TABLE table)
-  -- accepting, it leaves the log's rows, each with its mask, zeros up to number 3,327, and the rest
+  -- accepting, it leaves the log's rows, each with its mask and its traffic, zeros up to number 3,583, and the rest
   pub accepted-judge : (table b : List ℕ) → Bytes b → (c : Tally) → verdict (length table) b ≡ judging.Accepted c
       → tableAfter b table ≡ withRows (logRows (logIn b)) (cleared TABLE table)
   pub accepted-numbers : (table b : List ℕ) → Bytes b → (c : Tally) → verdict (length table) b ≡ judging.Accepted c
@@ -125,7 +125,7 @@ pub record Demand1 : Type 0 where
 -- each other.'
 
 pub record Demand2 : Type 0 where
-  pub accepted : (tableSize : ℕ) → 3328 ≤ tableSize → (b : List ℕ) → Bytes b → (c : Tally) → (verdict tableSize b ≡ judging.Accepted c)
+  pub accepted : (tableSize : ℕ) → 3584 ≤ tableSize → (b : List ℕ) → Bytes b → (c : Tally) → (verdict tableSize b ≡ judging.Accepted c)
       ↔ ((d : Contents) × AcceptedAs b c d)
   -- the event count, log and net that the lines below and demand 3 speak of are, of an accepted bundle, those of its contents
   pub head : (b : List ℕ) → Bytes b → (c : Tally) (d : Contents) → AcceptedAs b c d → headOf b ≡ d .head

@@ -28,7 +28,7 @@ use Rattle.verdicts.specs.declared.Verdict.the-variants as judging
 pub record Sized (tableSize : ℕ) (b : List ℕ) : Type 0 where
   pub some : 1 ≤ length b
   pub most : length b ≤ 64512
-  pub table : 3328 ≤ tableSize
+  pub table : 3584 ≤ tableSize
 
 -- place j of the head does not fit, and each lower one does
 pub record LowestMisfit (h : Head) (j : ℕ) : Type 0 where
@@ -41,9 +41,9 @@ pub record LowestMisfit (h : Head) (j : ℕ) : Type 0 where
 pub record JudgeExactly (tableSize : ℕ) (b : List ℕ) : Type 0 where
   -- 'bundle length 0 or above 64,512 | 4 | 0'
   pub bundle-length : (spot : ℕ) → (verdict tableSize b ≡ judging.Refused (refusal 4 spot)) ↔ ((spot ≡ 0) × ((length b ≡ 0) ⊎ (64512 < length b)))
-  -- 'table under 3,328 numbers | 5 | 3,328'
+  -- 'table under 3,584 numbers | 5 | 3,584'
   pub table-short : (spot : ℕ) → (verdict tableSize b ≡ judging.Refused (refusal 5 spot))
-      ↔ ((spot ≡ 3328) × (1 ≤ length b) × (length b ≤ 64512) × (tableSize < 3328))
+      ↔ ((spot ≡ 3584) × (1 ≤ length b) × (length b ≤ 64512) × (tableSize < 3584))
   -- 6 to 9 are those of the readers of the head and, behind it and the certificates that solve their steps, of the certificate that is due
   pub fields : (k : ℕ) → among k (6 ∷ 7 ∷ 8 ∷ 9 ∷ []) ≡ true → (spot : ℕ) → (verdict tableSize b ≡ judging.Refused (refusal k spot))
       ↔ (Sized tableSize b × ((head rowsInLimit b 0 ≡ refused k spot)

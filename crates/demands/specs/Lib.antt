@@ -2,6 +2,7 @@ pub mod Opening
 pub mod BlockOrder
 pub mod Alterations
 pub mod Tables
+pub mod Traffic
 pub mod Judging
 pub mod Screening
 pub mod Shortfalls
@@ -16,6 +17,7 @@ pub mod ScreeningProved
 pub mod ShortfallsProved
 pub mod SealingProved
 pub mod Comparing
+pub mod TrafficProved
 pub mod Proved
 pub mod Files
 pub mod Samples

@@ -1,7 +1,7 @@
 -- Samples A to I of the paper for the definitions, on their bytes, and further refusals: what is computed, with what is expected.
 use mathlib.Core.Path.{_≡_, refl}
 use mathlib.Core.Bool.{true, false, cond}
-use mathlib.Core.List.{List, [], _∷_, flatMap}
+use mathlib.Core.List.{List, [], _∷_, map, flatMap}
 use Prim.Native.Nat.{ℕ, _-_}
 use lib.Dec.{ltb}
 use lib.ListN.{length}
@@ -11,7 +11,7 @@ use Rattle.laws.specs.Differences.{negativePart, sumℤ}
 use Rattle.laws.specs.Scans.{firstFailing}
 use Rattle.limits.specs.Limits.{rightSize}
 use Rattle.refusals.specs.Results.{bind}
-use Rattle.nets.specs.Nets.{Log, same, occurrences, eventCount, weighed, beginnings, prefixes, addRow, counts, stepAfter, tokens, surplus, placePermits, shortfall, netPermits, permitsAfter, permits, firstRefusing, shortfallOf, stoppedAt, screenAfter, screen, rows, allowed, rowSteps, continuations, allowedSteps, wrongContinuations, fits, refusedBy, weighsBefore, weighsAfter, weightsHold, solves, isByPlace, tally}
+use Rattle.nets.specs.Nets.{Log, same, occurrences, eventCount, weighed, beginnings, prefixes, addRow, counts, stepAfter, tokens, surplus, placePermits, shortfall, netPermits, permitsAfter, permits, firstRefusing, shortfallOf, stoppedAt, screenAfter, screen, rows, allowed, passes, traffic, rowSteps, continuations, allowedSteps, wrongContinuations, fits, refusedBy, weighsBefore, weighsAfter, weightsHold, solves, isByPlace, tally}
 use Rattle.nets.specs.Events.{firstBad}
 use Rattle.logs.specs.Answers.{TABLE}
 use Rattle.bundles.specs.Reading.{require, field, byte, number, each, onward}
@@ -68,6 +68,10 @@ samples =
     ∷ (ofVerdict (verdict TABLE (1 ∷ 0 ∷ 0 ∷ 1 ∷ 0 ∷ 0 ∷ 0 ∷ [])), 7 ∷ 4 ∷ [])
     -- I: rows, allowed steps, wrong continuations, and 3 after 0 1
     ∷ (length (rows 4 logI) ∷ length (allowedSteps 4 logI) ∷ length (wrongContinuations 4 logI) ∷ cond (allowed 4 logI (stepAfter 4 (0 ∷ 1 ∷ []) 3)) 1 0 ∷ [], 6 ∷ 6 ∷ 18 ∷ 1 ∷ [])
+    -- and the traffic of its rows; with two empty words; two words of which one is a prefix of the other
+    ∷ (map (traffic 4 logI) (rows 4 logI), 2 ∷ 1 ∷ 2 ∷ 1 ∷ 1 ∷ 1 ∷ [])
+    ∷ (map (traffic 4 ([] ∷ [] ∷ logI)) (rows 4 ([] ∷ [] ∷ logI)), 4 ∷ 1 ∷ 2 ∷ 1 ∷ 1 ∷ 1 ∷ [])
+    ∷ (map (traffic 1 ((0 ∷ 0 ∷ []) ∷ (0 ∷ []) ∷ [])) (rows 1 ((0 ∷ 0 ∷ []) ∷ (0 ∷ []) ∷ [])), 2 ∷ 2 ∷ 1 ∷ [])
     -- further verdicts
     ∷ (ofVerdict (verdict TABLE []), 4 ∷ 0 ∷ [])
     ∷ (ofVerdict (verdict (TABLE - 1) (13 ∷ [])), 5 ∷ TABLE ∷ [])
@@ -137,7 +141,7 @@ pub record Computed : Type 0 where
   pub refuses10 : permits (eventsIn bytesA) (netIn bytesA) (1 ∷ 0 ∷ []) ≡ false
 
 pub computed : Computed
-unfolding ofVerdict ofScreened bytesA logI samples all any keep tabulate equal numberAt firstFailing negativePart sumℤ same occurrences eventCount weighed beginnings prefixes addRow counts tokens surplus placePermits shortfall netPermits firstRefusing shortfallOf stoppedAt screenAfter screen rows allowed rowSteps continuations allowedSteps wrongContinuations fits refusedBy weighsBefore weighsAfter weightsHold solves isByPlace tally firstBad flatMap bind onward require field byte number each toPlace toNet toTerm toCertificate toBundle rightSize wordAfter word place places headAfter head bundleSize bundleHead term weights ofKind certificate unsolved solved atEnd afterHead contents judging judged verdictOf verdict replayed wordOn screening screenedOf screened bytesA′ countsA headOf headIn permits permitsAfter
+unfolding ofVerdict ofScreened bytesA logI samples all any keep tabulate equal numberAt firstFailing negativePart sumℤ same occurrences eventCount weighed beginnings prefixes addRow counts tokens surplus placePermits shortfall netPermits firstRefusing shortfallOf stoppedAt screenAfter screen rows allowed passes traffic rowSteps continuations allowedSteps wrongContinuations fits refusedBy weighsBefore weighsAfter weightsHold solves isByPlace tally firstBad flatMap bind onward require field byte number each toPlace toNet toTerm toCertificate toBundle rightSize wordAfter word place places headAfter head bundleSize bundleHead term weights ofKind certificate unsolved solved atEnd afterHead contents judging judged verdictOf verdict replayed wordOn screening screenedOf screened bytesA′ countsA headOf headIn permits permitsAfter
 computed = record {
   samplesHold = refl;
   acceptedA = refl;

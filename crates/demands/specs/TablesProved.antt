@@ -13,13 +13,13 @@ use Rattle.limits.specs.Limits.{MAX-EVENTS, MAX-ROWS}
 use Rattle.nets.specs.Nets.{Word, Log, rows}
 use Rattle.nets.specs.Events.{EventsBelow, below-exactly, bad-exactly}
 use Rattle.nets.specs.Fits.{LogBelow}
-use Rattle.logs.specs.Rows.{withRows, cleared}
+use Rattle.rows.specs.Rows.{withRows, cleared}
 use Rattle.logs.specs.Answers.{TABLE, rightSummary, freshAnswer, freshTable, rowsAfter, takenAnswer, takenTable}
 use Rattle.logs.specs.Log.{logRows, Takes}
 use Rattle.logs.specs.LogTable.{each-below, taken-below, taken-rows, fresh-passed, log-table}
 use Rattle.tables.specs.Causes.{eventCount-right, eventCount-wrong, summary-right, fresh-refused, fresh-next, fresh-5, fresh-16, fresh-gives, take-refused, take-next, take-5, take-16, take-8, take-7, take-9, take-gives}
-use Rattle.tables.specs.Tables.{rows-after, taken-kept, taken-appended, taken-bits, taken-rest, taken-length}
-use Rattle.tables.specs.LogNumbers.{row-number, row-zero, row-bit, row-clear, table-zero, table-rest, table-length}
+use Rattle.tables.specs.Tables.{rows-after, taken-kept, taken-appended, taken-bits, taken-used, taken-unused, taken-new, taken-rest, taken-length}
+use Rattle.tables.specs.LogNumbers.{row-number, row-zero, row-passed, row-bit, row-clear, table-zero, table-rest, table-length}
 use Rattle.logs.specs.declared.Summary.{Summary}
 use Rattle.logs.specs.declared.Taken.the-variants as taking
 use Rattle.demands.specs.Tables.{FreshExactly, InRange, Admitted, rowsWith, TakeExactly, TakeLeaves, LogLeft}
@@ -133,6 +133,9 @@ module _ (s : Summary) (t : List ℕ) (w : Word) where
     kept = taken-kept s t w s′ e;
     appended = taken-appended s t w s′ e;
     bits = taken-bits s t w s′ e;
+    used = taken-used s t w s′ e;
+    unused = taken-unused s t w s′ e;
+    new = taken-new s t w s′ e;
     rest = taken-rest s t w s′ e;
     size = taken-length s t w s′ e;
   }
@@ -147,6 +150,7 @@ log-left n log most below few t long = record {
   zero = λ r h i from b. row-zero n log most below t r h i from b;
   bits = λ r h e. row-bit n log most below t r h e;
   clear = λ r h e from. row-clear n log most below t r h e from;
+  traffic = λ r h. row-passed n log most below t r h;
   zeros = λ i from b. table-zero n log most below t few i from b;
   rest = table-rest n log most below t few;
   size = table-length n log most below t few long;

@@ -20,7 +20,7 @@ use Rattle.laws.specs.Sums.{sum, sum-same}
 use Rattle.limits.specs.Limits.{MAX-EVENTS}
 use Rattle.nets.specs.Nets.{Place, noPlace, Step, Counts, at, tokens, surplus, placePermits, fits}
 use Rattle.nets.specs.Surplus.{given, taken, tokens-is, given-next, taken-next, tokens-row, permits→le, le→permits, tokens-zeros}
-use Rattle.logs.specs.Rows.{Row, none, rowAt, rowsOf}
+use Rattle.rows.specs.Rows.{Row, none, rowAt, rowsOf}
 use Rattle.bundles.specs.Readers.{eventsIn, logIn, netIn}
 use Rattle.bundles.specs.HeadReading.{net-size}
 use Rattle.heads.specs.Heads.{HeadHeld}

@@ -10,7 +10,7 @@ use Rattle.laws.specs.Bits.{bit}
 use Rattle.laws.specs.Scans.{firstFailing}
 use Rattle.limits.specs.Limits.{MAX-EVENTS}
 use Rattle.nets.specs.Nets.{Place, noPlace, placePermits, fits}
-use Rattle.logs.specs.Rows.{Row}
+use Rattle.rows.specs.Rows.{Row}
 use Rattle.bundles.specs.Readers.{eventsIn, logIn, netIn}
 
 -- a place permits what a row allows

@@ -21,8 +21,8 @@ use Rattle.nets.specs.Rows.{row→, continuation→, allowedStep→}
 use Rattle.nets.specs.Surplus.{tokens-row}
 use Rattle.nets.specs.Wide.{wide, permits-wide}
 use Rattle.nets.specs.declared.Place as Declared
-use Rattle.logs.specs.Rows.{ROW, Row, rowAt, rowsOf}
-use Rattle.logs.specs.Flat.{length-rows, rows-at}
+use Rattle.rows.specs.Rows.{ROW, Row, rowAt, rowsOf}
+use Rattle.rows.specs.Flat.{length-rows, rows-at}
 use Rattle.logs.specs.Log.{logRow, logRows}
 use Rattle.logs.specs.LogTable.{logRows-is, logRow-bit}
 use Rattle.bundles.specs.Layout.{toPlace, toNet}

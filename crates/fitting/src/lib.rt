@@ -8,16 +8,16 @@ use columns::start;
 use columns::write_columns;
 use heads::TakenHead;
 use limits::MAX_EVENTS;
-use logs::rows::ROW;
 use nets::Place;
 use nets::covers;
 use nets::has_bit;
+use rows::ROW;
 ghost use mathlib.Core.Path.{_≡_};
 ghost use mathlib.Core.Bool.{true};
 ghost use Prim.Native.Nat.{_*_, _≤_};
 ghost use lib.ListN.{length};
 ghost use Rattle.nets.specs.Machine.{placeOf, Held};
-ghost use Rattle.logs.specs.Rows.{ROW, rowAt, rowsOf};
+ghost use Rattle.rows.specs.Rows.{ROW, rowAt, rowsOf};
 ghost use Rattle.heads.specs.Heads.{HeadHeld};
 ghost use Rattle.fitting.specs.Fitting.{eventsFit, rowFits, fitsRows, misfitIn};
 

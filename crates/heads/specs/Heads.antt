@@ -10,7 +10,7 @@ use Rattle.refusals.specs.Results.{value, refused, bind}
 use Rattle.refusals.specs.declared.Refusal.{Refusal}
 use Rattle.nets.specs.Nets.{rows}
 use Rattle.nets.specs.Fits.{LogBelow}
-use Rattle.logs.specs.Rows.{ROW, rowsOf, Holds}
+use Rattle.rows.specs.Rows.{ROW, rowsOf, Holds}
 use Rattle.logs.specs.Answers.{TABLE}
 use Rattle.logs.specs.Log.{logRows}
 use Rattle.bundles.specs.Reading.{Read, got, item, byte, onward}

@@ -18,15 +18,15 @@ use Rattle.nets.specs.Events.{EventsBelow}
 use Rattle.nets.specs.Nets.{Word, Log, eventCount, rows}
 use Rattle.nets.specs.LogLaws.{eventCount-snoc}
 use Rattle.nets.specs.Fits.{Below, LogBelow}
-use Rattle.logs.specs.Rows.{ROW, Row, rowsOf, newRow, none, takeWord, newRows, Holds, Added}
+use Rattle.rows.specs.Rows.{ROW, Row, rowsOf, newRow, none, takeWord, newRows, Holds, Added}
 use Rattle.logs.specs.Answers.{TABLE}
-use Rattle.logs.specs.Index.{Index}
+use Rattle.rows.specs.Index.{Index}
 use Rattle.logs.specs.Log.{logRows}
 use Rattle.logs.specs.LogRows.{take-word, first-row}
 use Rattle.logs.specs.LogTable.{length-logRows, each-below}
-use Rattle.logs.specs.Growth.{length-take}
+use Rattle.rows.specs.Growth.{length-take}
 use Rattle.logs.specs.Taking.{drop-more}
-use Rattle.logs.specs.Flat.{length-rows}
+use Rattle.rows.specs.Flat.{length-rows}
 use Rattle.bundles.specs.Reading.{got, _>>_, require, byte, each, times, following, onward}
 use Rattle.bundles.specs.Readers.{anything, wordAfter, word, rowsInLimit}
 use Rattle.bundles.specs.FieldReading.{below, byte-got}
@@ -197,7 +197,7 @@ pub record TakenSoFar (n : ℕ) (b : List ℕ) (at count : ℕ) (t₀ t : List �
   pub held : LogHeld n log t₀ t rowCount events
   pub same : following count (word (rowsInLimit n) n) b at ≡ rest (word (rowsInLimit n) n) b left log next
 
--- the rows of a log end before number 3,328
+-- the rows of a log end before number 3,584
 pub held-rest : {n : ℕ} {log : Log} {t₀ t : List ℕ} {rowCount events : ℕ} → LogHeld n log t₀ t rowCount events → drop TABLE t ≡ drop TABLE t₀
 held-rest {n} {log} {t₀} {t} {rowCount} {events} h = drop-more (ROW * rowCount) TABLE t t₀ (omega (arith, h .few)) (h .holds .rest)
 

@@ -16,10 +16,10 @@ use Rattle.refusals.specs.Table.{PLACE-MISFIT, BYTES-FOLLOW, BUNDLE-LENGTH, NUM
 use Rattle.refusals.specs.Results.{value, refused, bind}
 use Rattle.refusals.specs.Answers.{refusal}
 use Rattle.nets.specs.Nets.{tally}
-use Rattle.logs.specs.Rows.{ROW, withRows, cleared, Holds}
+use Rattle.rows.specs.Rows.{ROW, withRows, cleared, Holds}
 use Rattle.logs.specs.Answers.{TABLE}
 use Rattle.logs.specs.Log.{logRows}
-use Rattle.logs.specs.Flat.{holds-with}
+use Rattle.rows.specs.Flat.{holds-with}
 use Rattle.logs.specs.Taking.{drop-more}
 use Rattle.bundles.specs.Reading.{Read, got, item, Reader, andThen, _>>=_, _>>_, give, require, each, onward}
 use Rattle.bundles.specs.Layout.{CertificateFields, Head, Contents, wrongIn, fitsIn, toNet, toBundle}
@@ -45,7 +45,7 @@ unfoldable pub endedAs : List ℕ → Certified → Verdict
 endedAs b (certified.Read counts next) = cond (leb (length b) next) (verdicts.Accepted counts) (verdicts.Refused (refusal BYTES-FOLLOW next))
 endedAs b (certified.Refused r) = verdicts.Refused r
 
--- the table before the last step: the log's rows where the bundle is accepted; else no number from 3,328 on is changed
+-- the table before the last step: the log's rows where the bundle is accepted; else no number from 3,584 on is changed
 abbrev pub TableLeft : Read Contents → List ℕ → List ℕ → Type 0
 TableLeft (value (item c next)) t₀ t = t ≡ withRows (logRows (c .head .log)) t₀
 TableLeft (refused number spot) t₀ t = drop TABLE t ≡ drop TABLE t₀

@@ -81,7 +81,7 @@ fn is_refused(verdict: Verdict) -> bool
 }
 
 // The verdict on a bundle: accepted with four counts, and then its log's rows are in the table; or refused.
-// Refuses with 4, 5, and then in the bundle's order with 6 to 13. 4 and 5 leave the table as it was; the others clear its first 3,328 numbers.
+// Refuses with 4, 5, and then in the bundle's order with 6 to 13. 4 and 5 leave the table as it was; the others clear its first 3,584 numbers.
 pub fn judge(bundle: &[u8], table: &mut [u16]) -> Verdict
     ensures { λ r. ⌜ r ≡ verdict (length (now (table .entry))) (now (bundle .entry)) ⌝ }
     ensures { λ _. ⌜ now (table .exit) ≡ tableAfter (now (bundle .entry)) (now (table .entry)) ⌝ }

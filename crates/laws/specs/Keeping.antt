@@ -2,7 +2,7 @@
 use mathlib.Core.Path.{_≡_, refl, sym, ap, ap₂}
 use mathlib.Core.Bool.{Bool, true, false, cond}
 use mathlib.Core.List.{List, [], _∷_, _++_, List·Memᴰ, List·Memᴰ·head, List·Memᴰ·tail}
-use Prim.Native.Nat.{ℕ, _+_, _<_}
+use Prim.Native.Nat.{ℕ, suc, _+_, _<_, _≤_, zero-le, suc-le-suc}
 use native.Mathlib.Nat.{zero-add}
 use native.Mathlib.Numerals.{add-one}
 use native.Mathlib.Omega.{arith}
@@ -21,7 +21,30 @@ module _ {A : Type 0} (f : A → Bool) (xs : List A) (k : ℕ) (d : A) (h : k < 
   unfolding keep
   keep-failed t = rw (drop-cons xs k d h, t, add-one)
 
--- how many pass, with one member more
+-- how many pass: the first, and the others; no more than there are, and all of them where each passes
+pub keep-first : {A : Type 0} (f : A → Bool) (x : A) (xs : List A) → length (keep f (x ∷ xs)) ≡ cond (f x) 1 0 + length (keep f xs)
+unfolding keep
+keep-first f x xs = go (f x)
+  where
+    go : (p : Bool) → length (cond p (x ∷ keep f xs) (keep f xs)) ≡ cond p 1 0 + length (keep f xs)
+    go true = omega arith
+    go false = omega arith
+
+pub keep-most : {A : Type 0} (f : A → Bool) (xs : List A) → length (keep f xs) ≤ length xs
+unfolding keep
+keep-most f [] = zero-le
+keep-most f (x ∷ xs) = go (f x) (keep-most f xs)
+  where
+    go : (p : Bool) → length (keep f xs) ≤ length xs → length (cond p (x ∷ keep f xs) (keep f xs)) ≤ suc (length xs)
+    go true h = suc-le-suc h
+    go false h = omega arith
+
+pub keep-all : {A : Type 0} (f : A → Bool) (xs : List A) → ((x : A) → f x ≡ true) → keep f xs ≡ xs
+unfolding keep
+keep-all f [] h = refl
+keep-all {A} f (x ∷ xs) h = rw (h x) (ap (λ (l : List A). x ∷ l) (keep-all f xs h))
+
+-- and with one member more
 pub keep-last : {A : Type 0} (f : A → Bool) (xs : List A) (x : A) → length (keep f (xs ++ x ∷ [])) ≡ length (keep f xs) + length (keep f (x ∷ []))
 unfolding keep
 keep-last f [] x = sym (zero-add _)

@@ -16,11 +16,11 @@ use Rattle.refusals.specs.Results.{Result, value, refused, _>>_, require, passe
 use Rattle.refusals.specs.Answers.{refusal}
 use Rattle.refusals.specs.declared.Refusal.{Refusal}
 use Rattle.nets.specs.Events.{firstBad, none-bad}
-use Rattle.logs.specs.Rows.{rowsOf, none, Added}
+use Rattle.rows.specs.Rows.{rowsOf, none, Added}
 use Rattle.logs.specs.Answers.{TABLE, rightEventCount, rightSummary, takenOf, rowsAfter, wordTaken, takenAnswer, takenTable}
 use Rattle.logs.specs.Takable.{Takable}
-use Rattle.logs.specs.Flat.{length-rows, holds-with}
-use Rattle.logs.specs.Growth.{length-take}
+use Rattle.rows.specs.Flat.{length-rows, holds-with}
+use Rattle.rows.specs.Growth.{length-take}
 use Rattle.logs.specs.declared.Summary.{Summary}
 use Rattle.logs.specs.declared.Taken.{Taken}
 use Rattle.logs.specs.declared.Taken.the-variants.{Next, Refused}

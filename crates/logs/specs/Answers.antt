@@ -11,7 +11,7 @@ use Rattle.refusals.specs.Results.{Result, value, refused, _>>_, require}
 use Rattle.refusals.specs.Answers.{refusal}
 use Rattle.nets.specs.Events.{firstBad}
 use Rattle.nets.specs.Nets.{Word}
-use Rattle.logs.specs.Rows.{ROW, Row, rowsOf, withRows, takeWord, none, cleared}
+use Rattle.rows.specs.Rows.{ROW, Row, rowsOf, withRows, takeWord, none, cleared}
 use Rattle.logs.specs.declared.Summary.{Summary}
 use Rattle.logs.specs.declared.Taken.{Taken}
 use Rattle.logs.specs.declared.Taken.the-variants.{Next, Refused}
@@ -49,7 +49,7 @@ logStarted n t = do
 unfoldable pub freshAnswer : ℕ → List ℕ → Taken
 freshAnswer n t = takenOf (logStarted n t)
 
--- the table afterwards: its first 3,328 numbers zero; after a refusal as it was
+-- the table afterwards: its first 3,584 numbers zero; after a refusal as it was
 unfoldable pub freshTable : Taken → List ℕ → List ℕ
 freshTable (Next s) t = cleared TABLE t
 freshTable (Refused r) t = t

@@ -1,14 +1,6 @@
-pub mod Rows
-pub mod Index
 pub mod Answers
 pub mod Takable
-pub mod Visiting
-pub mod Flat
-pub mod Storing
-pub mod Searching
 pub mod Prefixes
-pub mod Growth
-pub mod IndexLaws
 pub mod Numbering
 pub mod Noting
 pub mod Taking

@@ -1,27 +1,29 @@
--- Taking a log word by word leads to its rows: those of the definitions of nets, each with the mask of its allowed steps.
+-- Taking a log word by word leads to its rows: those of the definitions of nets, each with the mask of its allowed steps and its traffic.
 use mathlib.Core.Path.{_≡_, refl, sym, ap, ap₂, _∙_, subst}
 use mathlib.Core.Bool.{Bool, true, false, false≢true, cond, _||_}
 use mathlib.Core.Logic.{_⊎_, inl, inr, ⊎-elim}
 use mathlib.Core.List.{List, [], _∷_, _++_, map, flatMap, foldl, append-nil, append-assoc, map-map, map-id, cons≢nil, List·Memᴰ, List·Memᴰ·head, List·Memᴰ·tail, List·Memᴰ·not-nil, List·Memᴰ·cases-cons, Memᴰ·cast}
-use Prim.Native.Nat.{ℕ, _<_}
+use Prim.Native.Nat.{ℕ, _+_, _<_, _≤_, min}
+use native.Mathlib.Omega.{arith}
 use lib.Dec.{T, eqb, ltb, eqb→eq}
 use lib.ListN.{length}
 use lib.Seq.{append-snoc}
 use borrow.Author.Tests.{eq-eqb, ltb-true, ltb-false}
-use Rattle.laws.specs.Booleans.{same-test, or-yes, yes-or-left, yes-or-right, yes-true, true-or-false}
-use Rattle.laws.specs.Lists.{any, tabulate, equal, equal-true, eq→equal, member, →member, append-last, map-append, map-same}
+use Rattle.laws.specs.Booleans.{same-test, or-yes, yes-or-left, yes-or-right, yes-true, true-or-false, lt-or-le}
+use Rattle.laws.specs.Lists.{any, keep, tabulate, equal, equal-true, eq→equal, member, →member, append-last, map-append, map-same}
 use Rattle.laws.specs.Distinct.{Distinct}
 use Rattle.laws.specs.Bits.{withBit, maskOf, maskOf-same, maskOf-with, maskOf-none}
 use Rattle.limits.specs.Limits.{MAX-EVENTS}
-use Rattle.nets.specs.Nets.{Word, Log, Counts, Step, occurrences, counts, beginnings, prefixes, addRow, rows, allowed}
-use Rattle.nets.specs.Words.{Begins, allowed→, prefix-shorter}
+use Rattle.nets.specs.Nets.{Word, Log, Counts, Step, occurrences, counts, beginnings, prefixes, addRow, rows, allowed, passes, traffic}
+use Rattle.nets.specs.Words.{Begins, begins-snoc, allowed→, prefix-shorter}
 use Rattle.nets.specs.Fits.{Below, LogBelow}
 use Rattle.nets.specs.Rows.{→row, rows-distinct, addRow-old, addRow-new, addRow-distinct}
 use Rattle.nets.specs.CountLaws.{counts-snoc}
 use Rattle.nets.specs.LogLaws.{rows-snoc, allowed-snoc}
-use Rattle.logs.specs.Rows.{Row, findRow, newRow, visit, marked, follow, addEvent, takeWord, none}
-use Rattle.logs.specs.Log.{maskAt, logRow, logRows, takeLog}
-use Rattle.logs.specs.Visiting.{countsOf, found-member, visit-found, visit-new, follow-here, follow-later}
+use Rattle.nets.specs.Traffic.{traffic-empty, traffic-empty-other, traffic-next, traffic-next-other, traffic-row}
+use Rattle.rows.specs.Rows.{MAX-TRAFFIC, Row, findRow, newRow, present, oneMore, passedOnce, visit, marked, updateAt, follow, addEvent, takeWord, none}
+use Rattle.logs.specs.Log.{maskAt, trafficAt, logRow, logRows, takeLog}
+use Rattle.rows.specs.Visiting.{countsOf, found-member, present-found, present-new, visit-is, update-here, update-later}
 
 -- the step of counts v and event e
 abbrev step : Counts → ℕ → Step
@@ -32,21 +34,6 @@ abbrev with′ : Log → Word → Log
 with′ log w = log ++ w ∷ []
 
 -- ---- One event more at the end of the last word
-
-nothing-before : (y s : Word) → y ++ s ≡ [] → y ≡ []
-nothing-before [] s e = refl
-nothing-before (a ∷ y) s e = absurd (cons≢nil e)
-
--- a beginning of u with e behind it is a beginning of u, or all of it
-begins-snoc : (y u : Word) (e : ℕ) → Begins y (u ++ e ∷ []) → Begins y u ⊎ (y ≡ u ++ e ∷ [])
-begins-snoc [] u e b = inl (u, refl)
-begins-snoc (a ∷ y) [] e (s, p) =
-    let rest : y ++ s ≡ [] = cc in
-    let first : a ≡ e = cc in
-    inr (ap₂ _∷_ first (nothing-before y s rest))
-begins-snoc (a ∷ y) (c ∷ u) e (s, p) =
-    let first : a ≡ c = cc in
-    ⊎-elim (λ b. inl (b .0, ap₂ _∷_ first (b .1))) (λ q. inr (ap₂ _∷_ first q)) (begins-snoc y u e (s, cc))
 
 module _ (log : Log) (u : Word) (e : ℕ) where
   -- it allows what was allowed, and e after the counts of u
@@ -89,82 +76,124 @@ module _ (log : Log) (u : Word) (e : ℕ) where
   mask-other v other =
       maskOf-same MAX-EVENTS _ _ (λ f b. same-test _ _ (λ t. ⊎-elim (λ k. k) (λ p. absurd (other (p .0))) (next→ (step v f) t)) (→next-old (step v f)))
 
-  row-next : e < MAX-EVENTS → logRow (with′ log (u ++ e ∷ [])) (counts MAX-EVENTS u) ≡ marked e (logRow (with′ log u) (counts MAX-EVENTS u))
-  row-next h = rw (mask-next h)
-
-  row-other : (v : Counts) → (v ≡ counts MAX-EVENTS u → ⊥) → logRow (with′ log (u ++ e ∷ [])) v ≡ logRow (with′ log u) v
-  row-other v other = rw (mask-other v other)
+-- a row in the middle of a word: the mask of one log, the traffic of another
+abbrev between : Log → Log → Counts → Row
+between masks passed v = record { counts = v; mask = maskAt masks v; traffic = trafficAt passed v }
 
 -- ---- Rows found, added and changed
 
-module _ (log : Log) where
+module _ (masks passed : Log) where
+  abbrev row : Counts → Row
+  row = between masks passed
+
   -- a row is found where its counts are a member
-  found-row : (v : Counts) (old : List Counts) → ltb (findRow v (map (logRow log) old)) (length (map (logRow log) old)) ≡ member v old
+  found-row : (v : Counts) (old : List Counts) → ltb (findRow v (map row old)) (length (map row old)) ≡ member v old
   unfolding countsOf
-  found-row v old = found-member v (map (logRow log) old) ∙ ap (member v) (map-map (λ (r : Row). r .counts) (logRow log) old ∙ map-id old)
+  found-row v old = found-member v (map row old) ∙ ap (member v) (map-map (λ (r : Row). r .counts) row old ∙ map-id old)
 
   -- a row for v: there, or appended
-  visit-member : (v : Counts) (old : List Counts) → (member v old ≡ false → newRow v ≡ logRow log v) → visit v (map (logRow log) old) ≡ map (logRow log) (addRow old v)
+  present-member : (v : Counts) (old : List Counts) → (member v old ≡ false → newRow v ≡ row v) → present v (map row old) ≡ map row (addRow old v)
   unfolding addRow
-  visit-member v old fresh = go (member v old) refl
+  present-member v old fresh = go (member v old) refl
     where
-      go : (b : Bool) → member v old ≡ b → visit v (map (logRow log) old) ≡ map (logRow log) (cond b old (old ++ v ∷ []))
-      go true e = visit-found v (map (logRow log) old) (ltb-true _ _ (found-row v old ∙ e))
+      go : (b : Bool) → member v old ≡ b → present v (map row old) ≡ map row (cond b old (old ++ v ∷ []))
+      go true e = present-found v (map row old) (ltb-true _ _ (found-row v old ∙ e))
       go false e =
-          visit-new v (map (logRow log) old) (ltb-false _ _ (found-row v old ∙ e))
-          ∙ ap (λ (r : Row). map (logRow log) old ++ (r ∷ [])) (fresh e)
-          ∙ sym (map-append (logRow log) old (v ∷ []))
+          present-new v (map row old) (ltb-false _ _ (found-row v old ∙ e))
+          ∙ ap (λ (r : Row). map row old ++ (r ∷ [])) (fresh e)
+          ∙ sym (map-append row old (v ∷ []))
 
-  -- a bit set in the row of v, in rows without duplicates
-  follow-member : (log′ : Log) (e : ℕ) (v : Counts) → logRow log′ v ≡ marked e (logRow log v) → ((y : Counts) → (y ≡ v → ⊥) → logRow log′ y ≡ logRow log y)
-      → (ys : List Counts) → Distinct ys → List·Memᴰ v ys → follow v e (map (logRow log) ys) ≡ map (logRow log′) ys
-  follow-member log′ e v here other [] d k = absurd (List·Memᴰ·not-nil k)
-  follow-member log′ e v here other (y ∷ ys) d k = ⊎-elim found (passed (follow-member log′ e v here other ys (d .1))) (true-or-false (equal y v))
+  -- the row of v changed by f, in rows without duplicates
+  update-member : (masks′ passed′ : Log) (f : Row → Row) (v : Counts) → between masks′ passed′ v ≡ f (row v)
+      → ((y : Counts) → (y ≡ v → ⊥) → between masks′ passed′ y ≡ row y)
+      → (ys : List Counts) → Distinct ys → List·Memᴰ v ys → updateAt (findRow v (map row ys)) f (map row ys) ≡ map (between masks′ passed′) ys
+  update-member masks′ passed′ f v here other [] d k = absurd (List·Memᴰ·not-nil k)
+  update-member masks′ passed′ f v here other (y ∷ ys) d k =
+      ⊎-elim found (later (update-member masks′ passed′ f v here other ys (d .1))) (true-or-false (equal y v))
     where
-      found : equal y v ≡ true → follow v e (logRow log y ∷ map (logRow log) ys) ≡ logRow log′ y ∷ map (logRow log′) ys
+      row′ : Counts → Row
+      row′ = between masks′ passed′
+
+      found : equal y v ≡ true → updateAt (findRow v (row y ∷ map row ys)) f (row y ∷ map row ys) ≡ row′ y ∷ map row′ ys
       found q =
           let same : y ≡ v = equal-true y v q in
-          follow-here v e (logRow log y) (map (logRow log) ys) q
-          ∙ ap₂ _∷_ (ap (λ (x : Counts). marked e (logRow log x)) same ∙ sym here ∙ ap (logRow log′) (sym same))
+          update-here v f (row y) (map row ys) q
+          ∙ ap₂ _∷_ (ap (λ (x : Counts). f (row x)) same ∙ sym here ∙ ap row′ (sym same))
           (map-same _ _ ys (λ z j. sym (other z (λ p. d .0 (Memᴰ·cast (same ∙ sym p) j)))))
 
-      passed : (List·Memᴰ v ys → follow v e (map (logRow log) ys) ≡ map (logRow log′) ys)
-          → equal y v ≡ false → follow v e (logRow log y ∷ map (logRow log) ys) ≡ logRow log′ y ∷ map (logRow log′) ys
-      passed rest q =
+      later : (List·Memᴰ v ys → updateAt (findRow v (map row ys)) f (map row ys) ≡ map row′ ys)
+          → equal y v ≡ false → updateAt (findRow v (row y ∷ map row ys)) f (row y ∷ map row ys) ≡ row′ y ∷ map row′ ys
+      later rest q =
           let apart : y ≡ v → ⊥ = λ p. false≢true (sym q ∙ yes-true (equal y v) (eq→equal y v p)) in
-          follow-later v e (logRow log y) (map (logRow log) ys) q
+          update-later v f (row y) (map row ys) q
           ∙ ap₂ _∷_ (sym (other y apart)) (rest (⊎-elim (λ p. absurd (apart (sym p))) (λ j. j) (List·Memᴰ·cases-cons k)))
 
 -- ---- A word
 
--- every row that an allowed step starts from is listed
-abbrev Listed : Log → List Counts → Type 0
-Listed log old = (s : Step) → T (allowed MAX-EVENTS log s) → List·Memᴰ (s .row) old
+-- before its prefix u is visited, among the words of the log, with the rows `old`: they have the masks of the log and u, and the traffic of `before`
+record Ready (log : Log) (u : Word) (before : Log) (old : List Counts) : Type 0 where
+  distinct : Distinct old
+  -- every row that an allowed step starts from, or that a word passes, is listed
+  listed : (s : Step) → T (allowed MAX-EVENTS (with′ log u) s) → List·Memᴰ (s .row) old
+  passed : (v : Counts) → 1 ≤ traffic MAX-EVENTS before v → List·Memᴰ v old
+  -- the row of u lacks one, and no other does
+  here : traffic MAX-EVENTS (with′ log u) (counts MAX-EVENTS u) ≡ traffic MAX-EVENTS before (counts MAX-EVENTS u) + 1
+  other : (v : Counts) → (v ≡ counts MAX-EVENTS u → ⊥) → traffic MAX-EVENTS (with′ log u) v ≡ traffic MAX-EVENTS before v
 
--- a row that is not listed has mask 0, as a new row
-mask-none : (log : Log) (old : List Counts) → Listed log old → (v : Counts) → member v old ≡ false → maskAt log v ≡ 0
-unfolding maskAt
-mask-none log old listed v e =
-    maskOf-same MAX-EVENTS _ (λ f. false) (λ f b. ⊎-elim
-    (λ t. absurd (false≢true (sym e ∙ yes-true (member v old) (→member v old (listed (step v f) (subst T (sym t) tt))))))
-    (λ n. n)
-    (true-or-false (allowed MAX-EVENTS log (step v f))))
-    ∙ maskOf-none MAX-EVENTS
+module _ (log : Log) (u : Word) (before : Log) (old : List Counts) (r : Ready log u before old) where
+  abbrev v : Counts
+  v = counts MAX-EVENTS u
 
-row-none : (log : Log) (old : List Counts) → Listed log old → (v : Counts) → member v old ≡ false → newRow v ≡ logRow log v
-row-none log old listed v e = rw (mask-none log old listed v e)
+  not-listed : (x : Counts) → member x old ≡ false → List·Memᴰ x old → ⊥
+  not-listed x e m = false≢true (sym e ∙ yes-true (member x old) (→member x old m))
 
--- a prefix u that e follows: its row is visited, and has the bit of e set
-step-from : (log : Log) (u : Word) (e : ℕ) (old : List Counts) → e < MAX-EVENTS → Distinct old → Listed (with′ log u) old
-    → follow (counts MAX-EVENTS u) e (visit (counts MAX-EVENTS u) (map (logRow (with′ log u)) old)) ≡ map (logRow (with′ log (u ++ e ∷ []))) (addRow old (counts MAX-EVENTS u))
-step-from log u e old h d listed =
-    let v : Counts = counts MAX-EVENTS u in
-    ap (follow v e) (visit-member (with′ log u) v old (row-none (with′ log u) old listed v))
-    ∙ follow-member (with′ log u) (with′ log (u ++ e ∷ [])) e v (row-next log u e h) (row-other log u e) (addRow old v) (addRow-distinct old v d) (addRow-new old v)
+  -- a row that is not listed is as a new row
+  row-none : member v old ≡ false → newRow v ≡ between (with′ log u) before v
+  unfolding maskAt trafficAt
+  row-none e =
+      let mask : maskAt (with′ log u) v ≡ 0 =
+      maskOf-same MAX-EVENTS _ (λ f. false) (λ f b. ⊎-elim
+      (λ t. absurd (not-listed v e (r .listed (step v f) (subst T (sym t) tt))))
+      (λ n. n)
+      (true-or-false (allowed MAX-EVENTS (with′ log u) (step v f))))
+      ∙ maskOf-none MAX-EVENTS in
+      let none : traffic MAX-EVENTS before v ≡ 0 =
+      ⊎-elim (λ h. omega arith) (λ h. absurd (not-listed v e (r .passed v h))) (lt-or-le (traffic MAX-EVENTS before v) 1) in
+      rw (mask, none)
 
-listed-next : (log : Log) (u : Word) (e : ℕ) (old : List Counts) → Listed (with′ log u) old → Listed (with′ log (u ++ e ∷ [])) (addRow old (counts MAX-EVENTS u))
-listed-next log u e old listed s t =
-    ⊎-elim (λ k. addRow-old old (counts MAX-EVENTS u) (listed s k)) (λ p. Memᴰ·cast (p .0) (addRow-new old (counts MAX-EVENTS u))) (next→ log u e s t)
+  -- its row is visited
+  visit-from : visit v (map (between (with′ log u) before) old) ≡ map (logRow (with′ log u)) (addRow old v)
+  unfolding trafficAt
+  visit-from =
+      let one : min MAX-TRAFFIC (traffic MAX-EVENTS (with′ log u) v) ≡ oneMore (min MAX-TRAFFIC (traffic MAX-EVENTS before v)) = omega (arith, r .here) in
+      visit-is v (map (between (with′ log u) before) old)
+      ∙ ap (λ (rs : List Row). updateAt (findRow v rs) passedOnce rs) (present-member (with′ log u) before v old row-none)
+      ∙ update-member (with′ log u) before (with′ log u) (with′ log u) passedOnce v
+      (rw one)
+      (λ y apart. rw (r .other y apart))
+      (addRow old v) (addRow-distinct old v (r .distinct)) (addRow-new old v)
+
+  module _ (e : ℕ) (h : e < MAX-EVENTS) where
+    -- and has the bit of e set, which follows u
+    step-from : follow v e (visit v (map (between (with′ log u) before) old)) ≡ map (between (with′ log (u ++ e ∷ [])) (with′ log u)) (addRow old v)
+    unfolding follow
+    step-from =
+        ap (follow v e) visit-from
+        ∙ update-member (with′ log u) (with′ log u) (with′ log (u ++ e ∷ [])) (with′ log u) (marked e) v
+        (rw (mask-next log u e h)) (λ y apart. rw (mask-other log u e y apart))
+        (addRow old v) (addRow-distinct old v (r .distinct)) (addRow-new old v)
+
+    ready-next : Ready log (u ++ e ∷ []) (with′ log u) (addRow old v)
+    ready-next = record {
+      distinct = addRow-distinct old v (r .distinct);
+      listed = λ s t. ⊎-elim (λ k. addRow-old old v (r .listed s k)) (λ p. Memᴰ·cast (p .0) (addRow-new old v)) (next→ log u e s t);
+      passed = λ x k. ⊎-elim
+          (λ p. Memᴰ·cast (equal-true x v p) (addRow-new old v))
+          (λ p. addRow-old old v (r .passed x (omega (arith, k, r .other x (λ q. false≢true (sym p ∙ yes-true (equal x v) (eq→equal x v q)))))))
+          (true-or-false (equal x v));
+      here = traffic-next MAX-EVENTS log u e h;
+      other = traffic-next-other MAX-EVENTS log u e;
+    }
 
 -- the counts of the prefixes of a word, from u on
 unfoldable pub after : Word → Word → List Counts
@@ -182,17 +211,15 @@ after-next u e x =
     ∙ map-same _ _ (beginnings x) (λ b k. ap (counts MAX-EVENTS) (sym (append-snoc u e b))))
 
 -- from the prefix u of a word on
-take-from : (log : Log) (x u : Word) (old : List Counts) → Below MAX-EVENTS x → Distinct old → Listed (with′ log u) old
-    → takeWord (map (logRow (with′ log u)) old) (counts MAX-EVENTS u) x ≡ map (logRow (with′ log (u ++ x))) (foldl addRow old (after u x))
+take-from : (log : Log) (x u : Word) (before : Log) (old : List Counts) → Below MAX-EVENTS x → Ready log u before old
+    → takeWord (map (between (with′ log u) before) old) (counts MAX-EVENTS u) x ≡ map (logRow (with′ log (u ++ x))) (foldl addRow old (after u x))
 unfolding takeWord addEvent
-take-from log [] u old below d listed =
-    visit-member (with′ log u) (counts MAX-EVENTS u) old (row-none (with′ log u) old listed (counts MAX-EVENTS u))
-    ∙ rw (after-end u, append-nil)
-take-from log (e ∷ x) u old below d listed =
+take-from log [] u before old below r = visit-from log u before old r ∙ rw (after-end u, append-nil)
+take-from log (e ∷ x) u before old below r =
     let h : e < MAX-EVENTS = below e (List·Memᴰ·head refl) in
     let u′ : Word = u ++ e ∷ [] in
-    ap₂ (λ (rs : List Row) (v : Counts). takeWord rs v x) (step-from log u e old h d listed) (sym (counts-snoc MAX-EVENTS u e h))
-    ∙ take-from log x u′ (addRow old (counts MAX-EVENTS u)) (λ a k. below a (List·Memᴰ·tail k)) (addRow-distinct old (counts MAX-EVENTS u) d) (listed-next log u e old listed)
+    ap₂ (λ (rs : List Row) (v : Counts). takeWord rs v x) (step-from log u before old r e h) (sym (counts-snoc MAX-EVENTS u e h))
+    ∙ take-from log x u′ (with′ log u) (addRow old (counts MAX-EVENTS u)) (λ a k. below a (List·Memᴰ·tail k)) (ready-next log u before old r e h)
     ∙ ap₂ (λ (w : Word) (vs : List Counts). map (logRow (with′ log w)) (foldl addRow old vs)) (append-snoc u e x) (sym (after-next u e x))
 
 -- ---- A log
@@ -209,14 +236,19 @@ mask-empty : (log : Log) (v : Counts) → maskAt log v ≡ maskAt (with′ log [
 unfolding maskAt
 mask-empty log v = maskOf-same MAX-EVENTS _ _ (λ f b. same-test _ _ (λ t. allowed-snoc log [] MAX-EVENTS (step v f) .1 (inl t)) (allowed-empty log (step v f)))
 
-row-empty : (log : Log) (v : Counts) → logRow log v ≡ logRow (with′ log []) v
+row-empty : (log : Log) (v : Counts) → logRow log v ≡ between (with′ log []) log v
 row-empty log v = rw (mask-empty log v)
 
--- every row that an allowed step starts from is a row of the log
-rows-listed : (log : Log) → Listed (with′ log []) (rows MAX-EVENTS log)
-rows-listed log s t =
-    let f = allowed→ MAX-EVENTS log s (allowed-empty log s t) in
-    Memᴰ·cast (sym (f .1)) (→row MAX-EVENTS log (f .0) (prefix-shorter log (f .0) (s .event ∷ []) (f .2)))
+ready-first : (log : Log) → Ready log [] log (rows MAX-EVENTS log)
+ready-first log = record {
+  distinct = rows-distinct MAX-EVENTS log;
+  listed = λ s t.
+      let f = allowed→ MAX-EVENTS log s (allowed-empty log s t) in
+      Memᴰ·cast (sym (f .1)) (→row MAX-EVENTS log (f .0) (prefix-shorter log (f .0) (s .event ∷ []) (f .2)));
+  passed = traffic-row MAX-EVENTS log;
+  here = traffic-empty MAX-EVENTS log;
+  other = traffic-empty-other MAX-EVENTS log;
+}
 
 pub counts-none : none ≡ counts MAX-EVENTS []
 unfolding counts tabulate occurrences
@@ -229,7 +261,7 @@ take-word log w below =
     ap₂ (λ (rs : List Row) (v : Counts). takeWord rs v w)
     (map-same _ _ (rows MAX-EVENTS log) (λ v k. row-empty log v))
     counts-none
-    ∙ take-from log w [] (rows MAX-EVENTS log) below (rows-distinct MAX-EVENTS log) (rows-listed log)
+    ∙ take-from log w [] log (rows MAX-EVENTS log) below (ready-first log)
     ∙ ap (map (logRow (log ++ w ∷ []))) (sym (rows-snoc log w MAX-EVENTS))
 
 -- a log word by word
@@ -243,7 +275,7 @@ take-log log (w ∷ ws) below =
 
 -- the empty log has the row of the empty word
 pub first-row : logRows [] ≡ newRow none ∷ []
-unfolding logRows maskAt maskOf rows counts tabulate occurrences prefixes flatMap addRow any equal allowed
+unfolding logRows maskAt trafficAt maskOf rows counts tabulate occurrences prefixes flatMap addRow any keep equal allowed passes traffic
 first-row = refl
 
 -- from there on

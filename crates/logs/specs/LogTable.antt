@@ -3,7 +3,7 @@ use mathlib.Core.Path.{_≡_, refl, sym, ap, _∙_, subst}
 use mathlib.Core.Bool.{true}
 use mathlib.Core.Logic.{⊎-elim}
 use mathlib.Core.List.{List, [], _∷_, _++_, map, map-map, append-assoc, List·Memᴰ·head, List·Memᴰ·tail, List·Memᴰ·not-nil}
-use Prim.Native.Nat.{ℕ, zero, suc, _+_, _*_, _-_, _<_, _≤_, suc-le-suc}
+use Prim.Native.Nat.{ℕ, zero, suc, _+_, _*_, _-_, _<_, _≤_, min, suc-le-suc}
 use native.Mathlib.Nat.{le-refl, le-trans, add-zero, zero-add, add-assoc, lt-of-lt-of-le}
 use native.Mathlib.Omega.{arith}
 use lib.ListN.{length, drop, length-append, length-drop, length-map, length-replicate, replicate-append-replicate}
@@ -13,19 +13,20 @@ use borrow.Author.Tests.{leb-true}
 use Rattle.laws.specs.Every.{Every}
 use Rattle.laws.specs.Bits.{bit, maskOf, maskOf-same, maskOf-bit}
 use Rattle.laws.specs.Scans.{all-failing}
-use Rattle.limits.specs.Limits.{MAX-EVENTS, MAX-ROWS}
+use Rattle.limits.specs.Limits.{MAX-EVENTS, MAX-LOG-EVENTS, MAX-ROWS}
 use Rattle.refusals.specs.Results.{passed}
 use Rattle.nets.specs.Events.{firstBad, EventsBelow, none-bad}
-use Rattle.nets.specs.Nets.{Word, Log, Counts, eventCount, rows, allowed}
+use Rattle.nets.specs.Nets.{Word, Log, Counts, eventCount, rows, allowed, traffic}
 use Rattle.nets.specs.Fits.{Below, LogBelow}
 use Rattle.nets.specs.Wide.{wide, rows-wide, allowed-wide}
-use Rattle.logs.specs.Rows.{ROW, Row, rowAt, numbers, rowsOf, flat, withRows, newRow, visit, follow, addEvent, takeWord, none, cleared}
+use Rattle.nets.specs.Traffic.{traffic-wide}
+use Rattle.rows.specs.Rows.{ROW, MAX-TRAFFIC, Row, rowAt, numbers, rowsOf, flat, withRows, newRow, visit, follow, addEvent, takeWord, none, cleared}
 use Rattle.logs.specs.Answers.{TABLE, rightSummary, freshSummary, logStarted, freshAnswer, freshTable, rowsAfter, summaryAfter, wordTaken, takenAnswer, takenTable}
 use Rattle.logs.specs.AnswerLaws.{next→value, rightEventCount-most}
-use Rattle.logs.specs.Log.{takeLog, maskAt, logRow, logRows, Takes}
-use Rattle.logs.specs.Flat.{length-rows, rows-flat, length-numbers, rowAt-numbers, counts-rowAt}
-use Rattle.logs.specs.Visiting.{countsOf, visit-cases, length-visit, counts-follow}
-use Rattle.logs.specs.Growth.{length-addEvent, visit-le}
+use Rattle.logs.specs.Log.{takeLog, maskAt, trafficAt, logRow, logRows, Takes}
+use Rattle.rows.specs.Flat.{length-rows, rows-flat, length-numbers, rowAt-numbers, counts-rowAt}
+use Rattle.rows.specs.Visiting.{countsOf, visit-cases, length-visit, counts-follow}
+use Rattle.rows.specs.Growth.{length-addEvent, visit-le}
 use Rattle.logs.specs.Taking.{drop-more}
 use Rattle.logs.specs.LogRows.{log-rows}
 use Rattle.logs.specs.declared.Summary.{Summary}
@@ -93,6 +94,7 @@ length-with rs t h room = rw (length-append, length-flat rs h, length-drop) (ome
 pub record Took (s : Summary) (t w : List ℕ) (next : Summary) : Type 0 where
   pub long : TABLE ≤ length t
   pub fine : rightSummary s ≡ true
+  pub few : s .events + length w ≤ MAX-LOG-EVENTS
   pub below : EventsBelow (s .n) w
   pub fits : length (rowsAfter s t w) ≤ MAX-ROWS
   pub is : next ≡ summaryAfter s t w
@@ -106,7 +108,14 @@ took s t w next e =
     let d = passed _ _ _ _ next (c .1) in
     let f = passed _ _ _ _ next (d .1) in
     let events = all-failing (λ e. ltb e (s .n)) w (d .0) in
-    record { long = leb-true _ _ (a .0); fine = b .0; below = none-bad (s .n) w (omega arith); fits = leb-true _ _ (f .0); is = cc (f .1) }
+    record {
+      long = leb-true _ _ (a .0);
+      fine = b .0;
+      few = leb-true _ _ (c .0);
+      below = none-bad (s .n) w (omega arith);
+      fits = leb-true _ _ (f .0);
+      is = cc (f .1);
+    }
 
 -- taking words only adds rows
 take-le : (rs : List Row) (v w : List ℕ) → length rs ≤ length (takeWord rs v w)
@@ -189,6 +198,16 @@ taken-rows s t (w ∷ ws) s′ t′ few takes =
     let k = took s t w (takes .0) (takes .1) in
     taken-rows (takes .0) (takenTable (takenAnswer s t w) s t w) ws s′ t′ (omega (arith, k .fits, ap (λ (x : Summary). x .rows) (k .is))) (takes .2)
 
+-- and at most 1,024 events
+pub taken-events : (s : Summary) (t : List ℕ) (ws : Log) (s′ : Summary) (t′ : List ℕ) → s .events ≤ MAX-LOG-EVENTS → Takes s t ws s′ t′
+    → s′ .events ≤ MAX-LOG-EVENTS
+unfolding Takes
+taken-events s t [] s′ t′ few takes = rw (takes .0) few
+taken-events s t (w ∷ ws) s′ t′ few takes =
+    let k = took s t w (takes .0) (takes .1) in
+    let here : takes .0 .events ≤ MAX-LOG-EVENTS = omega (arith, k .few, ap (λ (x : Summary). x .events) (k .is)) in
+    taken-events (takes .0) (takenTable (takenAnswer s t w) s t w) ws s′ t′ here (takes .2)
+
 -- there are as many rows as the log has distinct count vectors
 pub length-logRows : (n : ℕ) (log : Log) → n ≤ MAX-EVENTS → LogBelow n log → length (logRows log) ≡ length (rows n log)
 unfolding logRows
@@ -198,7 +217,7 @@ length-logRows n log h below =
     ∙ ap length (ap (λ (k : ℕ). rows k log) (sym width) ∙ rows-wide n (MAX-EVENTS - n) log below)
     ∙ length-map (rows n log) (wide (MAX-EVENTS - n))
 
--- THE LAW: from a fresh table, the words of a log leave its rows, zeros up to number 3,327, and the rest of a longer table untouched
+-- THE LAW: from a fresh table, the words of a log leave its rows, zeros up to number 3,583, and the rest of a longer table untouched
 pub log-table : (n : ℕ) (t : List ℕ) (ws : Log) (s s′ : Summary) (t′ : List ℕ)
     → freshAnswer n t ≡ Next s → Takes s (freshTable (freshAnswer n t) t) ws s′ t′
     → (s′ ≡ record { n = n; rows = length (rows n ws); events = eventCount ws }) × (t′ ≡ withRows (logRows ws) (cleared TABLE t))
@@ -212,7 +231,7 @@ log-table n t ws s s′ t′ e takes =
     let same : takeLog (rowsOf 1 (cleared TABLE t)) ws ≡ logRows ws = ap (λ (rs : List Row). takeLog rs ws) one ∙ log-rows ws (λ w m x k. lt-of-lt-of-le (below w m x k) (fresh .0)) in
     (all .summary ∙ rw (same, zero-add, length-logRows n ws (fresh .0) below), all .table ∙ rw same)
 
--- the rows of a log over n events, in the definitions' numbers: counts with zeros from n on, and the mask of the allowed steps
+-- the rows of a log over n events, in the definitions' numbers: counts with zeros from n on, the mask of the allowed steps, and the traffic
 module _ (n k : ℕ) (log : Log) (width : n + k ≡ MAX-EVENTS) (below : LogBelow n log) where
   pub logRows-is : logRows log ≡ map (λ (v : Counts). logRow log (wide k v)) (rows n log)
   unfolding logRows
@@ -223,6 +242,10 @@ module _ (n k : ℕ) (log : Log) (width : n + k ≡ MAX-EVENTS) (below : LogBelo
   pub logRow-mask : (v : Counts) → logRow log (wide k v) .mask ≡ maskOf MAX-EVENTS (λ e. allowed n log (record { row = v; event = e }))
   unfolding maskAt
   logRow-mask v = maskOf-same MAX-EVENTS _ _ (λ e b. rw (← width) (allowed-wide n k log below v e))
+
+  pub logRow-traffic : (v : Counts) → logRow log (wide k v) .traffic ≡ min MAX-TRAFFIC (traffic n log v)
+  unfolding trafficAt
+  logRow-traffic v = ap (min MAX-TRAFFIC) (rw (← width) (traffic-wide n k log below v))
 
   pub logRow-bit : (v : Counts) (e : ℕ) → e < MAX-EVENTS → bit (logRow log (wide k v) .mask) e ≡ allowed n log (record { row = v; event = e })
   logRow-bit v e h = ap (λ (m : ℕ). bit m e) (logRow-mask v) ∙ maskOf-bit MAX-EVENTS _ e h

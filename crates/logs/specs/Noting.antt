@@ -7,11 +7,11 @@ use native.Mathlib.Omega.{arith}
 use lib.ListN.{length, getD, take, drop, set, length-set, drop-of-length-le}
 use lib.Seq.{drop-cons, take-suc, take-set-le, getD-set-same, append-snoc}
 use Rattle.limits.specs.Limits.{MAX-EVENTS}
-use Rattle.logs.specs.Rows.{Row, addEvent, absent, rowOr, newRows, numbered, none}
-use Rattle.logs.specs.Index.{key, multiplier}
-use Rattle.logs.specs.IndexLaws.{key-none, key-addEvent}
+use Rattle.rows.specs.Rows.{Row, addEvent, absent, rowOr, newRows, numbered, none}
+use Rattle.rows.specs.Index.{key, multiplier}
+use Rattle.rows.specs.IndexLaws.{key-none, key-addEvent}
 use Rattle.logs.specs.Prefixes.{Counted, counted-none, counted-addEvent, count-again, count-end}
-use Rattle.logs.specs.Growth.{new-le}
+use Rattle.rows.specs.Growth.{new-le}
 
 -- after i events of w: ns has the rows of the prefixes so far, the prefix has the counts v and their key, and the next new row is k
 pub record Noting (rs : List Row) (k₀ : ℕ) (w ns₀ ns v : List ℕ) (sum k i : ℕ) : Type 0 where

@@ -16,9 +16,9 @@ use Rattle.laws.specs.Scans.{failing-most, failing-found, failing-past}
 use Rattle.limits.specs.Limits.{MAX-EVENTS}
 use Rattle.nets.specs.Events.{EventsBelow}
 use Rattle.nets.specs.Nets.{Counts, Word}
-use Rattle.logs.specs.Rows.{Row, findRow, newRow, visit, follow, addEvent, absent, rowOr, numbered}
-use Rattle.logs.specs.Visiting.{countsOf, length-same, find-same, visit-cases, length-visit, counts-follow, length-follow}
-use Rattle.logs.specs.Growth.{total, total-addEvent, differ, below-tail, length-addEvent}
+use Rattle.rows.specs.Rows.{Row, findRow, newRow, visit, follow, addEvent, absent, rowOr, numbered}
+use Rattle.rows.specs.Visiting.{countsOf, length-same, find-same, visit-cases, length-visit, counts-follow, length-follow}
+use Rattle.rows.specs.Growth.{total, total-addEvent, differ, below-tail, length-addEvent}
 
 -- the rows that taking a word uses, from the prefix with counts v on
 unfoldable pub used : List Row → Counts → Word → List ℕ

@@ -14,7 +14,7 @@ use borrow.Author.Tests.{eqb-true, eqb-false, lt-ltb, le-ltb}
 use Rattle.laws.specs.Booleans.{true-or-false, lt-or-le}
 use Rattle.laws.specs.Lists.{getD-copies}
 use Rattle.limits.specs.Limits.{MAX-EVENTS}
-use Rattle.logs.specs.Rows.{Row, visit, follow, addEvent, absent, newRows, takeWord, none}
+use Rattle.rows.specs.Rows.{Row, visit, follow, addEvent, absent, newRows, takeWord, none}
 
 -- v counts at most i events
 pub record Counted (v : List ℕ) (i : ℕ) : Type 0 where

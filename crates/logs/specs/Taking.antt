@@ -6,12 +6,12 @@ use native.Mathlib.Omega.{arith}
 use lib.ListN.{length, getD, drop}
 use lib.Seq.{drop-drop, getD-drop}
 use Rattle.limits.specs.Limits.{MAX-EVENTS}
-use Rattle.logs.specs.Rows.{ROW, Row, rowsOf, findRow, visit, follow, addEvent, takeWord, none, Holds}
-use Rattle.logs.specs.Flat.{length-rows, held}
+use Rattle.rows.specs.Rows.{ROW, Row, rowsOf, findRow, visit, follow, addEvent, takeWord, none, Holds}
+use Rattle.rows.specs.Flat.{length-rows, held}
 use Rattle.logs.specs.Prefixes.{Counted, counted-none, counted-addEvent, take-again, take-end}
 use Rattle.logs.specs.Numbering.{used, used-first, use-again}
-use Rattle.logs.specs.Visiting.{length-visit, length-follow}
-use Rattle.logs.specs.Growth.{visit-le}
+use Rattle.rows.specs.Visiting.{length-visit, length-follow}
+use Rattle.rows.specs.Growth.{visit-le}
 
 -- after i events of w, whose prefixes have the rows ns: the table t₀ is t, with k rows, the prefix has the counts v, and the rest of the word
 -- leads to the rows all

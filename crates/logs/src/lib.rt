@@ -1,6 +1,4 @@
 // The log table and its summary: taking a log word by word. The contracts cite specs/Rows.antt and specs/Answers.antt.
-pub mod index; // where to look for a row
-pub mod rows; // a row found, visited, marked
 pub mod words; // a word taken
 
 use limits::MAX_EVENTS;
@@ -19,7 +17,7 @@ ghost use mathlib.Core.Path.{_≡_};
 ghost use Prim.Native.Nat.{_≤_};
 ghost use lib.ListN.{length};
 ghost use Rattle.refusals.specs.Answers.{refusal};
-ghost use Rattle.logs.specs.Rows.{cleared};
+ghost use Rattle.rows.specs.Rows.{cleared};
 ghost use Rattle.logs.specs.Answers.{TABLE, rightEventCount, rightSummary, freshAnswer, freshTable, takenAnswer, takenTable};
 
 // The numbers that a table has at least.
@@ -79,7 +77,7 @@ fn refused(number: u8, spot: usize) -> Taken
     Taken::Refused(Refusal { number, spot })
 }
 
-// Starts the empty log over n events: clears the first 3,328 numbers of the table and gives its summary.
+// Starts the empty log over n events: clears the first 3,584 numbers of the table and gives its summary.
 // Refuses with 5 or 16, and then leaves the table as it was.
 pub fn fresh(n: usize, table: &mut [u16]) -> Taken
     ensures { λ r. ⌜ r ≡ freshAnswer n (now (table .entry)) ⌝ }

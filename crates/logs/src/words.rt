@@ -1,22 +1,22 @@
 // Taking a word: its prefixes, shortest first, each with its counts. The row of each is looked up, or numbered where there is none, before
 // anything is written.
-use crate::index::INDEX;
-use crate::index::find_row;
-use crate::index::index_rows;
-use crate::index::multiplier_of;
-use crate::rows::mark_row;
-use crate::rows::visit_row;
 use limits::MAX_EVENTS;
 use limits::MAX_LOG_EVENTS;
 use limits::MAX_ROWS;
+use rows::index::INDEX;
+use rows::index::find_row;
+use rows::index::index_rows;
+use rows::index::multiplier_of;
+use rows::mark_row;
+use rows::visit_row;
 ghost use mathlib.Core.Path.{_≡_};
 ghost use mathlib.Core.Bool.{cond};
 ghost use Prim.Native.Nat.{_+_, _*_, _<_, _≤_};
 ghost use lib.ListN.{length, getD, set, take};
 ghost use Rattle.limits.specs.Limits.{MAX-EVENTS, MAX-ROWS};
-ghost use Rattle.logs.specs.Rows.{ROW, addEvent, findRow, rowsOf, visit, follow, absent, rowOr, newRows, numbered, takeWord, none, Holds, Added};
+ghost use Rattle.rows.specs.Rows.{ROW, addEvent, findRow, rowsOf, visit, follow, absent, rowOr, newRows, numbered, takeWord, none, Holds, Added};
 ghost use Rattle.logs.specs.Numbering.{used};
-ghost use Rattle.logs.specs.Index.{key as keyOf, Index};
+ghost use Rattle.rows.specs.Index.{key as keyOf, Index};
 ghost use Rattle.logs.specs.Takable.{Takable};
 
 // 1 for one more, else 0.

@@ -1,14 +1,14 @@
 -- The mistakes that the requirements name, as samples for the definitions: what is computed, with what is expected.
 use mathlib.Core.Path.{_≡_, refl}
 use mathlib.Core.Bool.{true, false, cond}
-use mathlib.Core.List.{List, [], _∷_, flatMap}
+use mathlib.Core.List.{List, [], _∷_, map, flatMap}
 use Prim.Native.Nat.{ℕ}
 use lib.Dec.{eqb}
 use lib.ListN.{length}
 use Rattle.laws.specs.Lists.{all, any, keep, tabulate, equal}
 use Rattle.laws.specs.Scans.{firstFailing}
 use Rattle.laws.specs.Differences.{negativePart, sumℤ}
-use Rattle.nets.specs.Nets.{Log, Place, Weights, noPlace, stopped, same, occurrences, weighed, beginnings, prefixes, addRow, counts, stepAfter, rows, allowed, rowSteps, continuations, allowedSteps, wrongContinuations, tokens, surplus, placePermits, shortfall, netPermits, permitsAfter, permits, firstRefusing, shortfallOf, stoppedAt, screenAfter, screen, weighsBefore, weighsAfter, weightsHold}
+use Rattle.nets.specs.Nets.{Log, Place, Weights, noPlace, stopped, same, occurrences, weighed, beginnings, prefixes, addRow, counts, stepAfter, rows, allowed, passes, traffic, rowSteps, continuations, allowedSteps, wrongContinuations, tokens, surplus, placePermits, shortfall, netPermits, permitsAfter, permits, firstRefusing, shortfallOf, stoppedAt, screenAfter, screen, weighsBefore, weighsAfter, weightsHold}
 
 -- the log of I: prefixes 0 1 and 1 0 have the same counts, so 3 is allowed after 0 1
 abbrev logI : Log
@@ -45,6 +45,9 @@ pub record Computed : Type 0 where
   pub allowedI : length (allowedSteps 4 logI) ≡ 6
   pub wrongI : length (wrongContinuations 4 logI) ≡ 18
   pub after01 : allowed 4 logI (stepAfter 4 (0 ∷ 1 ∷ []) 3) ≡ true
+  -- each word counts once in each row of its prefixes, its own included, and the empty word in row 0
+  pub trafficI : map (traffic 4 logI) (rows 4 logI) ≡ 2 ∷ 1 ∷ 2 ∷ 1 ∷ 1 ∷ 1 ∷ []
+  pub trafficEmpty : map (traffic 1 ([] ∷ (0 ∷ 0 ∷ []) ∷ [] ∷ [])) (rows 1 ([] ∷ (0 ∷ 0 ∷ []) ∷ [] ∷ [])) ≡ 3 ∷ 1 ∷ 1 ∷ []
   -- in(e) of a step is not used before out(e) is tested
   pub outFirst : permits 2 (loop ∷ []) (0 ∷ []) ≡ false
   -- nor counted where the place refuses: the shortfall is 3 − 1
@@ -59,12 +62,14 @@ pub record Computed : Type 0 where
   pub beforeFails : weightsHold 2 log01 (stepAfter 2 [] 1) (oneK (0 ∷ []) 1 1) ≡ false
 
 pub computed : Computed
-unfolding all any keep tabulate equal firstFailing negativePart sumℤ same occurrences weighed beginnings prefixes addRow counts rows allowed rowSteps continuations allowedSteps wrongContinuations tokens surplus placePermits shortfall netPermits permitsAfter permits firstRefusing shortfallOf stoppedAt screenAfter screen weighsBefore weighsAfter weightsHold flatMap
+unfolding all any keep tabulate equal firstFailing negativePart sumℤ same occurrences weighed beginnings prefixes addRow counts rows allowed passes traffic rowSteps continuations allowedSteps wrongContinuations tokens surplus placePermits shortfall netPermits permitsAfter permits firstRefusing shortfallOf stoppedAt screenAfter screen weighsBefore weighsAfter weightsHold flatMap
 computed = record {
   rowsI = refl;
   allowedI = refl;
   wrongI = refl;
   after01 = refl;
+  trafficI = refl;
+  trafficEmpty = refl;
   outFirst = refl;
   lacks = refl;
   lacksLater = refl;

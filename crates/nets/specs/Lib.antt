@@ -18,4 +18,5 @@ pub mod Regions
 pub mod SeparationProblems
 pub mod ParikhClosure
 pub mod Wide
+pub mod Traffic
 pub mod Machine

@@ -91,6 +91,10 @@ unfoldable pub eventCount : Log → ℕ
 eventCount [] = 0
 eventCount (w ∷ log) = length w + eventCount log
 
+-- the empty words of a log, counted
+unfoldable pub emptyWords : Log → ℕ
+emptyWords log = length (keep (λ w. equal w []) log)
+
 -- v(i)
 abbrev pub at : Counts → ℕ → ℕ
 at v i = getD v i 0
@@ -137,6 +141,14 @@ module _ (n : ℕ) where
   -- an allowed step: some prefix with these counts is followed by the event in the log
   unfoldable pub allowed : Log → Step → Bool
   allowed log s = any (λ u. equal (counts u) (s .row) && member (u ++ s .event ∷ []) (prefixes log)) (prefixes log)
+
+  -- a word passes a row: it has a prefix with these counts
+  unfoldable pub passes : Counts → Word → Bool
+  passes v w = any (λ u. equal (counts u) v) (beginnings w)
+
+  -- the traffic of a row: how many words of the log have a prefix with these counts
+  unfoldable pub traffic : Log → Counts → ℕ
+  traffic log v = length (keep (passes v) log)
 
   -- a row with each event
   unfoldable pub rowSteps : Counts → List Step

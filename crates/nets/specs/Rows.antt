@@ -2,12 +2,14 @@
 use mathlib.Core.Path.{_≡_, refl, sym, ap, _∙_, subst}
 use mathlib.Core.Bool.{Bool, true, false, not, cond}
 use mathlib.Core.Logic.{_⊎_, inl, inr, ⊎-elim}
-use mathlib.Core.List.{List, [], _∷_, _++_, map, foldl, List·Memᴰ, List·Memᴰ·head, List·Memᴰ·tail, List·Memᴰ·not-nil, Memᴰ·cast, List·Memᴰ·append-cases, List·Memᴰ·eq-of-singleton, Memᴰ·append-left, Memᴰ·append-right, Memᴰ·map, Memᴰ·of-map}
-use Prim.Native.Nat.{ℕ, _<_}
+use mathlib.Core.List.{List, [], _∷_, _++_, map, flatMap, foldl, List·Memᴰ, List·Memᴰ·head, List·Memᴰ·tail, List·Memᴰ·not-nil, Memᴰ·cast, List·Memᴰ·append-cases, List·Memᴰ·eq-of-singleton, Memᴰ·append-left, Memᴰ·append-right, Memᴰ·map, Memᴰ·of-map}
+use Prim.Native.Nat.{ℕ, zero, suc, _<_, _≤_}
+use native.Mathlib.Omega.{arith}
 use lib.Dec.{T}
-use Rattle.laws.specs.Lists.{keep-member, keep-intro, member, member→, →member, tabulate-member, tabulate-inverse, flatMap-member, flatMap-intro}
+use lib.ListN.{length, getD}
+use Rattle.laws.specs.Lists.{any, keep-member, keep-intro, getD-member, member, member→, →member, tabulate-member, tabulate-inverse, flatMap-member, flatMap-intro}
 use Rattle.laws.specs.Distinct.{Distinct, distinct-append, distinct-keep, distinct-tabulate, distinct-flatMap}
-use Rattle.nets.specs.Nets.{Word, Log, Counts, Step, counts, prefixes, addRow, rows, allowed, rowSteps, continuations, allowedSteps, wrongContinuations}
+use Rattle.nets.specs.Nets.{Word, Log, Counts, Step, counts, beginnings, prefixes, addRow, rows, allowed, rowSteps, continuations, allowedSteps, wrongContinuations}
 use Rattle.nets.specs.Words.{Prefix}
 
 -- ---- one row more
@@ -65,6 +67,16 @@ fold-cases (v ∷ vs) old {x} m = ⊎-elim first (λ k. inr (List·Memᴰ·tail 
     first : List·Memᴰ x (addRow old v) → List·Memᴰ x old ⊎ List·Memᴰ x (v ∷ vs)
     first k = ⊎-elim (λ o. inl o) (λ e. inr (List·Memᴰ·head e)) (addRow-cases old v k)
 
+fold-first : (vs : List Counts) (x : Counts) (old : List Counts) → getD (foldl addRow (x ∷ old) vs) 0 [] ≡ x
+unfolding addRow
+fold-first [] x old = refl
+fold-first (v ∷ vs) x old = go (fold-first vs x) (member v (x ∷ old))
+  where
+    go : ((l : List Counts) → getD (foldl addRow (x ∷ l) vs) 0 [] ≡ x) → (b : Bool)
+        → getD (foldl addRow (cond b (x ∷ old) (x ∷ (old ++ v ∷ []))) vs) 0 [] ≡ x
+    go rest true = rest old
+    go rest false = rest (old ++ v ∷ [])
+
 fold-distinct : (vs : List Counts) (old : List Counts) → Distinct old → Distinct (foldl addRow old vs)
 fold-distinct [] old d = d
 fold-distinct (v ∷ vs) old d = fold-distinct vs (addRow old v) (addRow-distinct old v d)
@@ -81,6 +93,19 @@ module _ (n : ℕ) (log : Log) where
   pub rows-distinct : Distinct (rows n log)
   unfolding rows
   rows-distinct = fold-distinct (map (counts n) (prefixes log)) [] tt
+
+  -- row 0 is that of the empty word, and no other row is
+  pub first-row : getD (rows n log) 0 [] ≡ counts n []
+  unfolding rows prefixes addRow any
+  first-row = fold-first (map (counts n) (flatMap beginnings log)) (counts n []) []
+
+  pub other-row : (r : ℕ) → 1 ≤ r → r < length (rows n log) → getD (rows n log) r [] ≡ counts n [] → ⊥
+  other-row r some there same = apart (rows n log) rows-distinct r some there (same ∙ sym first-row)
+    where
+      apart : (l : List Counts) → Distinct l → (r : ℕ) → 1 ≤ r → r < length l → getD l r [] ≡ getD l 0 [] → ⊥
+      apart [] d r some there q = absurd (omega arith)
+      apart (x ∷ l) d zero some there q = absurd (omega arith)
+      apart (x ∷ l) d (suc r) some there q = d .0 (Memᴰ·cast (sym q) (getD-member l r [] (omega arith)))
 
   rowSteps→ : (v : Counts) (s : Step) → List·Memᴰ s (rowSteps n v) → (s .row ≡ v) × (s .event < n)
   unfolding rowSteps

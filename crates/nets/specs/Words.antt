@@ -1,5 +1,5 @@
 -- Laws of prefixes, of permitted words and of allowed steps.
-use mathlib.Core.Path.{_≡_, refl, sym, ap, _∙_, subst}
+use mathlib.Core.Path.{_≡_, refl, sym, ap, ap₂, _∙_, subst}
 use mathlib.Core.Bool.{Bool, _&&_, and-assoc, and-true}
 use mathlib.Core.Logic.{_⊎_, inl, inr, ⊎-elim}
 use mathlib.Core.List.{List, [], _∷_, _++_, append-nil, append-assoc, cons≢nil, List·Memᴰ, List·Memᴰ·head, List·Memᴰ·tail, List·Memᴰ·not-nil, Memᴰ·cast, Memᴰ·map, Memᴰ·of-map}
@@ -31,6 +31,21 @@ beginning→ (a ∷ w) (List·Memᴰ·tail m) =
     let r = Memᴰ·of-map (λ x. a ∷ x) (beginnings w) m in
     let b = beginning→ w (r .1) in
     (b .0, ap (λ (x : Word). x ++ b .0) (sym (r .2)) ∙ ap (λ (x : Word). a ∷ x) (b .1))
+
+nothing-before : (y s : Word) → y ++ s ≡ [] → y ≡ []
+nothing-before [] s e = refl
+nothing-before (a ∷ y) s e = absurd (cons≢nil e)
+
+-- a beginning of u with e behind it is a beginning of u, or all of it
+pub begins-snoc : (y u : Word) (e : ℕ) → Begins y (u ++ e ∷ []) → Begins y u ⊎ (y ≡ u ++ e ∷ [])
+begins-snoc [] u e b = inl (u, refl)
+begins-snoc (a ∷ y) [] e (s, p) =
+    let rest : y ++ s ≡ [] = cc in
+    let first : a ≡ e = cc in
+    inr (ap₂ _∷_ first (nothing-before y s rest))
+begins-snoc (a ∷ y) (c ∷ u) e (s, p) =
+    let first : a ≡ c = cc in
+    ⊎-elim (λ b. inl (b .0, ap₂ _∷_ first (b .1))) (λ q. inr (ap₂ _∷_ first q)) (begins-snoc y u e (s, cc))
 
 -- u is a prefix in the log
 abbrev pub Prefix : Log → Word → Type 0

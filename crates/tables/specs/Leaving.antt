@@ -19,8 +19,8 @@ use Rattle.nets.specs.Nets.{Word, Counts, counts, beginnings}
 use Rattle.nets.specs.Words.{Begins}
 use Rattle.nets.specs.Fits.{Below}
 use Rattle.nets.specs.CountLaws.{counts-snoc, counts-longer}
-use Rattle.logs.specs.Rows.{Row, findRow, newRow, visit, marked, updateAt, follow, addEvent, takeWord}
-use Rattle.logs.specs.Visiting.{countsOf, found-member, find-more, visit-found, visit-new, visit-finds, counts-follow}
+use Rattle.rows.specs.Rows.{Row, findRow, newRow, present, passedOnce, visit, marked, updateAt, follow, addEvent, takeWord}
+use Rattle.rows.specs.Visiting.{countsOf, found-member, find-more, present-found, present-new, counts-visit, visit-finds, counts-follow}
 use Rattle.logs.specs.LogRows.{after, after-end, after-next}
 
 -- ---- The counts that are appended
@@ -31,9 +31,9 @@ missing rs vs = keep (λ v. not (member v (countsOf rs))) vs
 
 visit-counts : (v : Counts) (rs : List Row) → countsOf (visit v rs) ≡ countsOf rs ++ missing rs (v ∷ [])
 unfolding missing keep countsOf
-visit-counts v rs = ⊎-elim
-    (λ h. rw (visit-found v rs h, sym (found-member v rs) ∙ lt-ltb _ _ h, append-nil))
-    (λ h. rw (visit-new v rs h, sym (found-member v rs) ∙ le-ltb _ _ h) (map-append (λ (r : Row). r .counts) rs (newRow v ∷ [])))
+visit-counts v rs = counts-visit v rs ∙ ⊎-elim
+    (λ h. rw (present-found v rs h, sym (found-member v rs) ∙ lt-ltb _ _ h, append-nil))
+    (λ h. rw (present-new v rs h, sym (found-member v rs) ∙ le-ltb _ _ h) (map-append (λ (r : Row). r .counts) rs (newRow v ∷ [])))
     (lt-or-le (findRow v rs) (length rs))
 
 -- a row that is appended is not one of the later prefixes'
@@ -68,25 +68,56 @@ take-counts (e ∷ x) u rs below =
     ∙ append-assoc (countsOf rs) (missing rs (v ∷ [])) (missing rs (after (u ++ e ∷ []) x))
     ∙ ap (λ (l : List Counts). countsOf rs ++ l) (sym (rw (after-next u e x) (keep-append _ (v ∷ []) (after (u ++ e ∷ []) x))))
 
+-- the row of a prefix stays the lowest with its counts
+pub found-after : (u : Word) (e : ℕ) (x : Word) (rs : List Row) → Below MAX-EVENTS x → let v = counts MAX-EVENTS u in
+    findRow v (takeWord (follow v e (visit v rs)) (counts MAX-EVENTS (u ++ e ∷ [])) x) ≡ findRow v (visit v rs)
+found-after u e x rs below =
+    let v : Counts = counts MAX-EVENTS u in
+    let rs₁ : List Row = follow v e (visit v rs) in
+    find-more v (visit v rs) (takeWord rs₁ (counts MAX-EVENTS (u ++ e ∷ [])) x) (missing rs₁ (after (u ++ e ∷ []) x))
+    (take-counts x (u ++ e ∷ []) rs₁ below ∙ ap (λ (l : List Counts). l ++ missing rs₁ (after (u ++ e ∷ []) x)) (counts-follow v e (visit v rs)))
+    (visit-finds v rs)
+
+-- ---- A number of each row: its mask, or its traffic
+
+module _ (number : Row → ℕ) where
+  -- that of row r; where there is none, that of a new row
+  unfoldable pub onRow : List Row → ℕ → ℕ
+  onRow rs r = number (getD rs r (newRow []))
+
+  module _ (v : Counts) (new : number (newRow v) ≡ number (newRow [])) where
+    append-on : (rs : List Row) (r : ℕ) → onRow (rs ++ newRow v ∷ []) r ≡ onRow rs r
+    unfolding onRow
+    append-on [] zero = new
+    append-on [] (suc r) = refl
+    append-on (x ∷ rs) zero = refl
+    append-on (x ∷ rs) (suc r) = append-on rs r
+
+    -- a row is appended with the number of a new one
+    pub present-on : (rs : List Row) (r : ℕ) → onRow (present v rs) r ≡ onRow rs r
+    present-on rs r = ⊎-elim
+        (λ h. rw (present-found v rs h))
+        (λ h. rw (present-new v rs h) (append-on rs r))
+        (lt-or-le (findRow v rs) (length rs))
+
+  -- a row is changed, and its number not
+  pub update-on : (f : Row → Row) → ((x : Row) → number (f x) ≡ number x) → (rs : List Row) (k r : ℕ) → onRow (updateAt k f rs) r ≡ onRow rs r
+  unfolding onRow updateAt
+  update-on f keeps [] k r = refl
+  update-on f keeps (x ∷ rs) zero zero = keeps x
+  update-on f keeps (x ∷ rs) zero (suc r) = refl
+  update-on f keeps (x ∷ rs) (suc k) zero = refl
+  update-on f keeps (x ∷ rs) (suc k) (suc r) = update-on f keeps rs k r
+
 -- ---- The bits that are set
 
 -- the mask of row r, 0 where there is none
-unfoldable pub maskOn : List Row → ℕ → ℕ
-maskOn rs r = getD rs r (newRow []) .mask
+abbrev pub maskOn : List Row → ℕ → ℕ
+maskOn = onRow (λ x. x .mask)
 
-new-mask : (v : Counts) (rs : List Row) (r : ℕ) → maskOn (rs ++ newRow v ∷ []) r ≡ maskOn rs r
-unfolding maskOn
-new-mask v [] zero = refl
-new-mask v [] (suc r) = refl
-new-mask v (x ∷ rs) zero = refl
-new-mask v (x ∷ rs) (suc r) = new-mask v rs r
-
--- a row is appended with mask 0
 visit-mask : (v : Counts) (rs : List Row) (r : ℕ) → maskOn (visit v rs) r ≡ maskOn rs r
-visit-mask v rs r = ⊎-elim
-    (λ h. rw (visit-found v rs h))
-    (λ h. rw (visit-new v rs h) (new-mask v rs r))
-    (lt-or-le (findRow v rs) (length rs))
+unfolding visit
+visit-mask v rs r = update-on (λ x. x .mask) passedOnce (λ x. refl) (present v rs) (findRow v rs) r ∙ present-on (λ x. x .mask) v refl rs r
 
 -- bit f of a mask, with bit e set
 set-bit : (m e f : ℕ) → T (bit (withBit m e) f) ↔ (T (bit m f) ⊎ (f ≡ e))
@@ -99,7 +130,7 @@ set-bit m e f = (
 -- bit e is set in row k alone
 marked-bits : (rs : List Row) (k e r f : ℕ) → k < length rs
     → T (bit (maskOn (updateAt k (marked e) rs) r) f) ↔ (T (bit (maskOn rs r) f) ⊎ ((k ≡ r) × (f ≡ e)))
-unfolding updateAt maskOn
+unfolding updateAt onRow
 marked-bits [] k e r f h = absurd (not-suc-le-zero h)
 marked-bits (x ∷ rs) zero e zero f h =
     let law = set-bit (x .mask) e f in
@@ -149,12 +180,8 @@ take-bits (e ∷ x) u rs below r f =
     here : T (bit (maskOn rs₁ r) f) ↔ (T (bit (maskOn (visit v rs) r) f) ⊎ ((findRow v (visit v rs) ≡ r) × (f ≡ e)))
     here = marked-bits (visit v rs) (findRow v (visit v rs)) e r f (visit-finds v rs)
 
-    -- the row of u stays the lowest with its counts
     found : findRow v rs′ ≡ findRow v (visit v rs)
-    found =
-        let same = counts-follow v e (visit v rs) in
-        find-more v (visit v rs) rs′ (missing rs₁ (after u′ x))
-        (take-counts x u′ rs₁ later ∙ ap (λ (l : List Counts). l ++ missing rs₁ (after u′ x)) same) (visit-finds v rs)
+    found = found-after u e x rs later
 
     old : T (bit (maskOn (visit v rs) r) f) ↔ T (bit (maskOn rs r) f)
     old = let same = visit-mask v rs r in (subst (λ (m : ℕ). T (bit m f)) same, subst (λ (m : ℕ). T (bit m f)) (sym same))

@@ -1,9 +1,10 @@
--- The numbers of a table that holds the rows of a log, in the terms of the definitions: n counts and zeros behind them, bits for allowed steps.
+-- The numbers of a table that holds the rows of a log, in the terms of the definitions: n counts and zeros behind them, bits for allowed steps, and
+-- the traffic.
 use mathlib.Core.Path.{_≡_, refl, sym, ap, _∙_, subst}
 use mathlib.Core.Bool.{false}
 use mathlib.Core.Logic.{_↔_, ⊎-elim}
 use mathlib.Core.List.{List, [], _∷_, _++_, map-map, map-id, List·Memᴰ·head, Memᴰ·append-right}
-use Prim.Native.Nat.{ℕ, _+_, _*_, _-_, _≤_, _<_}
+use Prim.Native.Nat.{ℕ, _+_, _*_, _-_, _≤_, _<_, min}
 use native.Mathlib.Omega.{arith}
 use lib.Dec.{T, not-T}
 use lib.ListN.{length, getD, drop, replicate, length-append, length-drop, length-replicate, getD-replicate, List·getD-append, List·getD-eq-default}
@@ -14,20 +15,21 @@ use Rattle.laws.specs.Every.{Every, every-intro}
 use Rattle.laws.specs.Parts.{getD-padded}
 use Rattle.laws.specs.Bits.{bit, bit-above, maskOf-lt}
 use Rattle.limits.specs.Limits.{MAX-EVENTS, MAX-ROWS}
-use Rattle.nets.specs.Nets.{Word, Log, Counts, Step, counts, at, rows, allowed}
+use Rattle.nets.specs.Nets.{Word, Log, Counts, Step, counts, at, rows, allowed, traffic}
 use Rattle.nets.specs.Words.{Prefix, allowed→, →allowed}
 use Rattle.nets.specs.Fits.{LogBelow, prefix-below}
 use Rattle.nets.specs.Rows.{row→}
 use Rattle.nets.specs.CountLaws.{length-counts}
 use Rattle.nets.specs.Wide.{wide}
-use Rattle.logs.specs.Rows.{ROW, Row, rowsOf, withRows, newRow, cleared}
+use Rattle.rows.specs.Rows.{ROW, MAX-TRAFFIC, Row, rowsOf, withRows, newRow, cleared}
 use Rattle.logs.specs.Answers.{TABLE}
 use Rattle.logs.specs.Log.{logRow, logRows}
-use Rattle.logs.specs.Visiting.{countsOf}
+use Rattle.rows.specs.Visiting.{countsOf}
 use Rattle.logs.specs.Taking.{drop-more}
-use Rattle.tables.specs.Leaving.{maskOn}
-use Rattle.logs.specs.LogTable.{Twelve, read-with, rest-with, length-with, length-logRows, logRows-is, logRow-mask, logRow-bit}
-use Rattle.tables.specs.Tables.{countsIn, maskIn, row-counts, row-mask}
+use Rattle.tables.specs.Leaving.{onRow, maskOn}
+use Rattle.tables.specs.Passing.{trafficOn}
+use Rattle.logs.specs.LogTable.{Twelve, read-with, rest-with, length-with, length-logRows, logRows-is, logRow-mask, logRow-traffic, logRow-bit}
+use Rattle.tables.specs.Tables.{countsIn, maskIn, trafficIn, row-counts, row-mask, row-traffic}
 
 rows-twelve : (log : Log) → Twelve (logRows log)
 unfolding Twelve countsOf logRows
@@ -46,6 +48,10 @@ module _ (n : ℕ) (log : Log) (most : n ≤ MAX-EVENTS) (below : LogBelow n log
 
   held : rowsOf (length (logRows log)) logTable ≡ logRows log
   held = read-with (logRows log) (cleared TABLE t) (rows-twelve log)
+
+  -- its rows
+  pub table-rows : rowsOf (length (rows n log)) logTable ≡ logRows log
+  table-rows = ap (λ (k : ℕ). rowsOf k logTable) (sym size) ∙ held
 
   module _ (r : ℕ) (h : r < length (rows n log)) where
     abbrev v : Counts
@@ -85,11 +91,20 @@ module _ (n : ℕ) (log : Log) (most : n ≤ MAX-EVENTS) (below : LogBelow n log
 
     -- the mask
     mask-here : maskIn logTable r ≡ logRow log (wide k v) .mask
-    unfolding maskOn
+    unfolding onRow
     mask-here =
         sym (row-mask (length (logRows log)) logTable r (omega (arith, h, size)))
         ∙ ap (λ (rs : List Row). maskOn rs r) held
         ∙ ap (λ (x : Row). x .mask) row
+
+    -- the traffic
+    pub row-passed : trafficIn logTable r ≡ min MAX-TRAFFIC (traffic n log v)
+    unfolding onRow
+    row-passed =
+        sym (row-traffic (length (logRows log)) logTable r (omega (arith, h, size)))
+        ∙ ap (λ (rs : List Row). trafficOn rs r) held
+        ∙ ap (λ (x : Row). x .traffic) row
+        ∙ logRow-traffic n k log width below v
 
     -- bit e is set exactly when some prefix with these counts is followed by e in the log
     pub row-bit : (e : ℕ) → T (bit (maskIn logTable r) e) ↔ ((u : Word) × (counts n u ≡ v) × Prefix log (u ++ e ∷ []))
@@ -123,7 +138,7 @@ module _ (n : ℕ) (log : Log) (most : n ≤ MAX-EVENTS) (below : LogBelow n log
     behind = subst (λ (m : ℕ). drop (ROW * m) logTable ≡ drop (ROW * m) (cleared TABLE t)) size
         (rest-with (logRows log) (cleared TABLE t) (rows-twelve log))
 
-    -- zeros up to number 3,327
+    -- zeros up to number 3,583
     pub table-zero : (i : ℕ) → ROW * length (rows n log) ≤ i → i < TABLE → getD logTable i 0 ≡ 0
     unfolding cleared
     table-zero i from b =

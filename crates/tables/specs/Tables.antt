@@ -17,25 +17,29 @@ use Rattle.limits.specs.Limits.{MAX-EVENTS}
 use Rattle.nets.specs.Nets.{Word, Counts, counts, beginnings}
 use Rattle.nets.specs.Words.{Begins}
 use Rattle.nets.specs.Fits.{Below}
-use Rattle.logs.specs.Rows.{ROW, Row, rowAt, rowsOf, withRows, findRow, newRow, takeWord, none}
+use Rattle.rows.specs.Rows.{ROW, TRAFFIC, Row, rowAt, rowsOf, withRows, findRow, newRow, oneMore, takeWord, none}
 use Rattle.logs.specs.Answers.{rowsAfter, takenAnswer, takenTable}
 use Rattle.logs.specs.AnswerLaws.{rightSummary-bounds}
-use Rattle.logs.specs.Flat.{length-rows, rows-at, counts-rowAt}
-use Rattle.logs.specs.Visiting.{countsOf}
+use Rattle.rows.specs.Flat.{length-rows, rows-at, counts-rowAt}
+use Rattle.rows.specs.Visiting.{countsOf}
 use Rattle.logs.specs.LogRows.{after, counts-none}
-use Rattle.tables.specs.Leaving.{missing, take-counts, maskOn, take-bits, Follows}
+use Rattle.tables.specs.Leaving.{missing, take-counts, onRow, maskOn, take-bits, Follows}
+use Rattle.tables.specs.Passing.{trafficOn, Passed, take-passed}
 use Rattle.logs.specs.LogTable.{Twelve, rows-twelve, take-twelve, read-with, rest-with, length-with, Took, took, each-below}
 use Rattle.logs.specs.declared.Summary.{Summary}
 use Rattle.logs.specs.declared.Taken.the-variants.{Next}
 
 -- ---- Rows as numbers of a table
 
--- the counts of row r, and its mask
+-- the counts of row r, its mask and its traffic
 abbrev pub countsIn : List ℕ → ℕ → Counts
 countsIn t r = take MAX-EVENTS (drop (ROW * r) t)
 
 abbrev pub maskIn : List ℕ → ℕ → ℕ
 maskIn t r = getD t (ROW * r + MAX-EVENTS) 0
+
+abbrev pub trafficIn : List ℕ → ℕ → ℕ
+trafficIn t r = getD t (ROW * r + TRAFFIC) 0
 
 -- row r is the lowest of k rows with the counts v
 pub record LowestRow (t : List ℕ) (k : ℕ) (v : Counts) (r : ℕ) : Type 0 where
@@ -56,12 +60,16 @@ module _ (k : ℕ) (t : List ℕ) where
       ∙ counts-rowAt (drop (ROW * r) t)
 
   pub row-mask : (r : ℕ) → r < k → maskOn (rowsOf k t) r ≡ maskIn t r
-  unfolding maskOn rowAt
+  unfolding onRow rowAt
   row-mask r h = ap (λ (x : Row). x .mask) (rows-at k t r (newRow []) h) ∙ getD-drop (ROW * r) t MAX-EVENTS 0
+
+  pub row-traffic : (r : ℕ) → r < k → trafficOn (rowsOf k t) r ≡ trafficIn t r
+  unfolding onRow rowAt
+  row-traffic r h = ap (λ (x : Row). x .traffic) (rows-at k t r (newRow []) h) ∙ getD-drop (ROW * r) t TRAFFIC 0
 
   -- beyond them there is no mask
   row-none : (r : ℕ) → k ≤ r → maskOn (rowsOf k t) r ≡ 0
-  unfolding maskOn
+  unfolding onRow
   row-none r h = ap (λ (x : Row). x .mask) (List·getD-eq-default (rowsOf k t) (newRow []) (rw length-rows h))
 
 rows-counts : (k : ℕ) (t : List ℕ) → countsOf (rowsOf k t) ≡ tabulate k (countsIn t)
@@ -164,11 +172,23 @@ module _ (s : Summary) (t : List ℕ) (w : Word) where
         ∙ ap (λ (l : List Counts). countsOf (rowsOf (s .rows) t) ++ keep (λ v. not (member v l)) (map (counts MAX-EVENTS) (beginnings w)))
         (rows-counts (s .rows) t)
 
+    pub taken-rows : rowsOf (s′ .rows) t′ ≡ rs′
+    taken-rows = ap (λ (k : ℕ). rowsOf k t′) count ∙ held
+
     counts-now : (r : ℕ) → r < s′ .rows → countsIn t′ r ≡ getD (countsOf rs′) r []
     counts-now r h = sym (row-counts (length rs′) t′ r (omega (arith, h, count))) ∙ ap (λ (rs : List Row). getD (countsOf rs) r []) held
 
     mask-now : (r : ℕ) → r < s′ .rows → maskOn rs′ r ≡ maskIn t′ r
     mask-now r h = ap (λ (rs : List Row). maskOn rs r) (sym held) ∙ row-mask (length rs′) t′ r (omega (arith, h, count))
+
+    traffic-now : (r : ℕ) → r < s′ .rows → trafficIn t′ r ≡ trafficOn rs′ r
+    traffic-now r h = sym (ap (λ (rs : List Row). trafficOn rs r) (sym held) ∙ row-traffic (length rs′) t′ r (omega (arith, h, count)))
+
+    -- the lowest row with the counts v is where they are found
+    lowest : (r : ℕ) → r < s′ .rows → (v : Counts) → (findRow v rs′ ≡ r) ↔ LowestRow t′ (s′ .rows) v r
+    lowest r h v = subst (λ (k : ℕ). (findRow v rs′ ≡ r) ↔ LowestRow t′ k v r) (sym count)
+        (subst (λ (l : List Row). (findRow v l ≡ r) ↔ LowestRow t′ (length rs′) v r) held
+        (lowest-row t′ (length rs′) r v (omega (arith, h, count))))
 
     -- the rows that were there keep their counts
     pub taken-kept : (r : ℕ) → r < s .rows → countsIn t′ r ≡ countsIn t r
@@ -204,11 +224,6 @@ module _ (s : Summary) (t : List ℕ) (w : Word) where
         law = subst (λ (v : Counts). T (bit (maskOn (takeWord rs v w) r) e) ↔ (T (bit (maskOn rs r) e) ⊎ Follows [] w (takeWord rs v w) r e))
             (sym counts-none) (take-bits w [] rs below-twelve r e)
 
-        lowest : (v : Counts) → (findRow v rs′ ≡ r) ↔ LowestRow t′ (s′ .rows) v r
-        lowest v = subst (λ (k : ℕ). (findRow v rs′ ≡ r) ↔ LowestRow t′ k v r) (sym count)
-            (subst (λ (l : List Row). (findRow v l ≡ r) ↔ LowestRow t′ (length rs′) v r) held
-            (lowest-row t′ (length rs′) r v (omega (arith, h, count))))
-
         old : T (bit (maskOn rs r) e) → (r < s .rows) × T (bit (maskIn t r) e)
         old k = ⊎-elim
             (λ b. (b, subst (λ (m : ℕ). T (bit m e)) (row-mask (s .rows) t r b) k))
@@ -217,14 +232,38 @@ module _ (s : Summary) (t : List ℕ) (w : Word) where
 
         to : T (bit (maskIn t′ r) e) → ((r < s .rows) × T (bit (maskIn t r) e))
             ⊎ ((u : Word) × Begins (u ++ e ∷ []) w × LowestRow t′ (s′ .rows) (counts MAX-EVENTS u) r)
-        to k = ⊎-elim (λ y. inl (old y)) (λ q. inr (q .0, q .1, lowest (counts MAX-EVENTS (q .0)) .0 (q .2)))
+        to k = ⊎-elim (λ y. inl (old y)) (λ q. inr (q .0, q .1, lowest r h (counts MAX-EVENTS (q .0)) .0 (q .2)))
             (law .0 (subst (λ (m : ℕ). T (bit m e)) (sym (mask-now r h)) k))
 
         from : ((r < s .rows) × T (bit (maskIn t r) e)) ⊎ ((u : Word) × Begins (u ++ e ∷ []) w × LowestRow t′ (s′ .rows) (counts MAX-EVENTS u) r)
             → T (bit (maskIn t′ r) e)
         from k = subst (λ (m : ℕ). T (bit m e)) (mask-now r h) (law .1 (⊎-elim
             (λ y. inl (subst (λ (m : ℕ). T (bit m e)) (sym (row-mask (s .rows) t r (y .0))) (y .1)))
-            (λ q. inr (q .0, q .1, lowest (counts MAX-EVENTS (q .0)) .1 (q .2))) k))
+            (λ q. inr (q .0, q .1, lowest r h (counts MAX-EVENTS (q .0)) .1 (q .2))) k))
+
+    -- a row that a prefix uses has one word more, and one that none uses is as it was; a row that was not there has 1
+    passing : Passed [] w (rowsOf (s .rows) t) rs′
+    passing = subst (λ (v : Counts). Passed [] w (rowsOf (s .rows) t) (takeWord (rowsOf (s .rows) t) v w)) (sym counts-none)
+        (take-passed w [] (rowsOf (s .rows) t) below-twelve)
+
+    old-below : (r : ℕ) → r < s .rows → r < s′ .rows
+    old-below r h = omega (arith, h, count, rows-after below-twelve)
+
+    pub taken-used : (r : ℕ) → r < s .rows → (u : Word) → Begins u w → LowestRow t′ (s′ .rows) (counts MAX-EVENTS u) r
+        → trafficIn t′ r ≡ oneMore (trafficIn t r)
+    taken-used r h u b low =
+        traffic-now r (old-below r h) ∙ passing .used r (u, b, lowest r (old-below r h) (counts MAX-EVENTS u) .1 low)
+        ∙ ap oneMore (row-traffic (s .rows) t r h)
+
+    pub taken-unused : (r : ℕ) → r < s .rows → ((u : Word) → Begins u w → LowestRow t′ (s′ .rows) (counts MAX-EVENTS u) r → ⊥)
+        → trafficIn t′ r ≡ trafficIn t r
+    taken-unused r h none =
+        traffic-now r (old-below r h)
+        ∙ passing .unused r (λ (u, b, at). none u b (lowest r (old-below r h) (counts MAX-EVENTS u) .0 at))
+        ∙ row-traffic (s .rows) t r h
+
+    pub taken-new : (r : ℕ) → s .rows ≤ r → r < s′ .rows → trafficIn t′ r ≡ 1
+    taken-new r from h = traffic-now r h ∙ passing .new r (rw length-rows from) (omega (arith, h, count))
 
     -- every other number is as it was
     pub taken-rest : drop (ROW * s′ .rows) t′ ≡ drop (ROW * s′ .rows) t

@@ -21,7 +21,7 @@ use Rattle.refusals.specs.Results.{value, refused, bind}
 use Rattle.nets.specs.Nets.{Log, Step, prefixes, addRow, permitsLog, rows, solvesAll, accepted, tally}
 use Rattle.nets.specs.LogLaws.{rows-longer}
 use Rattle.nets.specs.Fits.{LogBelow, permits-fits}
-use Rattle.logs.specs.Rows.{withRows, cleared}
+use Rattle.rows.specs.Rows.{withRows, cleared}
 use Rattle.logs.specs.Answers.{TABLE}
 use Rattle.logs.specs.Log.{logRows}
 use Rattle.bundles.specs.Reading.{Read, got, item, _>>_, give, require, onward}
@@ -198,7 +198,7 @@ module _ (tableSize : ℕ) (long : TABLE ≤ tableSize) (b : List ℕ) (bytes : 
   pub accepted-exactly : (verdict tableSize b ≡ verdicts.Accepted c) ↔ ((d : Contents) × AcceptedAs b c d)
   accepted-exactly = (verdict→, λ r. →verdict (r .0) (r .1))
 
--- an accepted bundle leaves its log's rows in the table, zeros up to number 3,327, and the rest as it was
+-- an accepted bundle leaves its log's rows in the table, zeros up to number 3,583, and the rest as it was
 pub accepted-table : (b t : List ℕ) → Bytes b → TABLE ≤ length t → (c : Tally) (d : Contents) → AcceptedAs b c d → tableAfter b t ≡ withRows (logRows (d .head .log)) (cleared TABLE t)
 unfolding tableAfter tableOn
 accepted-table b t bytes long c d a = rw (accepted-size a, le-leb TABLE (length t) long, →judging b bytes d (acceptable a) (a .layout))

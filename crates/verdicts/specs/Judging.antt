@@ -12,7 +12,7 @@ use Rattle.refusals.specs.Answers.{refusal}
 use Rattle.refusals.specs.Results.{value, refused}
 use Rattle.nets.specs.Nets.{Step, tally}
 use Rattle.nets.specs.Nets as nets
-use Rattle.logs.specs.Rows.{withRows, cleared}
+use Rattle.rows.specs.Rows.{withRows, cleared}
 use Rattle.logs.specs.Answers.{TABLE}
 use Rattle.logs.specs.Log.{logRows}
 use Rattle.bundles.specs.Reading.{Read, item, Reader, _>>=_, _>>_, give, require, each}
@@ -87,7 +87,7 @@ verdictNumber (Refused r) = r .number
 
 -- ---- The table afterwards
 
--- after acceptance the log's rows and zeros, after a refusal zeros; from number 3,328 on as it was
+-- after acceptance the log's rows and zeros, after a refusal zeros; from number 3,584 on as it was
 unfoldable pub tableOn : Read Contents → List ℕ → List ℕ
 tableOn (value (item c next)) t = withRows (logRows (c .head .log)) (cleared TABLE t)
 tableOn (refused number spot) t = cleared TABLE t

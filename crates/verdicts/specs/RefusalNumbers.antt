@@ -13,7 +13,7 @@ use Rattle.refusals.specs.Table.{BUNDLE-LENGTH, NUMBERS-SHORT, BUNDLE-END, VALU
 use Rattle.refusals.specs.Results.{value, refused, bind, numberIn, Refuses, refuses-wider, numbers-listed}
 use Rattle.refusals.specs.Answers.{refusal}
 use Rattle.refusals.specs.declared.Refusal.{Refusal}
-use Rattle.logs.specs.Rows.{cleared}
+use Rattle.rows.specs.Rows.{cleared}
 use Rattle.logs.specs.Answers.{TABLE}
 use Rattle.bundles.specs.Reading.{Read, got, item, andThen, _>>_, require, onward}
 use Rattle.bundles.specs.Readers.{rowsInLimit, bundleSize}
@@ -76,7 +76,7 @@ judge-numbers tableSize b = verdict-numbers (judged-refuses tableSize .only b 0)
 abbrev pub early : ℕ → Bool
 early number = among number (BUNDLE-LENGTH ∷ NUMBERS-SHORT ∷ [])
 
--- these leave it as it was, every other number leaves zeros up to number 3,327
+-- these leave it as it was, every other number leaves zeros up to number 3,583
 abbrev Left : List ℕ → List ℕ → ℕ → Type 0
 Left before after number = (early number ≡ true → after ≡ before) × (early number ≡ false → after ≡ cleared TABLE before)
 

@@ -19,7 +19,7 @@ use Rattle.nets.specs.CountLaws.{length-counts}
 use Rattle.nets.specs.Weights.{same-ne}
 use Rattle.nets.specs.Fits.{LogBelow}
 use Rattle.nets.specs.Wide.{wide}
-use Rattle.logs.specs.Rows.{Row, newRow, none}
+use Rattle.rows.specs.Rows.{Row, newRow, none}
 use Rattle.logs.specs.Log.{logRow, logRows}
 use Rattle.logs.specs.LogTable.{logRows-is, logRow-bit}
 use Rattle.bundles.specs.Layout.{TermFields, Head, TermInLimits, toTerm, WeightFields, WeightsInLimits, rowsIn, toWeights}

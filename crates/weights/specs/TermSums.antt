@@ -17,8 +17,8 @@ use Rattle.limits.specs.Limits.{MAX-EVENTS, MAX-TERMS}
 use Rattle.refusals.specs.Answers.{refusal}
 use Rattle.refusals.specs.Results.{value, refused, bind}
 use Rattle.nets.specs.Nets.{Counts, at}
-use Rattle.logs.specs.Rows.{ROW, newRow, none, rowAt, rowsOf}
-use Rattle.logs.specs.Flat.{rows-at, counts-rowAt, length-rows}
+use Rattle.rows.specs.Rows.{ROW, newRow, none, rowAt, rowsOf}
+use Rattle.rows.specs.Flat.{rows-at, counts-rowAt, length-rows}
 use Rattle.bundles.specs.Reading.{Read, got, item, andThen, give, byte, number, times, onward}
 use Rattle.bundles.specs.Readers.{anything, term, weights}
 use Rattle.bundles.specs.ReadingLaws.{andThen-got, law-number, ranged}

@@ -10,7 +10,7 @@ use Rattle.limits.specs.Limits.{MAX-EVENTS}
 use Rattle.refusals.specs.Answers.{refusal}
 use Rattle.refusals.specs.Results.{value, refused}
 use Rattle.nets.specs.Nets.{Counts, at, same}
-use Rattle.logs.specs.Rows.{Row, newRow, none}
+use Rattle.rows.specs.Rows.{Row, newRow, none}
 use Rattle.bundles.specs.Reading.{Read, item}
 use Rattle.bundles.specs.Layout.{TermFields, CertificateFields, kind0, kind1}
 use Rattle.weights.specs.declared.Weighed.{Weighed}

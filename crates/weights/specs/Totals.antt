@@ -18,7 +18,7 @@ use Rattle.laws.specs.Bits.{bit}
 use Rattle.limits.specs.Limits.{MAX-EVENTS}
 use Rattle.nets.specs.Nets.{Counts, at, same}
 use Rattle.nets.specs.Weights.{same-refl, same-ne}
-use Rattle.logs.specs.Rows.{Row}
+use Rattle.rows.specs.Rows.{Row}
 use Rattle.bundles.specs.Layout.{TermFields}
 use Rattle.weights.specs.Terms.{rowOf, weighedRows, holdsRows}
 

@@ -20,11 +20,11 @@ n = 2: events 0 to 1
   word 0 at 2: 1
   word 1 at 4: 0 0 1
 5 rows
-  row 0: counts 0 0, after the empty word; allowed 0 1
-  row 1: counts 0 1, after 1; allowed none
-  row 2: counts 1 0, after 0; allowed 0
-  row 3: counts 2 0, after 0 0; allowed 1
-  row 4: counts 2 1, after 0 0 1; allowed none
+  row 0: counts 0 0, after the empty word; traffic 2; allowed 0 1
+  row 1: counts 0 1, after 1; traffic 1; allowed none
+  row 2: counts 1 0, after 0; traffic 1; allowed 0
+  row 3: counts 2 0, after 0 0; traffic 1; allowed 1
+  row 4: counts 2 1, after 0 0 1; traffic 1; allowed none
 2 places
   place 0 at 9: m 1, in 1 0, out 1 1
   place 1 at 19: m 2, in 0 0, out 1 0
@@ -56,7 +56,7 @@ what to do: the modeller's file lacks what the counts before announce
 n = 1: event 0
 no words, no events
 1 row
-  row 0: counts 0, after the empty word; allowed none
+  row 0: counts 0, after the empty word; traffic 0; allowed none
 no places
 0 of 1 certificate
 here the bundle ends, before the kind of certificate 0
@@ -401,8 +401,8 @@ fn partial_listings() {
         "1 of 2 words, 1 event",
         "  word 0 at 2: 1",
         "2 rows so far",
-        "  row 0: counts 0 0, after the empty word; allowed 1",
-        "  row 1: counts 0 1, after 1; allowed none",
+        "  row 0: counts 0 0, after the empty word; traffic 1; allowed 1",
+        "  row 1: counts 0 1, after 1; traffic 1; allowed none",
         "here the reading ends, at offset 6 of 53",
     ];
     assert_eq!(body, words);

@@ -9,7 +9,7 @@ use crate::run::{refusal, Outcome, Run};
 use reference::{log_rows, Row, Tally};
 
 /// Judges a bundle of an allowed length by the definitions. Returns the answer,
-/// and what the first 3,328 numbers of the table are afterwards.
+/// and what the first 3,584 numbers of the table are afterwards.
 pub fn judge_by_definitions(bundle: &[u8]) -> (Outcome<Tally>, Vec<u16>) {
     assert!(!bundle.is_empty() && bundle.len() <= MAX_BUNDLE_SIZE);
     match accepted(&mut Fields::new(bundle)) {
@@ -21,7 +21,7 @@ pub fn judge_by_definitions(bundle: &[u8]) -> (Outcome<Tally>, Vec<u16>) {
 /// Judges a bundle of an allowed length on both sides, in a table of noise, and
 /// checks answer and table by the definitions.
 pub fn judge(run: &mut Run, bundle: &[u8]) -> Outcome<Tally> {
-    let length = TABLE + run.rng.choose(&[0, 0, 1, 13, 1_000]);
+    let length = TABLE + run.rng.choose(&[0, 0, 1, 14, 1_000]);
     let noise: Vec<u16> = run.rng.items(length);
     let judged = run.judge(bundle, &noise);
     let (outcome, table) = judge_by_definitions(bundle);

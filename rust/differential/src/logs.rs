@@ -11,12 +11,14 @@ use std::ops::RangeInclusive;
 
 /// The largest event count, and the counts of a row.
 pub const MAX_EVENTS: usize = 12;
-/// Numbers of a row: the counts and the mask.
-pub const ROW: usize = 13;
+/// Numbers of a row: the counts, the mask and the traffic.
+pub const ROW: usize = 14;
+/// Where a row has its traffic.
+pub const TRAFFIC: usize = 13;
 /// The largest number of rows.
 pub const MAX_ROWS: usize = 256;
 /// Numbers of a table.
-pub const TABLE: usize = 3_328;
+pub const TABLE: usize = 3_584;
 /// The largest number of events in a log.
 pub const MAX_LOG_EVENTS: usize = 1_024;
 
@@ -25,6 +27,7 @@ pub fn table_of(n: usize, words: &[Vec<u8>]) -> Vec<u16> {
     let mut table = Vec::new();
     for row in log_rows(n, words) {
         let mut numbers = [0; ROW];
+        numbers[TRAFFIC] = row.traffic.min(65_535) as u16;
         for (event, (&count, &allowed)) in row.counts.iter().zip(&row.allowed).enumerate() {
             numbers[event] = count as u16;
             if allowed {
@@ -56,6 +59,11 @@ pub fn mask_at(table: &[u16], row: usize) -> u16 {
     table[row * ROW + MAX_EVENTS]
 }
 
+/// The traffic in a row of a table.
+pub fn traffic_at(table: &[u16], row: usize) -> u16 {
+    table[row * ROW + TRAFFIC]
+}
+
 /// Takes a word step by step, with a table of any contents. The summary, the
 /// word's events and the table's length are as they should be, and the events do
 /// not pass 1,024, so only the rows can be too many.
@@ -75,10 +83,14 @@ pub fn take_step_by_step(
             None => {
                 next[rows * ROW..][..MAX_EVENTS].copy_from_slice(&counts);
                 next[rows * ROW + MAX_EVENTS] = 0;
+                next[rows * ROW + TRAFFIC] = 0;
                 rows += 1;
                 rows - 1
             }
         };
+        if next[used * ROW + TRAFFIC] < 65_535 {
+            next[used * ROW + TRAFFIC] += 1;
+        }
         if end < word.len() {
             next[used * ROW + MAX_EVENTS] |= 1 << word[end];
         }
@@ -174,10 +186,10 @@ pub enum Contents {
     /// Any numbers.
     Noise,
     /// Counts that are mostly 0 and else 1 or 2, so that rows are often equal to
-    /// each other and to the counts of short prefixes; any masks.
+    /// each other and to the counts of short prefixes; any masks and traffic.
     Small,
     /// Rows with the counts of a word's prefixes, in any order and often several
-    /// times, every second one with one count changed; any masks.
+    /// times, every second one with one count changed; any masks and traffic.
     NearPrefixes,
 }
 
@@ -185,10 +197,14 @@ impl Contents {
     /// All three.
     pub const ALL: [Contents; 3] = [Contents::Noise, Contents::Small, Contents::NearPrefixes];
 
-    /// A table of this length, at least 3,328, to take a word over `n` events.
+    /// A table of this length, at least 3,584, to take a word over `n` events.
     pub fn table(self, rng: &mut Rng, n: usize, word: &[u8], length: usize) -> Vec<u16> {
         let mut table: Vec<u16> = rng.items(length);
         for row in table[..TABLE].chunks_exact_mut(ROW) {
+            // Every second traffic is near the largest number, or is it.
+            if rng.below(2) == 0 {
+                row[TRAFFIC] = rng.choose(&[65_533, 65_534, 65_535]);
+            }
             let counts = &mut row[..MAX_EVENTS];
             match self {
                 Contents::Noise => (),
@@ -234,7 +250,7 @@ pub const WRONG_ROWS: [usize; 9] = [
     0,
     257,
     258,
-    3_328,
+    3_584,
     (1 << 16) + 1,
     (1 << 32) + 1,
     (1 << 32) + 256,

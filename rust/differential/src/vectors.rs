@@ -1,7 +1,8 @@
 //! Cases with their answers, from a file.
 //!
-//! A line is `judge FILE = ANSWER` or `screen BUNDLE WORD = ANSWER`, with bytes in
-//! hexadecimal, or a comment that starts with `#`. No bytes are written as `-`.
+//! A line is `judge FILE = ANSWER`, `screen BUNDLE WORD = ANSWER` or
+//! `log N WORD.. = ANSWER`, with bytes in hexadecimal, or a comment that starts with
+//! `#`. No bytes are written as `-`.
 
 use crate::run::Outcome;
 use reference::{Refusal, Screened, Tally};
@@ -26,6 +27,17 @@ pub struct ScreenCase {
     pub line: String,
 }
 
+/// The words of a log over `n` events, and what they leave in a fresh table.
+#[derive(Clone, Debug, PartialEq, Eq)]
+pub struct LogCase {
+    /// The event count.
+    pub n: usize,
+    /// The words.
+    pub words: Vec<Vec<u8>>,
+    /// The number of rows, and then the numbers of each row in turn.
+    pub line: String,
+}
+
 /// The cases of a file.
 #[derive(Clone, Debug, Default, PartialEq, Eq)]
 pub struct Cases {
@@ -33,6 +45,8 @@ pub struct Cases {
     pub judge: Vec<JudgeCase>,
     /// Those for screening.
     pub screen: Vec<ScreenCase>,
+    /// Those for the log table.
+    pub log: Vec<LogCase>,
 }
 
 /// Reads the text of a file.
@@ -53,6 +67,11 @@ pub fn read(text: &str) -> Cases {
             ["screen", bundle, word] => cases.screen.push(ScreenCase {
                 bundle: bytes(bundle),
                 word: bytes(word),
+                line: answer.to_string(),
+            }),
+            ["log", n, words @ ..] => cases.log.push(LogCase {
+                n: n.parse().expect("an event count"),
+                words: words.iter().map(|word| bytes(word)).collect(),
                 line: answer.to_string(),
             }),
             _ => panic!("no known form: {line}"),
@@ -83,6 +102,12 @@ pub fn line(answer: Outcome<Tally>) -> String {
         }) => format!("accepted {rows} {allowed} {by_place} {by_weights}"),
         Err(refused) => refused_line(refused),
     }
+}
+
+/// The number of rows, and then their numbers.
+pub fn rows_line(rows: usize, numbers: &[u16]) -> String {
+    let numbers: Vec<String> = numbers.iter().map(ToString::to_string).collect();
+    format!("{rows} {}", numbers.join(" "))
 }
 
 /// The answer of screening in words.

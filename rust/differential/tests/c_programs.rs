@@ -43,13 +43,13 @@ fn log_table() {
         "fresh: 0, 4 1 0\n\
          first word: 0, 4 4 3\n\
          second word: 0, 4 6 6\n\
-         counts 0 0 0 0, allowed 0 1\n\
-         counts 1 0 0 0, allowed 1\n\
-         counts 1 1 0 0, allowed 2 3\n\
-         counts 1 1 1 0, allowed\n\
-         counts 0 1 0 0, allowed 0\n\
-         counts 1 1 0 1, allowed\n\
-         short table: 5, 3328, table as it was\n\
+         counts 0 0 0 0, allowed 0 1, traffic 2\n\
+         counts 1 0 0 0, allowed 1, traffic 1\n\
+         counts 1 1 0 0, allowed 2 3, traffic 2\n\
+         counts 1 1 1 0, allowed, traffic 1\n\
+         counts 0 1 0 0, allowed 0, traffic 1\n\
+         counts 1 1 0 1, allowed, traffic 1\n\
+         short table: 5, 3584, table as it was\n\
          no rows: 16, 0, table as it was\n\
          too many events: 8, 0, table as it was\n\
          wrong event: 7, 1, table as it was\n\
@@ -63,13 +63,13 @@ fn judging() {
     assert_eq!(
         run("judge"),
         "accepted: 0, 5 4 5 1, table with rows\n\
-         counts 0 0, mask 3\n\
-         counts 0 1, mask 0\n\
-         counts 1 0, mask 1\n\
-         counts 2 0, mask 2\n\
-         counts 2 1, mask 0\n\
+         counts 0 0, mask 3, traffic 2\n\
+         counts 0 1, mask 0, traffic 1\n\
+         counts 1 0, mask 1, traffic 1\n\
+         counts 2 0, mask 2, traffic 1\n\
+         counts 2 1, mask 0, traffic 1\n\
          empty: 4, 0 7 7 7, table as it was\n\
-         short table: 5, 3328 7 7 7, table as it was\n\
+         short table: 5, 3584 7 7 7, table as it was\n\
          cut: 6, 52 7 7 7, table zero\n\
          k = 0: 7, 4 7 7 7, table zero\n\
          too many events: 8, 1026 7 7 7, table zero\n\

@@ -4,7 +4,7 @@ use differential::bundles::{one_for_each_answer, Certificate, MAX_TERMS, MAX_WOR
 use differential::bundles::{SAMPLE_A, SAMPLE_E, SAMPLE_F, SAMPLE_G, SAMPLE_H};
 use differential::files::MAX_BUNDLE_SIZE;
 use differential::judging::{judge, judge_by_definitions};
-use differential::logs::{table_of, Shape, MAX_EVENTS, MAX_LOG_EVENTS, MAX_ROWS, TABLE};
+use differential::logs::{table_of, Shape, MAX_EVENTS, MAX_LOG_EVENTS, MAX_ROWS, ROW, TABLE};
 use differential::nets::{certified, small_certified, small_log, Certified};
 use differential::run::{refusal, Outcome, Run};
 use reference::{log_rows, Tally};
@@ -280,11 +280,7 @@ fn table_contents() {
         let (cut_outcome, _) = judge_by_definitions(cut);
         let (n, words) = small_log(&mut run.rng);
         let mut masks_only = vec![0; TABLE];
-        for mask in masks_only
-            .iter_mut()
-            .skip(MAX_EVENTS)
-            .step_by(MAX_EVENTS + 1)
-        {
+        for mask in masks_only.iter_mut().skip(MAX_EVENTS).step_by(ROW) {
             *mask = 65_535;
         }
         for table in [

@@ -1,7 +1,8 @@
 //! Logs from a fresh table on, word by word, up to the limits.
 
 use differential::logs::{
-    mask_at, random_word, table_of, Shape, MAX_EVENTS, MAX_LOG_EVENTS, MAX_ROWS, ROW, TABLE,
+    mask_at, random_word, table_of, traffic_at, Shape, MAX_EVENTS, MAX_LOG_EVENTS, MAX_ROWS, ROW,
+    TABLE,
 };
 use differential::run::{refusal, Outcome, Run};
 use reference::{log_rows, Refusal, Summary};
@@ -19,7 +20,7 @@ struct Log {
 impl Log {
     /// A log over `n` events without words, in a table that was full of noise.
     fn fresh(run: &mut Run, n: usize) -> Self {
-        let length = TABLE + run.rng.choose(&[0, 0, 1, 13, 1_000]);
+        let length = TABLE + run.rng.choose(&[0, 0, 1, 14, 1_000]);
         let noise: Vec<u16> = run.rng.items(length);
         let fresh = run.fresh(n, &noise);
         Self {
@@ -127,20 +128,21 @@ fn sample_i() {
         events: 6,
     };
     assert_eq!(log.summary, summary, "{run}");
-    // Counts of the four events, then the mask. 2 and 3 are allowed after 0 1.
-    let rows: [([u16; 4], u16); 6] = [
-        ([0, 0, 0, 0], 0b0011),
-        ([1, 0, 0, 0], 0b0010),
-        ([1, 1, 0, 0], 0b1100),
-        ([1, 1, 1, 0], 0b0000),
-        ([0, 1, 0, 0], 0b0001),
-        ([1, 1, 0, 1], 0b0000),
+    // Counts of the four events, then the mask, then the traffic. 2 and 3 are allowed
+    // after 0 1, whose row both words pass.
+    let rows: [([u16; 4], u16, u16); 6] = [
+        ([0, 0, 0, 0], 0b0011, 2),
+        ([1, 0, 0, 0], 0b0010, 1),
+        ([1, 1, 0, 0], 0b1100, 2),
+        ([1, 1, 1, 0], 0b0000, 1),
+        ([0, 1, 0, 0], 0b0001, 1),
+        ([1, 1, 0, 1], 0b0000, 1),
     ];
     let mut expected = Vec::new();
-    for (counts, mask) in rows {
+    for (counts, mask, traffic) in rows {
         expected.extend(counts);
         expected.extend([0; 8]);
-        expected.push(mask);
+        expected.extend([mask, traffic]);
     }
     expected.resize(TABLE, 0);
     assert_eq!(log.table[..TABLE], expected, "{run}");
@@ -165,6 +167,7 @@ fn sample_j() {
         };
         assert_eq!(log.take(&mut run, &[0; 255]), Ok(summary), "{run}");
         log.check(&run);
+        assert!((0..256).all(|row| traffic_at(&log.table, row) == words as u16));
     }
     assert_eq!(log.take(&mut run, &[0; 255]), refusal(8, 0), "{run}");
     log.check(&run);
@@ -177,6 +180,42 @@ fn sample_j() {
     assert_eq!(log.summary.events, MAX_LOG_EVENTS, "{run}");
     log.check(&run);
     run.finish(&[(0, 7), (8, 3)]);
+}
+
+/// 65,536 empty words and some others: row 0 reaches 65,535 and stays there, and
+/// no other number changes.
+#[test]
+fn empty_words() {
+    let mut run = Run::start("empty_words");
+    let mut table = [9; TABLE + 1];
+    let n = run.rng.within(2..=MAX_EVENTS);
+    let mut summary = hovmekhar::Summary::fresh(n, &mut table).expect("an event count");
+    summary = summary.take(&[0, 1, 1], &mut table).expect("a first word");
+    let before = table;
+    for words in 2..=65_537_u32 {
+        let next = summary.take(&[], &mut table).expect("an empty word");
+        assert_eq!(next, summary, "{words} words: {run}");
+        assert_eq!(u32::from(traffic_at(&table, 0)), words.min(65_535), "{run}");
+    }
+    assert_eq!(table[ROW - 1], 65_535, "{run}");
+    assert_eq!(table[..ROW - 1], before[..ROW - 1], "{run}");
+    assert_eq!(table[ROW..], before[ROW..], "{run}");
+
+    // With row 0 full, another word still counts in its other rows.
+    summary = summary.take(&[0, 0], &mut table).expect("a last word");
+    let traffic = (0..summary.rows).map(|row| traffic_at(&table, row));
+    assert_eq!(traffic.collect::<Vec<_>>(), [65_535, 2, 1, 1, 1], "{run}");
+    let reference = run.take(
+        Summary {
+            n,
+            rows: summary.rows,
+            events: summary.events,
+        },
+        &[1],
+        &table,
+    );
+    assert_eq!(traffic_at(&reference.table, 0), 65_535, "{run}");
+    run.finish(&[(0, 1)]);
 }
 
 /// From every number of rows to exactly 256 of them, and to one more.
@@ -252,8 +291,8 @@ fn sorted_rows(run: &mut Run, n: usize, words: &[Vec<u8>]) -> Vec<Vec<u16>> {
     rows
 }
 
-/// Words in another order make the same rows, with the same masks, in another
-/// order.
+/// Words in another order make the same rows, with the same masks and the same
+/// traffic, in another order.
 #[test]
 fn order_of_words() {
     let mut run = Run::start("order_of_words");

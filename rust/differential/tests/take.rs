@@ -2,8 +2,8 @@
 //! of any length.
 
 use differential::logs::{
-    counts_at, counts_of, mask_at, random_word, take_step_by_step, Contents, MAX_EVENTS,
-    MAX_LOG_EVENTS, MAX_ROWS, ROW, TABLE, WRONG_EVENTS, WRONG_N, WRONG_ROWS,
+    counts_at, counts_of, mask_at, random_word, take_step_by_step, traffic_at, Contents,
+    MAX_EVENTS, MAX_LOG_EVENTS, MAX_ROWS, ROW, TABLE, TRAFFIC, WRONG_EVENTS, WRONG_N, WRONG_ROWS,
 };
 use differential::run::{refusal, Outcome, Run};
 use reference::Summary;
@@ -35,8 +35,8 @@ fn random_summary(run: &mut Run, n: usize, length: usize) -> Summary {
     }
 }
 
-/// Counts the cases that a wrong comparison of rows, or a wrong mask, would show
-/// in.
+/// Counts the cases that a wrong comparison of rows, a wrong mask or a wrong traffic
+/// would show in.
 fn note_cases(run: &mut Run, summary: Summary, word: &[u8], table: &[u16]) {
     let Summary { n, rows, .. } = summary;
     let mut appended = 0;
@@ -64,9 +64,19 @@ fn note_cases(run: &mut Run, summary: Summary, word: &[u8], table: &[u16]) {
             if mask_at(table, rows + appended) != 0 {
                 run.note("a new row where a mask was");
             }
+            if traffic_at(table, rows + appended) != 0 {
+                run.note("a new row where a traffic was");
+            }
             appended += 1;
-        } else if mask_at(table, lowest) >= 1 << MAX_EVENTS {
-            run.note("a mask with bits from 12 on");
+        } else {
+            if mask_at(table, lowest) >= 1 << MAX_EVENTS {
+                run.note("a mask with bits from 12 on");
+            }
+            match traffic_at(table, lowest) {
+                65_535 => run.note("a traffic of 65,535"),
+                65_534 => run.note("a traffic of 65,534"),
+                _ => (),
+            }
         }
     }
 }
@@ -106,6 +116,9 @@ fn tables_of_any_contents() {
             ("a row with the counts beyond the present ones", 1_000),
             ("a new row where a mask was", 10_000),
             ("a mask with bits from 12 on", 5_000),
+            ("a new row where a traffic was", 10_000),
+            ("a traffic of 65,535", 1_000),
+            ("a traffic of 65,534", 1_000),
         ],
     );
 }
@@ -114,8 +127,10 @@ fn tables_of_any_contents() {
 #[test]
 fn rows_by_hand() {
     let mut run = Run::start("rows_by_hand");
-    let row = |first: u16, second: u16, last: u16, mask: u16| {
-        [first, second, 0, 0, 0, 0, 0, 0, 0, 0, 0, last, mask]
+    let row = |first: u16, second: u16, last: u16, mask: u16, traffic: u16| {
+        [
+            first, second, 0, 0, 0, 0, 0, 0, 0, 0, 0, last, mask, traffic,
+        ]
     };
     let table_with = |rows: &[[u16; ROW]]| {
         let mut table = vec![7; TABLE];
@@ -123,22 +138,25 @@ fn rows_by_hand() {
         table
     };
     let before = table_with(&[
-        row(1, 0, 9, 0xF000), // The last count differs.
-        row(1, 0, 0, 0xF001), // The prefix 0.
-        row(1, 0, 0, 0x0004), // The same again: not the lowest.
-        row(0, 0, 0, 0x8000), // The empty prefix.
-        row(1, 2, 0, 0xFFFF), // The whole word is not one of the present rows.
+        row(1, 0, 9, 0xF000, 5),      // The last count differs.
+        row(1, 0, 0, 0xF001, 65_534), // The prefix 0.
+        row(1, 0, 0, 0x0004, 40),     // The same again: not the lowest.
+        row(0, 0, 0, 0x8000, 65_535), // The empty prefix.
+        row(1, 2, 0, 0xFFFF, 99),     // The whole word is not one of the present rows.
     ]);
     // The word 0 1 1 with the first four rows: 0 is allowed after the empty
     // prefix, 1 after 0 and after 0 1, whose row is appended, as the whole word's.
-    let after = table_with(&[
-        row(1, 0, 9, 0xF000),
-        row(1, 0, 0, 0xF003),
-        row(1, 0, 0, 0x0004),
-        row(0, 0, 0, 0x8001),
-        row(1, 1, 0, 0x0002),
-        row(1, 2, 0, 0x0000),
-    ]);
+    let with_traffic = |of_new_rows: u16| {
+        table_with(&[
+            row(1, 0, 9, 0xF000, 5),
+            row(1, 0, 0, 0xF003, 65_535),
+            row(1, 0, 0, 0x0004, 40),
+            row(0, 0, 0, 0x8001, 65_535),
+            row(1, 1, 0, 0x0002, of_new_rows),
+            row(1, 2, 0, 0x0000, of_new_rows),
+        ])
+    };
+    let after = with_traffic(1);
     let summary = Summary {
         n: 2,
         rows: 4,
@@ -151,15 +169,15 @@ fn rows_by_hand() {
     };
     let table = expect(&mut run, summary, &[0, 1, 1], &before, Ok(next));
     assert_eq!(table, after, "{run}");
-    // Once more: every row is there.
+    // Once more: every row is there, and two of them have 65,535 words.
     let again = Summary {
         events: 106,
         ..next
     };
     let table = expect(&mut run, next, &[0, 1, 1], &after, Ok(again));
-    assert_eq!(table, after, "{run}");
-    // The empty word changes nothing where the row of the empty prefix is present.
-    // With two rows it is not, and is appended.
+    assert_eq!(table, with_traffic(2), "{run}");
+    // The empty word changes nothing where the row of the empty prefix is present and
+    // has 65,535 words. With two rows it is not, and is appended.
     let table = expect(&mut run, next, &[], &after, Ok(next));
     assert_eq!(table, after, "{run}");
     let summary = Summary {
@@ -174,7 +192,7 @@ fn rows_by_hand() {
         &after,
         Ok(Summary { rows: 3, ..summary }),
     );
-    assert_eq!(table[2 * ROW..3 * ROW], [0; ROW], "{run}");
+    assert_eq!(table[2 * ROW..3 * ROW], row(0, 0, 0, 0, 1), "{run}");
     assert!(table[3 * ROW..] == after[3 * ROW..], "{run}");
     // A full table without that row cannot take even the empty word.
     let full = Summary {
@@ -223,7 +241,8 @@ fn right_summaries() {
                 table[..MAX_EVENTS].fill(0);
                 let summary = Summary { n, rows, events };
                 let after = expect(&mut run, summary, &[], &table, Ok(summary));
-                assert!(after == table, "the table changed: {run}");
+                table[TRAFFIC] = table[TRAFFIC].saturating_add(1);
+                assert!(after == table, "another table: {run}");
             }
         }
     }

@@ -1,23 +1,27 @@
 //! The cases of `tests/data`, answered by another implementation: opening and then
-//! judging, and screening, on both sides. The cases of a file are with the requests
-//! up to its number in force.
+//! judging, screening, and taking the words of a log, on both sides. The cases of a
+//! file are with the requests up to its number in force.
 
 use differential::files::{BLOCK, MAX_BLOCKS, MAX_BUNDLE_SIZE};
 use differential::judging::judge;
+use differential::logs::{ROW, TABLE};
 use differential::run::{Outcome, Run};
 use differential::screening::screen;
-use differential::vectors::{line, read, screened_line, screened_line_without_shortfall};
+use differential::vectors::{
+    line, read, rows_line, screened_line, screened_line_without_shortfall,
+};
 use reference::Screened;
 
 /// A file's cases, and how it puts an answer of screening into words.
 type File = (&'static str, fn(Outcome<Screened>) -> String);
 
 /// Screening tells the shortfall from request 2 on.
-const FILES: [File; 4] = [
+const FILES: [File; 5] = [
     (include_str!("data/01.txt"), screened_line_without_shortfall),
     (include_str!("data/02.txt"), screened_line),
     (include_str!("data/03.txt"), screened_line),
     (include_str!("data/04.txt"), screened_line),
+    (include_str!("data/05.txt"), screened_line),
 ];
 
 #[test]
@@ -36,19 +40,19 @@ fn judged() {
     }
     run.finish(&[
         // Each file that is opened, and each bundle that is accepted.
-        (0, 110 + 61 + 105 + 53 + 112 + 52 + 103 + 53),
-        (1, 4 + 1 + 3 + 5),
-        (2, 1 + 1 + 2 + 3),
-        (6, 15 + 10 + 15 + 15),
-        (7, 8 + 7 + 9 + 9),
-        (8, 1 + 1 + 1),
-        (9, 5 + 12 + 8 + 8),
-        (10, 5 + 8 + 10 + 7),
-        (11, 4 + 5 + 8 + 3),
-        (12, 1 + 1),
-        (13, 10 + 9 + 9 + 7),
-        (17, 6 + 3),
-        (18, 5 + 7 + 3 + 6),
+        (0, 110 + 61 + 105 + 53 + 112 + 52 + 103 + 53 + 107 + 42),
+        (1, 4 + 1 + 3 + 5 + 4),
+        (2, 1 + 1 + 2 + 3 + 1),
+        (6, 15 + 10 + 15 + 15 + 10),
+        (7, 8 + 7 + 9 + 9 + 13),
+        (8, 1 + 1 + 1 + 1),
+        (9, 5 + 12 + 8 + 8 + 10),
+        (10, 5 + 8 + 10 + 7 + 9),
+        (11, 4 + 5 + 8 + 3 + 8),
+        (12, 1 + 1 + 2),
+        (13, 10 + 9 + 9 + 7 + 12),
+        (17, 6 + 3 + 2),
+        (18, 5 + 7 + 3 + 6 + 6),
     ]);
 }
 
@@ -67,7 +71,7 @@ fn sealed_again() {
             }
         }
     }
-    run.finish(&[(0, 2 * (110 + 105 + 112 + 103))]);
+    run.finish(&[(0, 2 * (110 + 105 + 112 + 103 + 107))]);
 }
 
 #[test]
@@ -83,14 +87,35 @@ fn screened() {
     }
     run.finish_with_classes(
         &[
-            (0, 70 + 74 + 76 + 70),
-            (6, 2 + 3 + 5),
+            (0, 70 + 74 + 76 + 70 + 70),
+            (6, 2 + 3 + 5 + 4),
             (7, 2 + 1 + 1 + 3),
-            (15, 6 + 2 + 3 + 2),
+            (15, 6 + 2 + 3 + 2 + 6),
         ],
         &[
-            ("permitted", 32 + 30 + 37 + 28),
-            ("stopped", 38 + 44 + 39 + 42),
+            ("permitted", 32 + 30 + 37 + 28 + 36),
+            ("stopped", 38 + 44 + 39 + 42 + 34),
         ],
     );
+}
+
+/// The words of a log leave these rows in a table that held anything.
+#[test]
+fn logs() {
+    let mut run = Run::start("vectors::logs");
+    let cases: Vec<_> = FILES.iter().flat_map(|(text, _)| read(text).log).collect();
+    assert_eq!(cases.len(), 40);
+    for case in cases {
+        let fresh = run.fresh(case.n, &[9; TABLE]);
+        let mut summary = fresh.outcome.expect("an allowed event count");
+        let mut table = fresh.table;
+        for word in &case.words {
+            let taken = run.take(summary, word, &table);
+            summary = taken.outcome.expect("few rows and events");
+            table = taken.table;
+        }
+        let rows = &table[..summary.rows * ROW];
+        assert_eq!(rows_line(summary.rows, rows), case.line, "{run}");
+    }
+    run.finish(&[(0, 40)]);
 }

@@ -214,13 +214,13 @@ fn refusals_of_logs_are_errors() -> Result<(), Box<dyn Error>> {
         (
             Summary::fresh(3, &mut table[1..]),
             Refusal::NUMBERS_SHORT,
-            3_328,
+            3_584,
         ),
         (Summary::fresh(0, &mut table), Refusal::STATE_RANGE, 0),
         (
             summary.take(&[0], &mut table[1..]),
             Refusal::NUMBERS_SHORT,
-            3_328,
+            3_584,
         ),
         (summary.take(&[0, 2, 3], &mut table), Refusal::VALUE, 2),
         (summary.take(&[0; 1_025], &mut table), Refusal::EVENTS, 0),

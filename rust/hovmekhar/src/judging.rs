@@ -70,9 +70,10 @@ pub struct Tally {
 ///     Tally { rows: 5, allowed: 4, by_place: 5, by_weights: 1 }
 /// );
 ///
-/// // Row 3 counts two events 0, and event 1 follows. Behind row 4 are zeros.
+/// // Row 3 counts two events 0, event 1 follows, and one word passes it. Behind row
+/// // 4 are zeros.
 /// let row = &table[3 * ROW_SIZE..4 * ROW_SIZE];
-/// assert_eq!(row, [2, 0, 0, 0, 0, 0, 0, 0, 0, 0, 0, 0, 0b10]);
+/// assert_eq!(row, [2, 0, 0, 0, 0, 0, 0, 0, 0, 0, 0, 0, 0b10, 1]);
 /// assert!(table[5 * ROW_SIZE..].iter().all(|&number| number == 0));
 /// # Ok::<(), hovmekhar::Refusal>(())
 /// ```

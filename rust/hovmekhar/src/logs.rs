@@ -6,8 +6,9 @@ use crate::Refusal;
 /// The largest event count.
 pub const MAX_EVENTS: usize = 12;
 
-/// Numbers of a row of the log table: [`MAX_EVENTS`] counts and the mask.
-pub const ROW_SIZE: usize = 13;
+/// Numbers of a row of the log table: [`MAX_EVENTS`] counts, the mask and the
+/// traffic.
+pub const ROW_SIZE: usize = 14;
 
 /// The largest number of rows in the log table.
 pub const MAX_ROWS: usize = 256;
@@ -25,8 +26,10 @@ pub const MAX_LOG_EVENTS: usize = 1_024;
 /// the empty word is always one. The table has a row of [`ROW_SIZE`] numbers for
 /// each distinct count vector of a prefix, in the order of first occurrence:
 /// twelve counts that say how often each event occurs in the prefix, zero from
-/// `n` on, then a mask. Bit `e` of the mask is set when a prefix with these
-/// counts is followed by event `e` in the log.
+/// `n` on, then a mask, then the row's traffic. Bit `e` of the mask is set when a
+/// prefix with these counts is followed by event `e` in the log. The traffic says
+/// how many words of the log have a prefix with these counts, up to 65,535. Only
+/// row 0 can reach that, and not without empty words.
 ///
 /// ```
 /// use hovmekhar::{Summary, ROW_SIZE, TABLE_SIZE};
@@ -37,10 +40,10 @@ pub const MAX_LOG_EVENTS: usize = 1_024;
 ///     .take(&[1, 0, 3], &mut table)?;
 /// assert_eq!(summary, Summary { n: 4, rows: 6, events: 6 });
 ///
-/// // Row 2 counts one event 0 and one event 1. Both words pass through it, so 2
-/// // and 3 may follow.
+/// // Row 2 counts one event 0 and one event 1. Both words pass it, so 2 and 3 may
+/// // follow, and its traffic is 2.
 /// let row = &table[2 * ROW_SIZE..3 * ROW_SIZE];
-/// assert_eq!(row, [1, 1, 0, 0, 0, 0, 0, 0, 0, 0, 0, 0, 0b1100]);
+/// assert_eq!(row, [1, 1, 0, 0, 0, 0, 0, 0, 0, 0, 0, 0, 0b1100, 2]);
 /// # Ok::<(), hovmekhar::Refusal>(())
 /// ```
 ///
@@ -106,9 +109,10 @@ impl Summary {
     ///
     /// For each prefix of the word, shortest first, from the empty one to the
     /// whole word: the lowest of the rows with its counts is used; where there is
-    /// none, a row with its counts and mask 0 is appended. Then, where an event
-    /// follows in the word, that event's bit is set in the row's mask. No other
-    /// number of `table` changes.
+    /// none, a row with its counts, mask 0 and traffic 0 is appended. The row's
+    /// traffic then grows by 1, where it is not 65,535, and where an event follows
+    /// in the word, that event's bit is set in the row's mask. No other number of
+    /// `table` changes.
     ///
     /// A table with other contents than these calls left follows the same steps:
     /// all twelve counts of a row are compared, and rows beyond those of the

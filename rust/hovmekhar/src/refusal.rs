@@ -103,7 +103,7 @@ impl Kind {
             Kind::BlockSums => "a block's sums are wrong",
             Kind::OutputShort => "the output is shorter than the result",
             Kind::BundleLength => "the bundle's length is 0 or above 64,512",
-            Kind::NumbersShort => "the table has fewer than 3,328 numbers",
+            Kind::NumbersShort => "the table has fewer than 3,584 numbers",
             Kind::BundleEnd => "the bundle ends before or inside a field",
             Kind::Value => "a value is outside its range, or names a row, event or place that is not there",
             Kind::Events => "the events would pass 1,024",
@@ -187,7 +187,7 @@ impl Refusal {
     pub const OUTPUT_SHORT: u8 = Kind::OutputShort.number();
     /// The bundle's length is 0 or above 64,512. Spot: 0.
     pub const BUNDLE_LENGTH: u8 = Kind::BundleLength.number();
-    /// The table has fewer than 3,328 numbers. Spot: 3,328.
+    /// The table has fewer than 3,584 numbers. Spot: 3,584.
     pub const NUMBERS_SHORT: u8 = Kind::NumbersShort.number();
     /// The bundle ends before or inside a field. Spot: the field's offset.
     pub const BUNDLE_END: u8 = Kind::BundleEnd.number();

@@ -6,7 +6,7 @@
 use crate::blocks::{open, MAX_BUNDLE_SIZE};
 use crate::places::Place;
 use crate::reader::Reader;
-use crate::tables::{front, MASK, MAX_EVENTS, MAX_LOG_EVENTS, MAX_ROWS, ROW};
+use crate::tables::{front, MASK, MAX_EVENTS, MAX_LOG_EVENTS, MAX_ROWS, ROW, TRAFFIC};
 use crate::Refusal;
 
 const MAX_TERMS: u8 = 64;
@@ -24,7 +24,7 @@ pub struct Tally {
     pub by_weights: usize,
 }
 
-/// Judges a bundle and returns its counts when it is accepted. The first 3,328
+/// Judges a bundle and returns its counts when it is accepted. The first 3,584
 /// numbers of `table` then hold the rows of its log, and zeros behind them.
 ///
 /// # Errors
@@ -32,7 +32,7 @@ pub struct Tally {
 /// 4 when the bundle's length is wrong, else 5 with the length needed when
 /// `table` is too short; `table` is then as it was.
 ///
-/// Else the first fault in the order of the bundle; the first 3,328 numbers of
+/// Else the first fault in the order of the bundle; the first 3,584 numbers of
 /// `table` are then zero. 6, 7 and 13 are refused with the offset of a field, 8
 /// and 9 with the offset of a word's length, 10 with the number of a place, after
 /// all places are read, and 11 and 12 with the number of a certificate, after it
@@ -150,6 +150,7 @@ impl<'t> Log<'t> {
     fn take(&mut self, word: &[u8]) -> bool {
         let mut row = 0;
         let mut counts = [0; MAX_EVENTS];
+        self.pass(row);
         for (length, &event) in (1..).zip(word) {
             let event = usize::from(event);
             let step = Step { row, event };
@@ -160,8 +161,14 @@ impl<'t> Log<'t> {
                 None if self.rows() == MAX_ROWS => return false,
                 None => self.append(length, &counts, step),
             };
+            self.pass(row);
         }
         true
+    }
+
+    /// Counts a word in the traffic of a row. There are at most 255 words.
+    fn pass(&mut self, row: usize) {
+        self.table[row * ROW + TRAFFIC] += 1;
     }
 
     fn allow(&mut self, step: Step) {

@@ -10,6 +10,8 @@ pub struct Row {
     /// For each event whether it is an allowed step: whether some prefix with
     /// these counts is followed by it in the log.
     pub allowed: Vec<bool>,
+    /// How many words of the log have a prefix with these counts.
+    pub traffic: usize,
 }
 
 /// The rows of a log over `n` events, all of them below `n`: the distinct count
@@ -35,9 +37,15 @@ pub fn log_rows<W: AsRef<[u8]>>(n: usize, words: &[W]) -> Vec<Row> {
             .iter()
             .any(|(others, following)| *following == Some(event) && others == counts)
     };
+    let passes =
+        |word: &[u8], row: &Vec<usize>| (0..=word.len()).any(|end| counts(n, &word[..end]) == *row);
     distinct
         .into_iter()
         .map(|counts| Row {
+            traffic: words
+                .iter()
+                .filter(|word| passes(word.as_ref(), counts))
+                .count(),
             counts: counts.clone(),
             allowed: (0u8..)
                 .take(n)

@@ -1,7 +1,8 @@
 //! The log table.
 //!
-//! A row is 13 numbers: how often each of the twelve possible events occurs in a
-//! prefix, then a mask of the events that follow such a prefix.
+//! A row is 14 numbers: how often each of the twelve possible events occurs in a
+//! prefix, then a mask of the events that follow such a prefix, then the row's
+//! traffic: how many words have such a prefix.
 
 use crate::Refusal;
 use std::collections::HashMap;
@@ -9,7 +10,8 @@ use std::iter;
 
 pub(crate) const MAX_EVENTS: usize = 12;
 pub(crate) const MASK: usize = MAX_EVENTS;
-pub(crate) const ROW: usize = MAX_EVENTS + 1;
+pub(crate) const TRAFFIC: usize = MASK + 1;
+pub(crate) const ROW: usize = TRAFFIC + 1;
 pub(crate) const MAX_ROWS: usize = 256;
 const TABLE: usize = MAX_ROWS * ROW;
 pub(crate) const MAX_LOG_EVENTS: usize = 1_024;
@@ -32,7 +34,7 @@ pub struct Summary {
     pub events: usize,
 }
 
-/// Sets the first 3,328 numbers of `table` to zero and returns the summary of a
+/// Sets the first 3,584 numbers of `table` to zero and returns the summary of a
 /// log without words.
 ///
 /// # Errors
@@ -55,7 +57,8 @@ pub fn fresh(n: usize, table: &mut [u16]) -> Result<Summary, Refusal> {
 /// Takes a further word of a log and returns the next summary.
 ///
 /// Each prefix of `word` uses the lowest of the rows with its counts, or appends
-/// one; the event that follows it is then set in the row's mask.
+/// one; the row's traffic grows by 1, up to 65,535, and the event that follows the
+/// prefix is set in the row's mask.
 ///
 /// # Errors
 ///
@@ -84,8 +87,9 @@ pub fn take(summary: Summary, word: &[u8], table: &mut [u16]) -> Result<Summary,
         let numbers = &mut table[row * ROW..][..ROW];
         if row >= rows {
             numbers[..MASK].copy_from_slice(&counts);
-            numbers[MASK] = 0;
+            numbers[MASK..].fill(0);
         }
+        numbers[TRAFFIC] = numbers[TRAFFIC].saturating_add(1);
         if let Some(event) = event {
             numbers[MASK] |= 1 << event;
         }

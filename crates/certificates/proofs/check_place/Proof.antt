@@ -5,7 +5,7 @@ use native.Mathlib.Omega.{arith}
 use borrow.Author.Needs.{needs}
 use borrow.Author.Tests.{ltb-true}
 use lib.ListN.{length, drop}
-use Rattle.logs.specs.Rows.{ROW, rowAt}
+use Rattle.rows.specs.Rows.{ROW, rowAt}
 use Rattle.bundles.specs.Reading.{got, byte}
 use Rattle.bundles.specs.FieldReading.{readOf, below, byte-got}
 use Rattle.bundles.specs.PlaceReading.{placeSize, place-inside}

@@ -7,7 +7,7 @@ use denote.Ref.{now}
 use lib.ListN.{length, length-take}
 use Rattle.limits.specs.Limits.{MAX-EVENTS, MAX-LOG-EVENTS}
 use Rattle.nets.specs.Events.{EventsBelow}
-use Rattle.logs.specs.IndexLaws.{index-taken}
+use Rattle.rows.specs.IndexLaws.{index-taken}
 use Rattle.bundles.specs.FieldReading.{readOf}
 use Rattle.bundles.specs.WordReading.{eventsAt}
 use Rattle.heads.specs.Taken.{WordRead, word-read, word-refused, no-room, word-taken}

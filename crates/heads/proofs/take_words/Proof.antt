@@ -3,8 +3,8 @@ use mathlib.Core.Path.{_≡_, _∙_}
 use native.Mathlib.Omega.{arith}
 use borrow.Author.Needs.{needs}
 use lib.ListN.{length}
-use Rattle.logs.specs.Index.{INDEX, Index}
-use Rattle.logs.specs.IndexLaws.{index-none}
+use Rattle.rows.specs.Index.{INDEX, Index}
+use Rattle.rows.specs.IndexLaws.{index-none}
 use Rattle.heads.specs.Taken.{TakenSoFar, taken-start, taken-next, taken-failed, taken-done, reindexed}
 use Rattle.heads.proofs.take_words.Statement.{statement}
 use Rattle.heads.proofs.take_words.Tie as tie

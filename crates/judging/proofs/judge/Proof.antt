@@ -9,7 +9,7 @@ use borrow.Author.Tests.{not-true, not-false}
 use denote.Ref.{now}
 use lib.ListN.{length}
 use Rattle.limits.specs.Limits.{rightSize}
-use Rattle.logs.specs.Rows.{rowsOf, cleared}
+use Rattle.rows.specs.Rows.{rowsOf, cleared}
 use Rattle.logs.specs.Answers.{TABLE}
 use Rattle.logs.specs.LogTable.{cleared-table, cleared-length}
 use Rattle.verdicts.specs.Judging.{judging, verdictOf, verdict, tableOn, tableAfter}

@@ -4,9 +4,9 @@ use Prim.Native.Nat.{_≤_, _-_}
 use mathlib.Core.Path.{_≡_}
 use native.Mathlib.Omega.{arith}
 use lib.ListN.{length, length-set}
-use Rattle.logs.specs.Rows.{cleared}
+use Rattle.rows.specs.Rows.{cleared}
 use Rattle.logs.specs.Answers.{TABLE}
-use Rattle.logs.specs.Searching.{clear-none, clear-more}
+use Rattle.rows.specs.Searching.{clear-none, clear-more}
 use Rattle.logs.proofs.clear.Statement.{statement}
 use Rattle.logs.proofs.clear.Tie as tie
 

@@ -5,8 +5,8 @@ use native.Mathlib.Omega.{arith}
 use borrow.Author.Needs.{needs}
 use lib.ListN.{length}
 use Rattle.limits.specs.Limits.{MAX-EVENTS}
-use Rattle.logs.specs.Rows.{ROW, newRow, none}
-use Rattle.logs.specs.Flat.{rows-at}
+use Rattle.rows.specs.Rows.{ROW, newRow, none}
+use Rattle.rows.specs.Flat.{rows-at}
 use Rattle.bundles.specs.TermReading.{termReadOf}
 use Rattle.weights.specs.TermSums.{TermsLeft, NextTerm, terms-start, terms-next, terms-failed, terms-done}
 use Rattle.weights.proofs.weigh_terms.Statement.{statement}

@@ -91,7 +91,8 @@ fn row_line(log: &Log, row: usize) -> String {
     if allowed.is_empty() {
         allowed = "none".into();
     }
-    format!("row {row}: counts {counts}, after {after}; allowed {allowed}")
+    let traffic = log.traffic(row);
+    format!("row {row}: counts {counts}, after {after}; traffic {traffic}; allowed {allowed}")
 }
 
 impl Place {

@@ -106,6 +106,12 @@ impl Log {
         &self.all_counts(row)[..self.n()]
     }
 
+    /// How many words have a prefix with the counts of a row. A log has at most 255
+    /// words here, so it is never the largest number of a table.
+    pub fn traffic(&self, row: usize) -> u16 {
+        self.table[row * ROW_SIZE + MAX_EVENTS + 1]
+    }
+
     /// Whether a step is allowed.
     pub fn allows(&self, step: Step) -> bool {
         let mask = self.table[step.row * ROW_SIZE + MAX_EVENTS];

@@ -110,7 +110,13 @@ pub fn net_words(bundle: &[u8], refusal: Refusal) -> String {
 
 /// The first allowed step that a place refuses.
 fn misfit(log: &Log, place: &Place, number: usize) -> String {
-    for (row, Row { counts, allowed }) in log.rows.iter().enumerate() {
+    for (
+        row,
+        Row {
+            counts, allowed, ..
+        },
+    ) in log.rows.iter().enumerate()
+    {
         for event in (0..counts.len()).filter(|&event| allowed[event]) {
             let surplus = place.surplus(counts, event);
             if surplus < 0 {
@@ -401,13 +407,19 @@ fn word_lines(certified: &Certified) -> Vec<String> {
 
 fn row_lines(log: &Log) -> Vec<String> {
     let mut lines = vec![count(log.rows.len(), "row")];
-    for (number, Row { counts, allowed }) in log.rows.iter().enumerate() {
+    for (number, row) in log.rows.iter().enumerate() {
+        let Row {
+            counts,
+            allowed,
+            traffic,
+        } = row;
         let events: Vec<usize> = (0..allowed.len()).filter(|&event| allowed[event]).collect();
         let none = if events.is_empty() { "none" } else { "" };
         let (counts, after) = (spaced(counts), &log.afters[number]);
         let allowed = spaced(&events);
         lines.push(format!(
-            "  row {number}: counts {counts}, after {after}; allowed {none}{allowed}"
+            "  row {number}: counts {counts}, after {after}; traffic {traffic}; \
+             allowed {none}{allowed}"
         ));
     }
     lines

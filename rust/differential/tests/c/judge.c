@@ -56,8 +56,8 @@ int main(void)
     judge("accepted", accepted, sizeof accepted, HOV_TABLE_SIZE);
     for (size_t row = 0; row < 5; row++) {
         const uint16_t *numbers = table + row * HOV_ROW_SIZE;
-        printf("counts %u %u, mask %u\n", (unsigned)numbers[0], (unsigned)numbers[1],
-               (unsigned)numbers[HOV_MAX_EVENTS]);
+        printf("counts %u %u, mask %u, traffic %u\n", (unsigned)numbers[0], (unsigned)numbers[1],
+               (unsigned)numbers[HOV_MAX_EVENTS], (unsigned)numbers[HOV_MAX_EVENTS + 1]);
     }
     judge("empty", accepted, 0, HOV_TABLE_SIZE);
     judge("short table", accepted, sizeof accepted, HOV_TABLE_SIZE - 1);

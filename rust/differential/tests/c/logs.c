@@ -42,7 +42,7 @@ static void print_row(const uint16_t *row)
             printf(" %u", event);
         }
     }
-    printf("\n");
+    printf(", traffic %u\n", (unsigned)row[HOV_MAX_EVENTS + 1]);
 }
 
 /* Makes a call that is refused, with rows and events of a summary. */

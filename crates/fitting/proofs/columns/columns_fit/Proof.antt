@@ -10,7 +10,7 @@ use lib.ListN.{length, length-drop}
 use lib.Seq.{getD-drop}
 use Rattle.laws.specs.Bits.{bit}
 use Rattle.limits.specs.Limits.{MAX-EVENTS}
-use Rattle.logs.specs.Rows.{ROW}
+use Rattle.rows.specs.Rows.{ROW}
 use Rattle.fitting.specs.FittingLaws.{part, part-is, RowsBelow, rows-start, rows-next, rows-end}
 use Rattle.fitting.specs.Columns.{column, Marking}
 use Rattle.fitting.specs.ColumnLaws.{marking-row, row-covered}

@@ -2,7 +2,7 @@
 use borrow.Author.Needs.{needs}
 use native.Mathlib.Omega.{arith}
 use Rattle.logs.specs.Takable.{takable-room}
-use Rattle.logs.specs.IndexLaws.{index-none}
+use Rattle.rows.specs.IndexLaws.{index-none}
 use Rattle.logs.proofs.words.add_long_word.Statement.{statement}
 use Rattle.logs.proofs.words.add_long_word.Tie as tie
 

@@ -1,7 +1,7 @@
 -- `logs::words::add_short_word` meets its contract.
 use borrow.Author.Needs.{needs}
 use native.Mathlib.Omega.{arith}
-use Rattle.logs.specs.IndexLaws.{index-short}
+use Rattle.rows.specs.IndexLaws.{index-short}
 use Rattle.logs.proofs.words.add_short_word.Statement.{statement}
 use Rattle.logs.proofs.words.add_short_word.Tie as tie
 

@@ -4,9 +4,9 @@ use mathlib.Core.Path.{_≡_, refl, sym, _∙_}
 use native.Mathlib.Omega.{arith}
 use lib.ListN.{length}
 use denote.Ref.{now}
-use Rattle.logs.specs.Rows.{rowsOf, takeWord, none}
-use Rattle.logs.specs.Flat.{length-rows, held}
-use Rattle.logs.specs.Growth.{length-take}
+use Rattle.rows.specs.Rows.{rowsOf, takeWord, none}
+use Rattle.rows.specs.Flat.{length-rows, held}
+use Rattle.rows.specs.Growth.{length-take}
 use Rattle.logs.specs.Numbering.{numbered-used}
 use Rattle.logs.proofs.words.add_word.Statement.{statement}
 use Rattle.logs.proofs.words.add_word.Tie as tie

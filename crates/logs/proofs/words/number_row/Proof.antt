@@ -1,7 +1,7 @@
 -- `logs::words::number_row` meets its contract.
 use borrow.Author.Needs.{needs}
 use native.Mathlib.Omega.{arith}
-use Rattle.logs.specs.Storing.{absent-found, absent-new, row-found, row-next}
+use Rattle.rows.specs.Storing.{absent-found, absent-new, row-found, row-next}
 use Rattle.logs.proofs.words.number_row.Statement.{statement}
 use Rattle.logs.proofs.words.number_row.Tie as tie
 

@@ -5,7 +5,7 @@ use mathlib.Core.Path.{_∙_}
 use native.Mathlib.Omega.{arith}
 use lib.ListN.{length, getD}
 use Rattle.limits.specs.Limits.{MAX-EVENTS}
-use Rattle.logs.specs.Rows.{rowsOf}
+use Rattle.rows.specs.Rows.{rowsOf}
 use Rattle.logs.specs.Takable.{takable-room}
 use Rattle.logs.specs.Noting.{Noting, noting-none, noting-again, noting-end}
 use Rattle.logs.proofs.words.number_rows.Statement.{statement}

@@ -1,7 +1,7 @@
 -- `logs::words::step` meets its contract.
 use borrow.Author.Needs.{needs}
 use native.Mathlib.Omega.{arith}
-use Rattle.logs.specs.Storing.{row-below, followed}
+use Rattle.rows.specs.Storing.{row-below, followed}
 use Rattle.logs.proofs.words.step.Statement.{statement}
 use Rattle.logs.proofs.words.step.Tie as tie
 

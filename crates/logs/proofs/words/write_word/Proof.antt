@@ -6,7 +6,7 @@ use native.Mathlib.Omega.{arith}
 use lib.ListN.{length, getD, take}
 use lib.Seq.{getD-take}
 use Rattle.limits.specs.Limits.{MAX-EVENTS}
-use Rattle.logs.specs.Rows.{rowsOf, addEvent, findRow, takeWord, none}
+use Rattle.rows.specs.Rows.{rowsOf, addEvent, findRow, takeWord, none}
 use Rattle.logs.specs.Takable.{takable-room}
 use Rattle.logs.specs.Taking.{Taking, taking-none, taking-row, taking-room, taking-again, taking-end}
 use Rattle.logs.proofs.words.write_word.Statement.{statement}

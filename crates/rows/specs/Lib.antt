@@ -1,0 +1,9 @@
+pub mod Rows
+pub mod Cases
+pub mod Index
+pub mod Visiting
+pub mod Growth
+pub mod Flat
+pub mod Storing
+pub mod Searching
+pub mod IndexLaws
