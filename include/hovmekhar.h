@@ -82,9 +82,9 @@ extern "C" {
 #endif
 
 /** The version, as text and in its three numbers. */
-#define HOV_VERSION "0.5.0"
+#define HOV_VERSION "0.6.0"
 #define HOV_VERSION_MAJOR 0
-#define HOV_VERSION_MINOR 5
+#define HOV_VERSION_MINOR 6
 #define HOV_VERSION_PATCH 0
 
 /** Bytes of a block. */
