@@ -51,7 +51,8 @@
  * of a place that refuses a step is how far its surplus is below 0: out(e) less the
  * tokens that are there before the step. Screening tells whether the places of a
  * bundle permit a lent word. It reads the bundle up to its last place, whether or
- * not the judge accepts it.
+ * not the judge accepts it. Joined screening does so with the places of two bundles
+ * that have the same n: those of the first, then those of the second, numbered on.
  *
  * Every call returns HOV_OK for a result, else the number of a refusal (see
  * enum hov_refusal); screening has a second result, HOV_STOPPED. A refusal's spot
@@ -63,8 +64,8 @@
  *   - Each pointer is valid for its length: inputs for reads; outputs, the
  *     table and the four numbers of answer for reads and writes. The numbers
  *     of table and answer are aligned.
- *   - The buffers of one call do not overlap, except that the two inputs of
- *     hov_screen may.
+ *   - The buffers of one call do not overlap, except that the inputs of
+ *     hov_screen and of hov_screen_joined may.
  *   - Nothing else writes to these buffers during the call, and nothing else
  *     reads those that the call may write to.
  *
@@ -82,9 +83,9 @@ extern "C" {
 #endif
 
 /** The version, as text and in its three numbers. */
-#define HOV_VERSION "0.6.0"
+#define HOV_VERSION "0.7.0"
 #define HOV_VERSION_MAJOR 0
-#define HOV_VERSION_MINOR 6
+#define HOV_VERSION_MINOR 7
 #define HOV_VERSION_PATCH 0
 
 /** Bytes of a block. */
@@ -133,7 +134,10 @@ extern "C" {
 /** What a call returns for a result. */
 #define HOV_OK 0
 
-/** What hov_screen returns for a word that is stopped; it is no refusal. */
+/**
+ * What hov_screen and hov_screen_joined return for a word that is stopped; it is
+ * no refusal.
+ */
 #define HOV_STOPPED 256
 
 /**
@@ -168,7 +172,7 @@ enum hov_refusal {
     HOV_OUTPUT_SHORT = 3,
 
     /**
-     * seal, judge, screen: the bundle's length is 0 or above 64,512.
+     * seal, judge, screen, screen_joined: a bundle's length is 0 or above 64,512.
      * Spot: 0. As it was: the output, the table.
      */
     HOV_BUNDLE_LENGTH = 4,
@@ -180,15 +184,15 @@ enum hov_refusal {
     HOV_NUMBERS_SHORT = 5,
 
     /**
-     * judge, screen: the bundle ends before or inside a field.
+     * judge, screen, screen_joined: a bundle ends before or inside a field.
      * Spot: the offset of the field. As it was: the bundle. See HOV_VALUE for
      * the judge's table.
      */
     HOV_BUNDLE_END = 6,
 
     /**
-     * take, judge, screen: a value is outside its range, or names a row, event
-     * or place that is not there.
+     * take, judge, screen, screen_joined: a value is outside its range, or names
+     * a row, event or place that is not there.
      * Spot: the offset of the field; in a lent word, the position in the word.
      * As it was: from take, the table. The judge, refusing with any number but
      * 4 and 5, leaves the table's numbers 0 to 3,583 zero and the rest as it
@@ -197,7 +201,7 @@ enum hov_refusal {
     HOV_VALUE = 7,
 
     /**
-     * take, judge, screen: the events would pass 1,024.
+     * take, judge, screen, screen_joined: the events would pass 1,024.
      * Spot: the offset of the word's length byte; from take 0.
      * As it was: as for HOV_VALUE.
      */
@@ -239,14 +243,14 @@ enum hov_refusal {
     HOV_BYTES_FOLLOW = 13,
 
     /**
-     * screen: the word has more than 65,535 events.
-     * Spot: 65,535. As it was: both inputs.
+     * screen, screen_joined: the word has more than 65,535 events.
+     * Spot: 65,535. As it was: the inputs.
      */
     HOV_WORD_LENGTH = 14,
 
     /**
-     * screen: an event of the word is not below the event count.
-     * Spot: its position. As it was: both inputs.
+     * screen, screen_joined: an event of the word is not below the event count.
+     * Spot: its position. As it was: the inputs.
      */
     HOV_WORD_EVENT = 15,
 
@@ -268,7 +272,13 @@ enum hov_refusal {
      * of its contents is not zero; its number is right.
      * Spot: that block. As it was: the output.
      */
-    HOV_BLOCK_USE = 18
+    HOV_BLOCK_USE = 18,
+
+    /**
+     * screen_joined: the event counts of the two bundles are not the same.
+     * Spot: 0. As it was: the inputs.
+     */
+    HOV_EVENT_COUNTS = 19
 };
 
 /**
@@ -416,6 +426,32 @@ uint32_t hov_screen(const uint8_t *bundle, size_t bundle_len,
                     uint64_t answer[4]);
 
 /**
+ * Screens a word with the places of two bundles of the same event count: replays
+ * its events on the places of the first, and behind them those of the second. Each
+ * bundle is read as hov_screen reads one, and need not be one that hov_judge
+ * accepts. No bundle is written.
+ *
+ * Returns HOV_OK when every place of both permits every step of the word, and
+ * HOV_STOPPED when some step is refused, with answer as from hov_screen. The places
+ * of the second bundle are numbered from the first one's place count on, so the
+ * number in answer[1] is at most 2 * HOV_MAX_PLACES - 1. Where places of both refuse
+ * the step, the lowest is one of the first.
+ *
+ * Or returns the first refusal that applies, with its spot in answer[0];
+ * answer[1] to answer[3] stay as they were. HOV_WORD_LENGTH comes first. Then
+ * HOV_BUNDLE_LENGTH, HOV_BUNDLE_END, HOV_VALUE and HOV_EVENTS come as in hov_screen,
+ * first those of the first bundle and then those of the second, each with its spot
+ * in its own bundle. Then comes HOV_EVENT_COUNTS. HOV_WORD_EVENT comes last, for the
+ * first event of the screened word that is not below n.
+ *
+ * All three inputs stay as they were. A bundle may be joined to itself.
+ */
+uint32_t hov_screen_joined(const uint8_t *first, size_t first_len,
+                           const uint8_t *second, size_t second_len,
+                           const uint8_t *word, size_t word_len,
+                           uint64_t answer[4]);
+
+/**
  * What a refusal means, in words for a message: the number is what a call
  * returned. The spot, which tells where, is in answer[0].
  */
@@ -462,6 +498,8 @@ static inline const char *hov_refusal_text(uint32_t number)
     case HOV_BLOCK_USE:
         return "a block's used count is wrong, or an unused byte is not "
                "zero";
+    case HOV_EVENT_COUNTS:
+        return "the event counts of the two bundles are not the same";
     default:
         return "no refusal has this number";
     }

@@ -1,15 +1,16 @@
 -- Places: their bytes, the code's struct, and what the code keeps of a list of places.
 use mathlib.Core.Path.{_≡_, refl, sym, ap, _∙_}
+use mathlib.Core.Bool.{Bool, true, false, cond}
 use mathlib.Core.Logic.{_⊎_, inl, inr}
 use mathlib.Core.List.{List, [], _∷_, _++_, append-assoc}
 use Prim.Native.Nat.{ℕ, suc, _+_, _-_, _*_, _≤_, _<_}
 use native.Mathlib.Nat.{mul-one, suc-mul, mul-le-mul-right}
 use native.Mathlib.Numerals.{add-one}
 use native.Mathlib.Omega.{arith}
-use lib.Dec.{leb}
-use borrow.Author.Tests.{leb-true}
-use lib.ListN.{length, replicate, set, length-append}
-use lib.Seq.{set-append-seam}
+use lib.Dec.{leb, ltb}
+use borrow.Author.Tests.{leb-true, ltb-true, ltb-false, le-ltb}
+use lib.ListN.{length, replicate, set, length-append, List·getD-eq-default}
+use lib.Seq.{set-append-seam, set-getD}
 use Rattle.laws.specs.Booleans.{impossible, lt-or-le}
 use Rattle.laws.specs.Parts.{getD-padded}
 use Rattle.laws.specs.Numbers.{numberAt}
@@ -78,6 +79,13 @@ widened-set xs x h = go (MAX-EVENTS - length xs) (MAX-EVENTS - length (xs ++ x �
     go : (k j : ℕ) → k ≡ suc j → set (xs ++ replicate k 0) (length xs) x ≡ (xs ++ x ∷ []) ++ replicate j 0
     go k j e = rw e (set-append-seam xs 0 (replicate j 0) x ∙ sym (append-assoc xs (x ∷ []) (replicate j 0)))
 
+-- a zero behind them
+zero-set : (xs : List ℕ) (i : ℕ) → length xs ≤ i → set (widened xs) i 0 ≡ widened xs
+unfolding widened
+zero-set xs i h =
+    ap (set (xs ++ replicate (MAX-EVENTS - length xs) 0) i) (sym (getD-padded xs (MAX-EVENTS - length xs) i 0 ∙ List·getD-eq-default xs 0 h))
+    ∙ set-getD (xs ++ replicate (MAX-EVENTS - length xs) 0) i 0
+
 -- a row, filled number by number
 module _ (b : List ℕ) (at : ℕ) where
   pub row-start : widened (numbersAt 0 b at) ≡ replicate MAX-EVENTS 0
@@ -90,6 +98,34 @@ module _ (b : List ℕ) (at : ℕ) where
       ap (λ (k : ℕ). set (widened (numbersAt i b at)) k (numberAt b (at + 2 * i))) (sym size)
       ∙ widened-set (numbersAt i b at) (numberAt b (at + 2 * i)) (omega arith)
       ∙ ap widened (sym (rw add-one (items-snoc 1 numberAt i b at ∙ rw (mul-one i))))
+
+-- a row of n numbers, after i turns that each write the number of an event, or zero from n on
+module _ (n : ℕ) (b : List ℕ) (at : ℕ) where
+  unfoldable pub keptNumbers : ℕ → List ℕ
+  keptNumbers i = widened (numbersAt (cond (ltb i n) i n) b at)
+
+  pub kept-start : n ≤ MAX-EVENTS → keptNumbers 0 ≡ replicate MAX-EVENTS 0
+  unfolding keptNumbers
+  kept-start few = go (ltb 0 n) refl
+    where
+      go : (t : Bool) → ltb 0 n ≡ t → widened (numbersAt (cond t 0 n) b at) ≡ replicate MAX-EVENTS 0
+      go true e = row-start b at
+      go false e = let none : n ≡ 0 = omega (arith, ltb-false 0 n e) in rw none (row-start b at)
+
+  pub kept-next : (i : ℕ) → i < MAX-EVENTS → n ≤ MAX-EVENTS → set (keptNumbers i) i (cond (ltb i n) (numberAt b (at + 2 * i)) 0) ≡ keptNumbers (i + 1)
+  unfolding keptNumbers
+  kept-next i h few = go (ltb i n) refl (ltb (i + 1) n) refl
+    where
+      go : (t : Bool) → ltb i n ≡ t → (u : Bool) → ltb (i + 1) n ≡ u
+          → set (widened (numbersAt (cond t i n) b at)) i (cond t (numberAt b (at + 2 * i)) 0) ≡ widened (numbersAt (cond u (i + 1) n) b at)
+      go true e true f = row-next b at i h
+      go true e false f = let last : i + 1 ≡ n = omega (arith, ltb-true i n e, ltb-false (i + 1) n f) in row-next b at i h ∙ rw last
+      go false e true f = absurd (omega (arith, ltb-false i n e, ltb-true (i + 1) n f))
+      go false e false f = zero-set (numbersAt n b at) i (omega (arith, items-length 1 numberAt n b at, ltb-false i n e))
+
+  pub kept-all : n ≤ MAX-EVENTS → keptNumbers MAX-EVENTS ≡ widened (numbersAt n b at)
+  unfolding keptNumbers
+  kept-all few = rw (le-ltb MAX-EVENTS n few)
 
 -- ---- the places of a bundle
 

@@ -6,9 +6,9 @@ use lib.Dec.{leb, ltb}
 use lib.ListN.{length}
 use Rattle.limits.specs.Limits.{MAX-EVENTS, MAX-LOG-EVENTS, MAX-ROWS, MAX-PLACES, MAX-TERMS, rightSize}
 use Rattle.refusals.specs.Table.{BUNDLE-LENGTH, EVENTS, ROWS}
-use Rattle.refusals.specs.Results.{value, refused}
+use Rattle.refusals.specs.Results.{Result, value, refused, bind}
 use Rattle.nets.specs.Nets.{Word, Log, Net, eventCount, rows}
-use Rattle.bundles.specs.Reading.{Read, item, Reader, _>>=_, _>>_, give, offset, require, byte, number, following, times}
+use Rattle.bundles.specs.Reading.{Read, item, itemIn, Reader, _>>=_, _>>_, give, offset, require, byte, number, following, times}
 use Rattle.bundles.specs.Layout.{PlaceFields, TermFields, CertificateFields, kind0, kind1, Head, toNet}
 
 -- any value
@@ -107,6 +107,10 @@ unfoldable pub bundleHead : Reader Head
 bundleHead = do
   bundleSize
   head anyRows
+
+-- the head of a bundle, or the refusal that it gets
+unfoldable pub readHead : List ℕ → Result Head
+readHead b = bind (bundleHead b 0) (λ i. value (itemIn i))
 
 -- the head that was read, or one without an event, a word and a place
 unfoldable pub headIn : Read Head → Head

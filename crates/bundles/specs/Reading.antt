@@ -12,6 +12,10 @@ use Rattle.refusals.specs.Results.{Result, value, refused, bind}
 pub data Item (A : Type 0) : Type 0 where
   item : A → ℕ → Item A
 
+-- the item without that offset
+unfoldable pub itemIn : {A : Type 0} → Item A → A
+itemIn (item x next) = x
+
 abbrev pub Read : Type 0 → Type 0
 Read A = Result (Item A)
 

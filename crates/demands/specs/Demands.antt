@@ -2,7 +2,7 @@
 -- A page for each group of calls says exactly when which refusal meets a call, and at which spot, in the words of the requirements: Opening.antt
 -- (open, seal), Tables.antt (fresh, take, and what stands in a table), Judging.antt and Screening.antt. Here they are gathered by name. A page for
 -- each change request says what it promised beyond that: BlockOrder.antt (request 1), Shortfalls.antt (2), Sealing.antt (3), Alterations.antt (4),
--- Traffic.antt (5). The demands are stated with the requests' changes in them.
+-- Traffic.antt (5), Joining.antt (6). The demands are stated with the requests' changes in them.
 -- A file, a bundle, an output, a table and a word are lists of numbers; `Bytes` says that each number is below 256.
 use mathlib.Core.Path.{_≡_}
 use mathlib.Core.Bool.{true, false, not}
@@ -21,7 +21,7 @@ use Rattle.refusals.specs.Laws.{Ends}
 use Rattle.refusals.specs.declared.Refusal.{Refusal}
 use Rattle.refusals.specs.declared.Written.the-variants as writing
 use Rattle.block.specs.File.{opened, sealed, blocksFor}
-use Rattle.nets.specs.Nets.{Word, Log, Net, stepAfter, permits, firstRefusing, shortfallOf, rows, eventCount}
+use Rattle.nets.specs.Nets.{Word, Log, Net, join, stepAfter, permits, firstRefusing, shortfallOf, rows, eventCount}
 use Rattle.nets.specs.Words.{Prefix, PermitsLog}
 use Rattle.nets.specs.Comparison.{PrefixesIn}
 use Rattle.nets.specs.Screening.{FirstRefused, shortfallAt}
@@ -39,14 +39,15 @@ use Rattle.verdicts.specs.Acceptance.{AcceptedAs}
 use Rattle.verdicts.specs.declared.Tally.{Tally}
 use Rattle.verdicts.specs.declared.Verdict.the-variants as judging
 use Rattle.judging.specs.Files.{fileVerdict, fileTable}
-use Rattle.screening.specs.Screening.{screened, screenedNumber}
+use Rattle.screening.specs.Screening.{screened, screenedJoined, screenedNumber}
 use Rattle.screening.specs.Screens.{Readable, Screenable}
+use Rattle.screening.specs.Joins.{JoinReadable}
 use Rattle.screening.specs.declared.Screened.{Screened}
 use Rattle.screening.specs.declared.Screened.the-variants as screening
 use Rattle.demands.specs.Opening.{OpenExactly, SealExactly}
 use Rattle.demands.specs.Tables.{FreshExactly, TakeExactly, TakeLeaves, LogLeft}
 use Rattle.demands.specs.Judging.{JudgeExactly, FieldsExactly}
-use Rattle.demands.specs.Screening.{ScreenExactly}
+use Rattle.demands.specs.Screening.{ScreenExactly, JoinExactly}
 
 -- ---- DEMAND 1: 'every call on every input ends in a result or in a refusal from the numbered table, touches no memory but the buffers
 -- lent to it, and leaves in each of them exactly what the table says.'
@@ -62,6 +63,7 @@ pub record Demand1 : Type 0 where
   pub take-exactly : (s : Summary) (table : List ℕ) (w : Word) → TakeExactly s table w
   pub judge-exactly : (tableSize : ℕ) (b : List ℕ) → Bytes b → JudgeExactly tableSize b
   pub screen-exactly : (b : List ℕ) → Bytes b → (w : Word) → ScreenExactly b w
+  pub join-exactly : (first second : List ℕ) (w : Word) → JoinExactly first second w
   pub fields-exactly : (b : List ℕ) (at : ℕ) → FieldsExactly b at
   -- the limits that no other line says by a numeral: 64 places, 64 terms
   pub counts-most : (MAX-PLACES ≡ 64) × (MAX-TERMS ≡ 64)
@@ -77,6 +79,8 @@ pub record Demand1 : Type 0 where
   pub refusals-of-judge-file : (file : List ℕ) (room tableSize : ℕ)
       → among (verdictNumber (fileVerdict file room tableSize)) (0 ∷ 1 ∷ 17 ∷ 18 ∷ 2 ∷ 3 ∷ 4 ∷ 5 ∷ 6 ∷ 7 ∷ 8 ∷ 9 ∷ 10 ∷ 11 ∷ 12 ∷ 13 ∷ []) ≡ true
   pub refusals-of-screen : (b : List ℕ) (w : Word) → among (screenedNumber (screened b w)) (0 ∷ 256 ∷ 14 ∷ 4 ∷ 6 ∷ 7 ∷ 8 ∷ 15 ∷ []) ≡ true
+  pub refusals-of-join : (first second : List ℕ) (w : Word)
+      → among (screenedNumber (screenedJoined first second w)) (0 ∷ 256 ∷ 14 ∷ 4 ∷ 6 ∷ 7 ∷ 8 ∷ 19 ∷ 15 ∷ []) ≡ true
   -- no refusal of opening or sealing writes to an output; a result stands in front of it, and the rest is left
   pub refused-output : (result : Result (List ℕ)) (output : List ℕ) (r : Refusal) → answer result (length output) ≡ writing.Refused r
       → written result output ≡ output
@@ -143,6 +147,14 @@ pub record Demand2 : Type 0 where
   pub readable : (b : List ℕ) → Bytes b → (w : Word) → Readable b w ↔ ((h : Head) × (rest : List ℕ) × Screenable b w h rest)
   -- accepted or not, the head that the layout has in front of the bundle is the one that these lines speak of
   pub readable-head : (b : List ℕ) → Bytes b → (w : Word) (h : Head) (rest : List ℕ) → Screenable b w h rest → headOf b ≡ h
+  -- with two bundles the net is the joined one; a word is readable so exactly when it is with each, and the event counts are the same
+  pub joined-readable : (first second : List ℕ) (w : Word) → JoinReadable first second w
+      ↔ (Readable first w × Readable second w × (eventsIn first ≡ eventsIn second))
+  pub joined-permitted : (first second : List ℕ) (w : Word) → JoinReadable first second w
+      → (screenedJoined first second w ≡ screening.Permitted) ↔ T (permits (eventsIn first) (join (netIn first) (netIn second)) w)
+  pub joined-stopped : (first second : List ℕ) (w : Word) → JoinReadable first second w → (i j k : ℕ)
+      → (screenedJoined first second w ≡ screening.Stopped (record { position = i; place = j; shortfall = k }))
+      ↔ (FirstRefused (eventsIn first) (join (netIn first) (netIn second)) w i j × (k ≡ shortfallAt (eventsIn first) (join (netIn first) (netIn second)) w i j))
   -- every bundle of 1 to 64,512 bytes is sealed
   pub seals : (b output : List ℕ) → 1 ≤ length b → length b ≤ 64512 → 512 * blocksFor (length b) ≤ length output
       → answer (sealed b) (length output) ≡ writing.Length (512 * blocksFor (length b))

@@ -6,6 +6,7 @@ pub mod Traffic
 pub mod Judging
 pub mod Screening
 pub mod Shortfalls
+pub mod Joining
 pub mod Sealing
 pub mod Demands
 pub mod OpeningProved
@@ -21,5 +22,6 @@ pub mod TrafficProved
 pub mod Proved
 pub mod Files
 pub mod Samples
+pub mod JoiningProved
 pub mod CallSamples
 pub mod Met

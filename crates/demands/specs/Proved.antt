@@ -13,19 +13,22 @@ use Rattle.logs.specs.Answers.{freshTable, takenNumber}
 use Rattle.logs.specs.RefusalNumbers.{fresh-numbers, take-numbers}
 use Rattle.logs.specs.AnswerLaws.{refused-table}
 use Rattle.logs.specs.LogTable.{log-table}
+use Rattle.nets.specs.Nets.{join}
+use Rattle.bundles.specs.Readers.{eventsIn, netIn}
 use Rattle.verdicts.specs.Acceptance.{accepted-exactly}
 use Rattle.verdicts.specs.RefusalNumbers.{judge-numbers, refused-judge}
 use Rattle.verdicts.specs.Judging.{verdictNumber}
 use Rattle.verdicts.specs.declared.Tally.{Tally}
 use Rattle.judging.specs.Files.{judge-file-numbers, file-refused, file-opened}
 use Rattle.screening.specs.Screening.{screenedNumber}
-use Rattle.screening.specs.RefusalNumbers.{screen-numbers}
-use Rattle.screening.specs.Screens.{permitted-exactly, stopped-exactly, readable-exactly, screenable-head}
+use Rattle.screening.specs.RefusalNumbers.{screen-numbers, join-numbers}
+use Rattle.screening.specs.Screens.{permitted-exactly, stopped-exactly, readable-exactly, screenable-head, replay-permits, replay-stops}
+use Rattle.screening.specs.JoinLaws.{join-readable, joined-replayed}
 use Rattle.demands.specs.Demands.{Demand1, Demand2, Demand3, FileAccepted}
 use Rattle.demands.specs.OpeningProved.{open-exactly, seal-exactly}
 use Rattle.demands.specs.TablesProved.{fresh-exactly, take-exactly, take-leaves, taken-left}
 use Rattle.demands.specs.JudgingProved.{judge-exactly, fields-exactly}
-use Rattle.demands.specs.ScreeningProved.{screen-exactly}
+use Rattle.demands.specs.ScreeningProved.{screen-exactly, join-exactly}
 use Rattle.demands.specs.Comparing.{accepted-head, net-complete, net-suboptimal, table-left, numbers-left, compared}
 
 pub demand-1 : Demand1
@@ -37,6 +40,7 @@ demand-1 = record {
   take-exactly = take-exactly;
   judge-exactly = judge-exactly;
   screen-exactly = screen-exactly;
+  join-exactly = join-exactly;
   fields-exactly = fields-exactly;
   refusals-of-open = open-numbers;
   refusals-of-seal = seal-numbers;
@@ -45,6 +49,7 @@ demand-1 = record {
   refusals-of-judge = judge-numbers;
   refusals-of-judge-file = judge-file-numbers;
   refusals-of-screen = screen-numbers;
+  refusals-of-join = join-numbers;
   counts-most = (refl, refl);
   refusal-numbers = λ r. (refl, refl, refl, refl);
   refused-output = refused-writes-nothing;
@@ -73,6 +78,10 @@ demand-2 = record {
   stopped = λ b w readable i j k. stopped-exactly b w readable (record { position = i; place = j; shortfall = k });
   readable = readable-exactly;
   readable-head = screenable-head;
+  joined-readable = join-readable;
+  joined-permitted = λ first second w readable. replay-permits (eventsIn first) (join (netIn first) (netIn second)) w (joined-replayed first second w readable);
+  joined-stopped = λ first second w readable i j k.
+      replay-stops (eventsIn first) (join (netIn first) (netIn second)) w (joined-replayed first second w readable) (record { position = i; place = j; shortfall = k });
   seals = seals;
   seal-then-open = seal-then-open;
   open-then-seal = open-then-seal;

@@ -11,17 +11,18 @@ use Rattle.laws.specs.Differences.{negativePart, sumℤ}
 use Rattle.laws.specs.Scans.{firstFailing}
 use Rattle.limits.specs.Limits.{rightSize}
 use Rattle.refusals.specs.Results.{bind}
+use Rattle.refusals.specs.Results as results
 use Rattle.nets.specs.Nets.{Log, same, occurrences, eventCount, weighed, beginnings, prefixes, addRow, counts, stepAfter, tokens, surplus, placePermits, shortfall, netPermits, permitsAfter, permits, firstRefusing, shortfallOf, stoppedAt, screenAfter, screen, rows, allowed, passes, traffic, rowSteps, continuations, allowedSteps, wrongContinuations, fits, refusedBy, weighsBefore, weighsAfter, weightsHold, solves, isByPlace, tally}
 use Rattle.nets.specs.Events.{firstBad}
 use Rattle.logs.specs.Answers.{TABLE}
-use Rattle.bundles.specs.Reading.{require, field, byte, number, each, onward}
+use Rattle.bundles.specs.Reading.{itemIn, require, field, byte, number, each, onward}
 use Rattle.bundles.specs.Layout.{toPlace, toNet, toTerm, toCertificate, toBundle}
-use Rattle.bundles.specs.Readers.{headIn, headOf, eventsIn, logIn, netIn, wordAfter, word, place, places, headAfter, head, bundleSize, bundleHead, term, weights, ofKind, certificate}
+use Rattle.bundles.specs.Readers.{headIn, headOf, eventsIn, logIn, netIn, wordAfter, word, place, places, headAfter, head, bundleSize, bundleHead, readHead, term, weights, ofKind, certificate}
 use Rattle.verdicts.specs.Judging.{unsolved, solved, atEnd, afterHead, contents, judging, judged, verdictOf, verdict}
 use Rattle.verdicts.specs.declared.Verdict.{Verdict}
 use Rattle.verdicts.specs.declared.Tally.{Tally}
 use Rattle.verdicts.specs.declared.Verdict.the-variants as verdicts
-use Rattle.screening.specs.Screening.{wordOn, screening, replayed, screenedOf, screened}
+use Rattle.screening.specs.Screening.{wordOn, screening, joining, replayed, screenedOf, screened, screenedJoined}
 use Rattle.screening.specs.declared.Screened.{Screened}
 use Rattle.screening.specs.declared.Screened.the-variants as answers
 
@@ -43,6 +44,13 @@ bytesA =
     ∷ 1 ∷ 0 ∷ 1 ∷ 0 ∷ 0 ∷ 0 ∷ 1 ∷ 0 ∷ 1 ∷ 0
     ∷ 2 ∷ 0 ∷ 0 ∷ 0 ∷ 0 ∷ 0 ∷ 1 ∷ 0 ∷ 0 ∷ 0
     ∷ 0 ∷ 0 ∷ 0 ∷ 0 ∷ 1 ∷ 2 ∷ 0 ∷ 2 ∷ 0 ∷ 0 ∷ 1 ∷ 1 ∷ 0 ∷ 3 ∷ 0 ∷ 1 ∷ 1 ∷ 0 ∷ 0 ∷ 1 ∷ 0 ∷ 0 ∷ 0 ∷ 0 ∷ []
+
+-- two bundles of 2 events, no word and no certificate: a place out of which 0 takes 1; one that nothing touches, and one with 1 token of which 1 takes 3
+unfoldable pub bytesQ : List ℕ
+bytesQ = 2 ∷ 0 ∷ 1 ∷ 0 ∷ 0 ∷ 0 ∷ 0 ∷ 0 ∷ 0 ∷ 1 ∷ 0 ∷ 0 ∷ 0 ∷ []
+
+unfoldable pub bytesR : List ℕ
+bytesR = 2 ∷ 0 ∷ 2 ∷ 0 ∷ 0 ∷ 0 ∷ 0 ∷ 0 ∷ 0 ∷ 0 ∷ 0 ∷ 0 ∷ 0 ∷ 1 ∷ 0 ∷ 0 ∷ 0 ∷ 0 ∷ 0 ∷ 0 ∷ 0 ∷ 3 ∷ 0 ∷ []
 
 -- the log of I: prefixes 0 1 and 1 0 have the same counts, so 3 is allowed after 0 1
 logI : Log
@@ -104,6 +112,19 @@ samples =
     ∷ (ofScreened (screened bytesA (0 ∷ 2 ∷ [])), 15 ∷ 1 ∷ [])
     ∷ (ofScreened (screened bytesA []), 0 ∷ [])
     ∷ (ofScreened (screened (1 ∷ 0 ∷ 1 ∷ 0 ∷ 0 ∷ 0 ∷ 0 ∷ 1 ∷ 0 ∷ 9 ∷ []) (0 ∷ [])), 256 ∷ 0 ∷ 0 ∷ 1 ∷ [])
+    -- two bundles joined: the second's places are numbered behind the first's; the earlier stop, and the lowest place of it, whichever comes first
+    ∷ (ofScreened (screenedJoined bytesQ bytesR (1 ∷ [])), 256 ∷ 0 ∷ 2 ∷ 2 ∷ [])
+    ∷ (ofScreened (screenedJoined bytesR bytesQ (1 ∷ [])), 256 ∷ 0 ∷ 1 ∷ 2 ∷ [])
+    ∷ (ofScreened (screenedJoined bytesQ bytesR (1 ∷ 0 ∷ [])), 256 ∷ 0 ∷ 2 ∷ 2 ∷ [])
+    ∷ (ofScreened (screenedJoined bytesQ bytesR (0 ∷ 1 ∷ [])), 256 ∷ 0 ∷ 0 ∷ 1 ∷ [])
+    ∷ (ofScreened (screenedJoined bytesR bytesR (1 ∷ [])), 256 ∷ 0 ∷ 1 ∷ 2 ∷ [])
+    ∷ (ofScreened (screenedJoined bytesQ bytesR []), 0 ∷ [])
+    ∷ (ofScreened (screenedJoined bytesA (2 ∷ 0 ∷ 0 ∷ []) (0 ∷ 1 ∷ [])), 0 ∷ [])
+    -- the first bundle's refusal, though the second has a lower number; the second's; 19 before 15; 15
+    ∷ (ofScreened (screenedJoined (13 ∷ []) [] (9 ∷ [])), 7 ∷ 0 ∷ [])
+    ∷ (ofScreened (screenedJoined bytesQ (1 ∷ 0 ∷ []) (9 ∷ [])), 6 ∷ 2 ∷ [])
+    ∷ (ofScreened (screenedJoined bytesQ (1 ∷ 0 ∷ 0 ∷ []) (9 ∷ [])), 19 ∷ 0 ∷ [])
+    ∷ (ofScreened (screenedJoined bytesQ bytesR (1 ∷ 2 ∷ [])), 15 ∷ 1 ∷ [])
     ∷ []
 
 -- case A with a further word 0, and twice the numbers of its second place
@@ -141,7 +162,7 @@ pub record Computed : Type 0 where
   pub refuses10 : permits (eventsIn bytesA) (netIn bytesA) (1 ∷ 0 ∷ []) ≡ false
 
 pub computed : Computed
-unfolding ofVerdict ofScreened bytesA logI samples all any keep tabulate equal numberAt firstFailing negativePart sumℤ same occurrences eventCount weighed beginnings prefixes addRow counts tokens surplus placePermits shortfall netPermits firstRefusing shortfallOf stoppedAt screenAfter screen rows allowed passes traffic rowSteps continuations allowedSteps wrongContinuations fits refusedBy weighsBefore weighsAfter weightsHold solves isByPlace tally firstBad flatMap bind onward require field byte number each toPlace toNet toTerm toCertificate toBundle rightSize wordAfter word place places headAfter head bundleSize bundleHead term weights ofKind certificate unsolved solved atEnd afterHead contents judging judged verdictOf verdict replayed wordOn screening screenedOf screened bytesA′ countsA headOf headIn permits permitsAfter
+unfolding ofVerdict ofScreened bytesA bytesQ bytesR logI samples all any keep tabulate equal numberAt firstFailing negativePart sumℤ same occurrences eventCount weighed beginnings prefixes addRow counts tokens surplus placePermits shortfall netPermits firstRefusing shortfallOf stoppedAt screenAfter screen rows allowed passes traffic rowSteps continuations allowedSteps wrongContinuations fits refusedBy weighsBefore weighsAfter weightsHold solves isByPlace tally firstBad flatMap bind results.require onward itemIn require field byte number each toPlace toNet toTerm toCertificate toBundle rightSize wordAfter word place places headAfter head bundleSize bundleHead readHead term weights ofKind certificate unsolved solved atEnd afterHead contents judging judged verdictOf verdict replayed wordOn screening joining screenedOf screened screenedJoined bytesA′ countsA headOf headIn permits permitsAfter
 computed = record {
   samplesHold = refl;
   acceptedA = refl;

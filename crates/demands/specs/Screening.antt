@@ -1,4 +1,5 @@
--- SCREENING, in the words of the requirements: exactly when each refusal meets the call, with its spot. What it answers else is in demand 2.
+-- SCREENING, with one bundle and with two joined, in the words of the requirements: exactly when each refusal meets the call, with its spot.
+-- What it answers else is in demand 2.
 -- Every line is about any bundle of bytes and any word.
 use mathlib.Core.Path.{_≡_}
 use mathlib.Core.Bool.{true}
@@ -11,9 +12,10 @@ use Rattle.refusals.specs.Results.{refused}
 use Rattle.refusals.specs.Answers.{refusal}
 use Rattle.nets.specs.Nets.{Word}
 use Rattle.bundles.specs.Layout.{Head}
-use Rattle.bundles.specs.Readers.{head, anyRows}
-use Rattle.screening.specs.Screening.{screened}
+use Rattle.bundles.specs.Readers.{head, anyRows, eventsIn}
+use Rattle.screening.specs.Screening.{screened, screenedJoined}
 use Rattle.screening.specs.Causes.{HeadInFront}
+use Rattle.screening.specs.Screens.{Readable}
 use Rattle.screening.specs.declared.Screened.the-variants as screening
 
 -- ---- Screen: 14, 4, then 6, 7, 8 in bundle order, then 15
@@ -31,3 +33,20 @@ pub record ScreenExactly (b : List ℕ) (w : Word) : Type 0 where
   pub event : (spot : ℕ) → (screened b w ≡ screening.Refused (refusal 15 spot))
       ↔ ((length w ≤ 65535) × (length b ≤ 64512) × ((h : Head) × (rest : List ℕ) × HeadInFront b h rest
       × (spot < length w) × (h .events ≤ getD w spot 0) × ((i : ℕ) → i < spot → getD w i 0 < h .events)))
+
+-- ---- Screen, joined: 14; the first bundle's 4, 6, 7, 8; the second's; 19; 15
+
+pub record JoinExactly (first second : List ℕ) (w : Word) : Type 0 where
+  -- '14 still comes first'
+  pub word-length : (spot : ℕ) → (screenedJoined first second w ≡ screening.Refused (refusal 14 spot)) ↔ ((spot ≡ 65535) × (65535 < length w))
+  -- 'both bundles' own refusals, first bundle before second': those that screening the empty word with the bundle gets (ScreenExactly)
+  pub own : (number : ℕ) → among number (4 ∷ 6 ∷ 7 ∷ 8 ∷ []) ≡ true → (spot : ℕ) → (screenedJoined first second w ≡ screening.Refused (refusal number spot))
+      ↔ ((length w ≤ 65535) × ((screened first [] ≡ screening.Refused (refusal number spot))
+      ⊎ (Readable first [] × (screened second [] ≡ screening.Refused (refusal number spot)))))
+  -- '19 when the event counts aren't the same, spot 0; it comes after both bundles' own refusals .. and before 15'
+  pub counts : (spot : ℕ) → (screenedJoined first second w ≡ screening.Refused (refusal 19 spot))
+      ↔ ((spot ≡ 0) × (length w ≤ 65535) × Readable first [] × Readable second [] × (eventsIn first ≡ eventsIn second → ⊥))
+  -- 'screened event not below n | 15 | its position': the first one
+  pub event : (spot : ℕ) → (screenedJoined first second w ≡ screening.Refused (refusal 15 spot))
+      ↔ ((length w ≤ 65535) × Readable first [] × Readable second [] × (eventsIn first ≡ eventsIn second)
+      × (spot < length w) × (eventsIn first ≤ getD w spot 0) × ((i : ℕ) → i < spot → getD w i 0 < eventsIn first))

@@ -1,18 +1,24 @@
 -- Screening, proved: the lines of Screening.antt from the laws of the readers.
-use mathlib.Core.Path.{refl, sym}
-use mathlib.Core.Logic.{Iff·trans}
-use mathlib.Core.List.{List, [], _∷_}
+use mathlib.Core.Path.{_≡_}
+use mathlib.Core.Bool.{false}
+use mathlib.Core.Logic.{_↔_, inl, inr, ⊎-elim, Iff·trans}
+use mathlib.Core.List.{List}
 use Prim.Native.Nat.{ℕ}
+use borrow.Author.Tests.{eqb-true, eq-eqb}
+use lib.Dec.{eqb}
 use lib.ListN.{length}
-use Rattle.laws.specs.Booleans.{at-least, less}
-use Rattle.laws.specs.Lists.{any, not-among}
+use Rattle.laws.specs.Booleans.{at-least, less, fails-exactly}
+use Rattle.laws.specs.Lists.{any}
 use Rattle.laws.specs.Numbers.{Bytes}
 use Rattle.limits.specs.Limits.{MAX-WORD-EVENTS, rightSize-bounds, rightSize-intro, rightSize-wrong}
 use Rattle.nets.specs.Nets.{Word}
 use Rattle.nets.specs.Events.{bad-exactly}
+use Rattle.bundles.specs.Readers.{eventsIn}
 use Rattle.bundles.specs.Limits.{→size}
 use Rattle.screening.specs.Causes.{screen-14, screen-4, screen-field, screen-15}
-use Rattle.demands.specs.Screening.{ScreenExactly}
+use Rattle.screening.specs.Joins.{read-exactly}
+use Rattle.screening.specs.JoinCauses.{empty-refused, join-14, join-own, join-19, join-15}
+use Rattle.demands.specs.Screening.{ScreenExactly, JoinExactly}
 
 pub screen-exactly : (b : List ℕ) → Bytes b → (w : Word) → ScreenExactly b w
 unfolding any
@@ -25,11 +31,10 @@ screen-exactly b bytes w = record {
     (λ (short, (at, e)). (at, at-least (length w) MAX-WORD-EVENTS .0 short, rightSize-wrong (length b) .0 e)),
     (λ (at, short, c). (at-least (length w) MAX-WORD-EVENTS .1 short, (at, rightSize-wrong (length b) .1 c))),
   );
-  fields = λ number listed spot. Iff·trans (screen-field b w number (not-among (6 ∷ 7 ∷ 8 ∷ []) 14 number refl listed)
-      (not-among (6 ∷ 7 ∷ 8 ∷ []) 4 number refl listed) (λ e. not-among (6 ∷ 7 ∷ 8 ∷ []) 15 number refl listed (sym e)) spot) (
-        (λ (short, (right, e)). let s = rightSize-bounds (length b) right in (at-least (length w) MAX-WORD-EVENTS .0 short, s .0, s .1, e)),
-        (λ (short, some, most, e). (at-least (length w) MAX-WORD-EVENTS .1 short, (rightSize-intro (length b) some most, e))),
-      );
+  fields = λ number listed spot. Iff·trans (screen-field b w number listed spot) (
+    (λ (short, (right, e)). let s = rightSize-bounds (length b) right in (at-least (length w) MAX-WORD-EVENTS .0 short, s .0, s .1, e)),
+    (λ (short, some, most, e). (at-least (length w) MAX-WORD-EVENTS .1 short, (rightSize-intro (length b) some most, e))),
+  );
   event = λ spot. Iff·trans (screen-15 b w bytes spot) (
     (λ (short, (right, (h, rest, f, at, fails))).
         let s = rightSize-bounds (length b) right in
@@ -40,3 +45,39 @@ screen-exactly b bytes w = record {
         (at-least (length w) MAX-WORD-EVENTS .1 short, (→size b h rest (f .layout) most, (h, rest, f, c .0, c .1)))),
   );
 }
+
+-- two numbers that a test tells apart
+differ : (m n : ℕ) → (eqb m n ≡ false) ↔ (m ≡ n → ⊥)
+differ m n = fails-exactly (eqb m n) (eqb-true m n, eq-eqb m n)
+
+pub join-exactly : (first second : List ℕ) (w : Word) → JoinExactly first second w
+unfolding any
+join-exactly first second w =
+    let short = at-least (length w) MAX-WORD-EVENTS in
+    let one = read-exactly first in
+    let two = read-exactly second in
+    record {
+      word-length = λ spot. Iff·trans (join-14 first second w spot) (
+        (λ (at, e). (at, less (length w) MAX-WORD-EVENTS .0 e)),
+        (λ (at, h). (at, less (length w) MAX-WORD-EVENTS .1 h)),
+      );
+      own = λ number listed spot.
+          let its = empty-refused first number spot in
+          let other = empty-refused second number spot in
+          Iff·trans (join-own first second w number listed spot) (
+            (λ (h, e). (short .0 h, ⊎-elim (λ q. inl (its .1 q)) (λ (read, q). inr (one .1 read, other .1 q)) e)),
+            (λ (h, e). (short .1 h, ⊎-elim (λ q. inl (its .0 q)) (λ (read, q). inr (one .0 read, other .0 q)) e)),
+          );
+      counts = λ spot. Iff·trans (join-19 first second w spot) (
+        (λ (h, (read, read′, (at, e))). (at, short .0 h, one .1 read, two .1 read′, differ (eventsIn first) (eventsIn second) .0 e)),
+        (λ (at, h, read, read′, e). (short .1 h, (one .0 read, two .0 read′, (at, differ (eventsIn first) (eventsIn second) .1 e)))),
+      );
+      event = λ spot. Iff·trans (join-15 first second w spot) (
+        (λ (h, (read, read′, (same, (at, fails)))).
+            let c = bad-exactly (eventsIn first) w spot .0 (at, fails) in
+            (short .0 h, one .1 read, two .1 read′, eqb-true (eventsIn first) (eventsIn second) same, c .0, c .1, c .2)),
+        (λ (h, read, read′, same, within, here, lower).
+            let c = bad-exactly (eventsIn first) w spot .1 (within, here, lower) in
+            (short .1 h, (one .0 read, two .0 read′, (eq-eqb (eventsIn first) (eventsIn second) same, (c .0, c .1))))),
+      );
+    }

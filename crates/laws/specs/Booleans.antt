@@ -1,6 +1,6 @@
 -- Booleans: tests passed or failed, taken apart and put together.
 use mathlib.Core.Path.{_≡_, refl, sym}
-use mathlib.Core.Bool.{Bool, true, false, false≢true, not, _&&_, _||_}
+use mathlib.Core.Bool.{Bool, true, false, false≢true, and-false, not, _&&_, _||_}
 use mathlib.Core.Logic.{_↔_, _⊎_, inl, inr, ⊎-elim}
 use Prim.Native.Nat.{ℕ, _≤_, _<_}
 use lib.Dec.{T, leb, ltb}
@@ -18,6 +18,11 @@ and-left false b e = e
 pub and-right : (a b : Bool) → (a && b) ≡ true → b ≡ true
 and-right true b e = e
 and-right false b e = absurd (false≢true e)
+
+pub and-exchange : (a b c d : Bool) → (a && b) && (c && d) ≡ (a && c) && (b && d)
+and-exchange true true c d = refl
+and-exchange true false c d = sym (and-false c)
+and-exchange false b c d = refl
 
 pub true-or-false : (b : Bool) → (b ≡ true) ⊎ (b ≡ false)
 true-or-false true = inl refl

@@ -1,6 +1,6 @@
 -- The lowest index at which a test fails: of the numbers below n, and of the elements of a list.
 use mathlib.Core.Path.{_≡_, refl, sym, ap, ap₂, _∙_}
-use mathlib.Core.Bool.{Bool, true, false, true≢false, cond, _&&_}
+use mathlib.Core.Bool.{Bool, true, false, true≢false, false≢true, cond, _&&_}
 use mathlib.Core.Logic.{_↔_, _⊎_, inl, inr, ⊎-elim}
 use mathlib.Core.List.{List, [], _∷_, _++_, map}
 use Prim.Native.Nat.{ℕ, zero, suc, _+_, _≤_, _<_, zero-le, suc-le-suc}
@@ -163,6 +163,17 @@ module _ {A : Type 0} where
   pub failing-end : (test : A → Bool) (l : List A) (i : ℕ) → firstFailing test l ≡ i + firstFailing test (drop i l) → length l ≤ i → firstFailing test l ≡ i
   unfolding firstFailing
   failing-end test l i inv h = inv ∙ rw (drop-of-length-le l h) (omega arith)
+
+  -- behind elements that pass, one fails as it does in the rest
+  pub failing-behind : (test : A → Bool) (xs ys : List A) → all test xs ≡ true → firstFailing test (xs ++ ys) ≡ length xs + firstFailing test ys
+  unfolding firstFailing all
+  failing-behind test [] ys e = omega arith
+  failing-behind test (x ∷ xs) ys e = go (test x) (failing-behind test xs ys) e
+    where
+      go : (b : Bool) → (all test xs ≡ true → firstFailing test (xs ++ ys) ≡ length xs + firstFailing test ys) → b && all test xs ≡ true
+          → cond b (suc (firstFailing test (xs ++ ys))) 0 ≡ suc (length xs) + firstFailing test ys
+      go true rest e = omega (arith, rest e)
+      go false rest e = absurd (false≢true e)
 
   -- all pass exactly when none fails
   pub failing-all : (test : A → Bool) (l : List A) → length l ≤ firstFailing test l → all test l ≡ true

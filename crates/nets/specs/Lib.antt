@@ -8,6 +8,8 @@ pub mod Fits
 pub mod Certificates
 pub mod Screening
 pub mod Shortfall
+pub mod Joining
+pub mod Scaling
 pub mod Comparison
 pub mod CountLaws
 pub mod Events

@@ -41,6 +41,14 @@ pub record Place : Type 0 where
 abbrev pub Net : Type 0
 Net = List Place
 
+-- two nets over the same events, joined: the place list of the first, then that of the second
+abbrev pub join : Net → Net → Net
+join one two = one ++ two
+
+-- a place with its numbers multiplied by k
+abbrev pub scaled : ℕ → Place → Place
+scaled k p = record { initial = k * p .initial; produced = λ i. k * p .produced i; consumed = λ i. k * p .consumed i }
+
 -- what `getD` gives beyond the places of a net: it permits every step
 abbrev pub noPlace : Place
 noPlace = record { initial = 0; produced = λ i. 0; consumed = λ i. 0 }

@@ -1,7 +1,7 @@
 -- Exactly when a chain refuses: one law for a test that is met first, and one for those behind it.
 use mathlib.Core.Path.{_≡_, refl, sym, ap, _∙_}
 use mathlib.Core.Bool.{Bool, true, false, false≢true, cond}
-use mathlib.Core.Logic.{_↔_}
+use mathlib.Core.Logic.{_↔_, _⊎_, inl, inr, ⊎-elim}
 use mathlib.Core.List.{List}
 use Prim.Native.Nat.{ℕ, _≤_, _<_}
 use lib.Dec.{leb}
@@ -10,7 +10,7 @@ use borrow.Author.Tests.{leb-true, leb-false, le-leb, lt-leb}
 use Rattle.laws.specs.Booleans.{impossible}
 use Rattle.laws.specs.Lists.{among}
 use Rattle.refusals.specs.Table.{OUTPUT-SHORT}
-use Rattle.refusals.specs.Results.{Result, value, refused, bind, require, Refuses}
+use Rattle.refusals.specs.Results.{Result, value, refused, bind, require, bind-refused, Refuses}
 use Rattle.refusals.specs.Answers.{refusal, fitted, answerOf, answer}
 use Rattle.refusals.specs.declared.Refusal.{Refusal}
 use Rattle.refusals.specs.declared.Written.the-variants.{Length, Refused}
@@ -74,6 +74,37 @@ module _ {A : Type 0} (ok : Bool) (number spot : ℕ) (m : Result A) where
 
       from : (x : A) → (ok ≡ true) × When x → bind (cond ok (value (tt {0})) (refused number spot)) (λ u. m) ≡ value x
       from x h = rw (h .0) (rest .line x .1 (h .1))
+
+-- a chain never refuses with a number that is not one of its own
+pub exactly-never : {A : Type 0} {numbers : List ℕ} {m : Result A} {number : ℕ} → Refuses numbers m → among number numbers ≡ false → Exactly m number (λ spot. ⊥)
+exactly-never r other = record { line = λ spot. ((λ e. never r _ spot other e), (λ none. absurd none)) }
+
+-- a value and what follows it refuse where one of the two does
+pub exactly-then : {A B : Type 0} {m : Result A} {f : A → Result B} {number : ℕ} {C : ℕ → Type 0} {D : A → ℕ → Type 0}
+    → Exactly m number C → ((x : A) → Exactly (f x) number (D x)) → Exactly (bind m f) number (λ spot. C spot ⊎ ((x : A) × (m ≡ value x) × D x spot))
+unfolding bind
+exactly-then {A} {B} {m} {f} {number} {C} {D} first rest = record { line = λ spot. (to spot, ⊎-elim (left spot) (right spot)) }
+  where
+    to : (spot : ℕ) → bind m f ≡ refused number spot → C spot ⊎ ((x : A) × (m ≡ value x) × D x spot)
+    to spot e = ⊎-elim
+        (λ here. inl (first .line spot .0 here))
+        (λ (x, is, later). inr (x, is, rest x .line spot .0 later))
+        (bind-refused m f number spot e)
+
+    left : (spot : ℕ) → C spot → bind m f ≡ refused number spot
+    left spot c = rw (first .line spot .1 c)
+
+    right : (spot : ℕ) → (x : A) × (m ≡ value x) × D x spot → bind m f ≡ refused number spot
+    right spot (x, is, d) = rw is (rest x .line spot .1 d)
+
+-- with a number of the value alone, and with one of what follows alone
+pub exactly-first : {A B : Type 0} {m : Result A} {f : A → Result B} {number : ℕ} {C : ℕ → Type 0} {others : List ℕ}
+    → Exactly m number C → ((x : A) → Refuses others (f x)) → among number others ≡ false → Exactly (bind m f) number C
+exactly-first first rest other = exactly-same (exactly-then first (λ x. exactly-never (rest x) other)) (λ spot. (⊎-elim (λ c. c) (λ (x, is, none). absurd none), inl))
+
+pub exactly-behind : {A B : Type 0} {m : Result A} {f : A → Result B} {number : ℕ} {D : A → ℕ → Type 0} {others : List ℕ}
+    → Refuses others m → among number others ≡ false → ((x : A) → Exactly (f x) number (D x)) → Exactly (bind m f) number (λ spot. (x : A) × (m ≡ value x) × D x spot)
+exactly-behind first other rest = exactly-same (exactly-then (exactly-never first other) rest) (λ spot. (⊎-elim (λ none. absurd none) (λ d. d), inr))
 
 -- the end of a chain
 pub gives-value : {A : Type 0} (y : A) → Gives (value y) (λ x. x ≡ y)

@@ -54,3 +54,6 @@ BLOCK-NUMBER = 17
 
 abbrev pub BLOCK-USE : ℕ
 BLOCK-USE = 18
+
+abbrev pub EVENT-COUNTS : ℕ
+EVENT-COUNTS = 19

@@ -58,3 +58,5 @@ pub const STATE_RANGE: u8 = 16;
 pub const BLOCK_NUMBER: u8 = 17;
 // A block's used count is wrong, or an unused byte of its contents is not zero.
 pub const BLOCK_USE: u8 = 18;
+// The event counts of two bundles that are joined are not the same.
+pub const EVENT_COUNTS: u8 = 19;

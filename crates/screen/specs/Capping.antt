@@ -11,14 +11,13 @@ use Rattle.laws.specs.Lists.{all, all-member, all-map, all-same, map-same}
 use Rattle.laws.specs.Scans.{failing-map}
 use Rattle.limits.specs.Limits.{MAX-WORD-EVENTS}
 use Rattle.refusals.specs.Table.{WORD-LENGTH, WORD-EVENT}
-use Rattle.refusals.specs.Results.{value, refused, bind}
-use Rattle.nets.specs.Nets.{Word, screen}
+use Rattle.refusals.specs.Results.{Result, value, refused, bind, require}
+use Rattle.nets.specs.Nets.{Word, Net, screen}
 use Rattle.nets.specs.Nets as nets
 use Rattle.nets.specs.Events.{firstBad}
-use Rattle.bundles.specs.Reading.{Read, got, item, andThen, _>>=_, give, require, onward}
 use Rattle.bundles.specs.Layout.{Head, toNet}
-use Rattle.bundles.specs.Readers.{bundleHead}
-use Rattle.bundles.specs.HeadReading.{headRead, head-kept}
+use Rattle.bundles.specs.Readers.{readHead}
+use Rattle.bundles.specs.ReadHead.{read-head-of, read-is, read-few}
 use Rattle.screening.specs.Screening.{wordOn, screening, screenedOf, screened}
 use Rattle.screen.specs.Events.{capped}
 
@@ -44,33 +43,28 @@ module _ (n : ℕ) (small : n ≤ 255) (w : Word) where
   unfolding capped
   word-capped is = map-same capped (λ e. e) w (λ e m. let below = ltb→lt e n (all-member (λ x. ltb x n) w (subst T (sym is) tt) m) in omega arith) ∙ map-id w
 
-module _ (b : List ℕ) (w : Word) where
-  word-on-capped : (h : Head) (at : ℕ) → h .events ≤ 255 → wordOn (map capped w) h b at ≡ wordOn w h b at
-  unfolding wordOn require bind onward
-  word-on-capped h at small = rw (all-capped n small w, bad-capped n small w) (go (all (λ e. ltb e n) w) refl)
+  word-on-capped : (net : Net) → wordOn (map capped w) n net ≡ wordOn w n net
+  unfolding wordOn require bind
+  word-on-capped net = rw (all-capped, bad-capped) (go (all (λ e. ltb e n) w) refl)
     where
-      n : ℕ
-      n = h .events
-
-      replay : Word → Bool → Read nets.Answer
-      replay x t = andThen (cond t (got (tt {0}) at) (refused WORD-EVENT (firstBad n w))) (λ u. give (screen n (toNet h) x)) b
+      replay : Word → Bool → Result nets.Answer
+      replay x t = bind (cond t (value (tt {0})) (refused WORD-EVENT (firstBad n w))) (λ u. value (screen n net x))
 
       go : (t : Bool) → all (λ e. ltb e n) w ≡ t → replay (map capped w) t ≡ replay w t
-      go true below = ap (λ (x : Word). replay x true) (word-capped n small w below)
+      go true below = ap (λ (x : Word). replay x true) (word-capped below)
       go false below = refl
 
-  behind-head : (m : Read Head) → bundleHead b 0 ≡ m → andThen m (wordOn (map capped w)) b ≡ andThen m (wordOn w) b
-  unfolding bind onward headRead
+module _ (b : List ℕ) (w : Word) where
+  behind-head : (m : Result Head) → readHead b ≡ m
+      → bind m (λ h. wordOn (map capped w) (h .events) (toNet h)) ≡ bind m (λ h. wordOn w (h .events) (toNet h))
+  unfolding bind
   behind-head (refused number spot) is = refl
-  behind-head (value (item h next)) is = word-on-capped h next (let limits = head-kept b _ (ap headRead is) .0 .limits in omega arith)
+  behind-head (value h) is =
+      let few : h .events ≤ 255 = omega (arith, read-few b (read-is b h is) .0, ap (λ (x : Head). x .events) (read-head-of b h is)) in
+      word-on-capped (h .events) few w (toNet h)
 
   pub screened-capped : screened b (map capped w) ≡ screened b w
-  unfolding screened screening require bind onward
-  screened-capped = rw (length-map w capped) (go (leb (length w) MAX-WORD-EVENTS))
-    where
-      whole : Word → Bool → Read nets.Answer
-      whole x t = andThen (cond t (got (tt {0}) 0) (refused WORD-LENGTH MAX-WORD-EVENTS)) (λ u. bundleHead >>= wordOn x) b
-
-      go : (t : Bool) → screenedOf (whole (map capped w) t) ≡ screenedOf (whole w t)
-      go true = ap screenedOf (behind-head (bundleHead b 0) refl)
-      go false = refl
+  unfolding screened screening
+  screened-capped =
+      rw (length-map w capped)
+      (ap (λ (m : Result nets.Answer). screenedOf (bind (require (leb (length w) MAX-WORD-EVENTS) WORD-LENGTH MAX-WORD-EVENTS) (λ u. m))) (behind-head (readHead b) refl))

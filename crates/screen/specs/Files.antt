@@ -10,4 +10,4 @@ use Rattle.screening.specs.declared.Screened.{Screened}
 unfoldable pub fileScreened : Result (List ℕ) → Word → Screened
 fileScreened opening w = screenedOf (do
   b ← opening
-  screening w b 0)
+  screening b w)

@@ -6,3 +6,7 @@ pub mod Positions
 pub mod Replay
 pub mod Searching
 pub mod ScreenLaws
+pub mod Joins
+pub mod JoinLaws
+pub mod JoinCauses
+pub mod ScalingLaws

@@ -11,25 +11,25 @@ use Rattle.laws.specs.Booleans.{impossible, yes-true}
 use Rattle.laws.specs.Lists.{all, all-member, all-intro}
 use Rattle.laws.specs.Every.{Every, every-member, every-intro}
 use Rattle.laws.specs.Numbers.{Bytes}
-use Rattle.limits.specs.Limits.{MAX-BUNDLE-SIZE, MAX-WORD-EVENTS, rightSize, rightSize-bounds}
-use Rattle.refusals.specs.Table.{BUNDLE-LENGTH, WORD-LENGTH, WORD-EVENT}
-use Rattle.refusals.specs.Results.{value, refused, bind}
+use Rattle.limits.specs.Limits.{MAX-BUNDLE-SIZE, MAX-WORD-EVENTS, rightSize-bounds}
+use Rattle.refusals.specs.Table.{WORD-LENGTH, WORD-EVENT}
+use Rattle.refusals.specs.Results.{Result, value, refused, bind, require, bind-value, passed}
 use Rattle.refusals.specs.Answers.{refusal}
 use Rattle.refusals.specs.declared.Refusal.{Refusal}
 use Rattle.nets.specs.Nets as nets
-use Rattle.nets.specs.Nets.{Word, permitted, stopped, permits, screen}
+use Rattle.nets.specs.Nets.{Word, Net, permitted, stopped, permits, screen}
 use Rattle.nets.specs.Events.{firstBad}
 use Rattle.nets.specs.Fits.{Below}
 use Rattle.nets.specs.Screening.{FirstRefused, shortfallAt, screen-permitted, screen-stopped-exactly}
-use Rattle.bundles.specs.Reading.{Read, got, item, _>>=_, give, require, onward}
 use Rattle.bundles.specs.Layout.{Head, HeadInLimits, toNet, headBytes}
-use Rattle.bundles.specs.Readers.{anyRows, head, bundleSize, bundleHead, headOf, eventsIn, netIn}
-use Rattle.bundles.specs.ReadingLaws.{part-front, andThen-got, require-got}
+use Rattle.bundles.specs.Readers.{anyRows, readHead, headOf, eventsIn, netIn}
+use Rattle.bundles.specs.ReadingLaws.{part-front}
 use Rattle.bundles.specs.LayoutLaws.{law-head}
 use Rattle.bundles.specs.Limits.{→size, head→limits, limits→head}
-use Rattle.bundles.specs.HeadReading.{head-of}
+use Rattle.bundles.specs.ReadHead.{HeadIsRead, read→, →read, read-head-of, read-is}
 use Rattle.screening.specs.Screening.{wordOn, screening, replayed, screenedOf, screened}
 use Rattle.screening.specs.declared.Stop.{Stop}
+use Rattle.screening.specs.declared.Screened.{Screened}
 use Rattle.screening.specs.declared.Screened.the-variants as answers
 
 -- a word is readable with a bundle when no refusal meets the call
@@ -48,45 +48,52 @@ pub record Screenable (b : List ℕ) (w : Word) (h : Head) (rest : List ℕ) : T
 
 record Passed (b : List ℕ) (w : Word) (h : Head) : Type 0 where
   wordSize : leb (length w) MAX-WORD-EVENTS ≡ true
-  size : rightSize (length b) ≡ true
-  next : ℕ
-  read : head anyRows b 0 ≡ got h next
+  head : readHead b ≡ value h
   events : all (λ e. ltb e (h .events)) w ≡ true
 
 module _ (b : List ℕ) (w : Word) where
-  screening→ : (x : nets.Answer) (end : ℕ) → screening w b 0 ≡ got x end → (h : Head) × Passed b w h
-  unfolding screening bundleHead bundleSize wordOn
-  screening→ x end e =
-      let p = require-got (leb (length w) MAX-WORD-EVENTS) WORD-LENGTH MAX-WORD-EVENTS (bundleHead >>= wordOn w) b 0 x end e in
-      let h = andThen-got b (bundleHead b 0) (wordOn w) x end (p .1) in
-      let q = require-got (rightSize (length b)) BUNDLE-LENGTH 0 (head anyRows) b 0 (h .0) (h .1) (h .2) in
-      let r = require-got (all (λ e. ltb e (h .0 .events)) w) WORD-EVENT (firstBad (h .0 .events) w) (give (screen (h .0 .events) (toNet (h .0)) w)) b (h .1) x end (h .3) in
-      (h .0, record { wordSize = p .0; size = q .0; next = h .1; read = q .1; events = r .0 })
+  screening→ : (x : nets.Answer) → screening b w ≡ value x → (h : Head) × Passed b w h
+  unfolding screening wordOn
+  screening→ x e =
+      let p = passed (leb (length w) MAX-WORD-EVENTS) WORD-LENGTH MAX-WORD-EVENTS (bind (readHead b) (λ h. wordOn w (h .events) (toNet h))) x e in
+      let (h, read, rest) = bind-value (readHead b) (λ h. wordOn w (h .events) (toNet h)) x (p .1) in
+      let q = passed (all (λ e. ltb e (h .events)) w) WORD-EVENT (firstBad (h .events) w) (value (screen (h .events) (toNet h) w)) x rest in
+      (h, record { wordSize = p .0; head = read; events = q .0 })
 
   readable→ : Readable b w → (h : Head) × Passed b w h
   unfolding screened screenedOf
-  readable→ readable = go (screening w b 0) refl readable
+  readable→ readable = go (screening b w) refl readable
     where
-      go : (m : Read nets.Answer) → screening w b 0 ≡ m → ((r : Refusal) → screenedOf m ≡ answers.Refused r → ⊥) → (h : Head) × Passed b w h
-      go (value (item x end)) is rest = screening→ x end is
+      go : (m : Result nets.Answer) → screening b w ≡ m → ((r : Refusal) → screenedOf m ≡ answers.Refused r → ⊥) → (h : Head) × Passed b w h
+      go (value x) is rest = screening→ x is
       go (refused number spot) is rest = absurd (rest (refusal number spot) refl)
 
   →screened : (h : Head) → Passed b w h → screened b w ≡ replayed (screen (h .events) (toNet h) w)
-  unfolding screened screening bundleHead bundleSize wordOn require bind onward screenedOf
-  →screened h p = rw (p .wordSize, p .size, p .read, p .events)
+  unfolding screened screening wordOn require bind screenedOf
+  →screened h p = rw (p .wordSize, p .head, p .events)
+
+  -- the bundle is read up to its last place
+  pub readable-read : Readable b w → HeadIsRead b
+  readable-read readable = let a = readable→ readable in read-is b (a .0) (a .1 .head)
 
   -- screening replays a readable word on the bundle's net
   pub screened-replayed : Readable b w → screened b w ≡ replayed (screen (eventsIn b) (netIn b) w)
   screened-replayed readable =
       let a = readable→ readable in
-      →screened (a .0) (a .1) ∙ ap (λ (h : Head). replayed (screen (h .events) (toNet h) w)) (sym (head-of b (a .0) (a .1 .next) (a .1 .read)))
+      →screened (a .0) (a .1) ∙ ap (λ (h : Head). replayed (screen (h .events) (toNet h) w)) (sym (read-head-of b (a .0) (a .1 .head)))
 
-replayed-permitted : (x : nets.Answer) → (replayed x ≡ answers.Permitted) ↔ (x ≡ permitted)
+-- the replay refuses nothing
+pub replayed-never : (x : nets.Answer) (r : Refusal) → replayed x ≡ answers.Refused r → ⊥
+unfolding replayed
+replayed-never permitted r e = impossible cc
+replayed-never (stopped i j k) r e = impossible cc
+
+pub replayed-permitted : (x : nets.Answer) → (replayed x ≡ answers.Permitted) ↔ (x ≡ permitted)
 unfolding replayed
 replayed-permitted permitted = ((λ e. refl), (λ e. refl))
 replayed-permitted (stopped i j k) = ((λ e. impossible cc), (λ e. impossible cc))
 
-replayed-stopped : (x : nets.Answer) (s : Stop) → (replayed x ≡ answers.Stopped s) ↔ (x ≡ stopped (s .position) (s .place) (s .shortfall))
+pub replayed-stopped : (x : nets.Answer) (s : Stop) → (replayed x ≡ answers.Stopped s) ↔ (x ≡ stopped (s .position) (s .place) (s .shortfall))
 unfolding replayed
 replayed-stopped permitted s = ((λ e. impossible cc), (λ e. impossible cc))
 replayed-stopped (stopped i j k) s = ((λ e. same e), (λ e. ap replayed e))
@@ -94,31 +101,32 @@ replayed-stopped (stopped i j k) s = ((λ e. same e), (λ e. ap replayed e))
     same : answers.Stopped (record { position = i; place = j; shortfall = k }) ≡ answers.Stopped s → stopped i j k ≡ stopped (s .position) (s .place) (s .shortfall)
     same e = let stop : _≡_ {A = Stop} (record { position = i; place = j; shortfall = k }) s = cc in ap (λ (r : Stop). stopped (r .position) (r .place) (r .shortfall)) stop
 
+-- an answer that is a net's replay
+module _ (n : ℕ) (net : Net) (w : Word) {answer : Screened} (is : answer ≡ replayed (screen n net w)) where
+  pub replay-permits : (answer ≡ answers.Permitted) ↔ T (permits n net w)
+  replay-permits =
+      let law = screen-permitted n net w in
+      let found = replayed-permitted (screen n net w) in
+      ((λ e. law .0 (found .0 (sym is ∙ e))), (λ t. is ∙ found .1 (law .1 t)))
+
+  pub replay-stops : (s : Stop) → (answer ≡ answers.Stopped s)
+      ↔ (FirstRefused n net w (s .position) (s .place) × (s .shortfall ≡ shortfallAt n net w (s .position) (s .place)))
+  replay-stops s =
+      let law = screen-stopped-exactly n net w (s .position) (s .place) (s .shortfall) in
+      let found = replayed-stopped (screen n net w) s in
+      ((λ e. law .0 (found .0 (sym is ∙ e))), (λ f. is ∙ found .1 (law .1 f)))
+
 module _ (b : List ℕ) (w : Word) (readable : Readable b w) where
   -- DEMAND 2: it answers permitted exactly when the net permits the word
   pub permitted-exactly : (screened b w ≡ answers.Permitted) ↔ T (permits (eventsIn b) (netIn b) w)
-  permitted-exactly =
-      let is = screened-replayed b w readable in
-      let law = screen-permitted (eventsIn b) (netIn b) w in
-      let answer = replayed-permitted (screen (eventsIn b) (netIn b) w) in
-      ((λ e. law .0 (answer .0 (sym is ∙ e))), (λ t. is ∙ answer .1 (law .1 t)))
+  permitted-exactly = replay-permits (eventsIn b) (netIn b) w (screened-replayed b w readable)
 
   -- and stopped exactly when position and place are those of the first refused step, and the shortfall is that place's there
   pub stopped-exactly : (s : Stop) → (screened b w ≡ answers.Stopped s)
       ↔ (FirstRefused (eventsIn b) (netIn b) w (s .position) (s .place) × (s .shortfall ≡ shortfallAt (eventsIn b) (netIn b) w (s .position) (s .place)))
-  stopped-exactly s =
-      let is = screened-replayed b w readable in
-      let law = screen-stopped-exactly (eventsIn b) (netIn b) w (s .position) (s .place) (s .shortfall) in
-      let answer = replayed-stopped (screen (eventsIn b) (netIn b) w) s in
-      ((λ e. law .0 (answer .0 (sym is ∙ e))), (λ f. is ∙ answer .1 (law .1 f)))
+  stopped-exactly = replay-stops (eventsIn b) (netIn b) w (screened-replayed b w readable)
 
 -- ---- which words are readable
-
--- the replay refuses nothing
-never : (x : nets.Answer) (r : Refusal) → replayed x ≡ answers.Refused r → ⊥
-unfolding replayed
-never permitted r e = impossible cc
-never (stopped i j k) r e = impossible cc
 
 module _ (n : ℕ) (w : Word) where
   all→every : T (all (λ e. ltb e n) w) → Every (λ e. e < n) w
@@ -131,16 +139,17 @@ module _ (n : ℕ) (w : Word) where
 pub readable-below : (b : List ℕ) (w : Word) → Readable b w → Below (eventsIn b) w
 readable-below b w readable e m =
     let a = readable→ b w readable in
-    subst (λ (h : Head). e < h .events) (sym (head-of b (a .0) (a .1 .next) (a .1 .read)))
+    subst (λ (h : Head). e < h .events) (sym (read-head-of b (a .0) (a .1 .head)))
     (ltb→lt e (a .0 .events) (all-member (λ e. ltb e (a .0 .events)) w (rw (a .1 .events) tt) m))
 
 module _ (b : List ℕ) (bytes : Bytes b) (w : Word) where
   passed→ : (h : Head) → Passed b w h → (rest : List ℕ) × Screenable b w h rest
   passed→ h p =
-      let s = law-head b bytes anyRows .sound 0 h (p .next) (p .read) in (
-        drop (p .next) b,
+      let (right, (next, read)) = read→ b h (p .head) in
+      let s = law-head b bytes anyRows .sound 0 h next read in (
+        drop next b,
         record {
-          size = rightSize-bounds (length b) (p .size) .1;
+          size = rightSize-bounds (length b) right .1;
           layout = s .1 .bytes;
           limits = head→limits anyRows (λ n. tt) (λ n log more t. tt) h (s .0) .0;
           wordSize = leb-true (length w) MAX-WORD-EVENTS (p .wordSize);
@@ -151,9 +160,8 @@ module _ (b : List ℕ) (bytes : Bytes b) (w : Word) where
   →passed : (h : Head) (rest : List ℕ) → Screenable b w h rest → Passed b w h
   →passed h rest s = record {
     wordSize = le-leb (length w) MAX-WORD-EVENTS (s .wordSize);
-    size = →size b h rest (s .layout) (s .size);
-    next = length (headBytes h);
-    read = law-head b bytes anyRows .complete 0 h (length (headBytes h)) (limits→head anyRows (λ n. tt) (λ n log more t. tt) h (s .limits) tt) (part-front b (headBytes h) rest (s .layout));
+    head = →read b h (length (headBytes h)) (→size b h rest (s .layout) (s .size))
+        (law-head b bytes anyRows .complete 0 h (length (headBytes h)) (limits→head anyRows (λ n. tt) (λ n log more t. tt) h (s .limits) tt) (part-front b (headBytes h) rest (s .layout)));
     events = yes-true (all (λ e. ltb e (h .events)) w) (every→all (h .events) w (s .events));
   }
 
@@ -165,8 +173,8 @@ module _ (b : List ℕ) (bytes : Bytes b) (w : Word) where
       to readable = let a = readable→ b w readable in let s = passed→ (a .0) (a .1) in (a .0, s .0, s .1)
 
       from : (h : Head) → Passed b w h → Readable b w
-      from h p r e = never (screen (h .events) (toNet h) w) r (sym (→screened b w h p) ∙ e)
+      from h p r e = replayed-never (screen (h .events) (toNet h) w) r (sym (→screened b w h p) ∙ e)
 
   -- and then the layout's head is the bundle's
   pub screenable-head : (h : Head) (rest : List ℕ) → Screenable b w h rest → headOf b ≡ h
-  screenable-head h rest s = let p = →passed h rest s in head-of b h (p .next) (p .read)
+  screenable-head h rest s = read-head-of b h (→passed h rest s .head)

@@ -1,4 +1,4 @@
-// Screening a word: the first step that a bundle's net refuses. The contracts cite specs/Screening.antt.
+// Screening a word: the first step that a bundle's net refuses, or two nets joined. The contracts cite specs/Screening.antt.
 use bundles::Head;
 use bundles::HeadRead;
 use limits::MAX_WORD_EVENTS;
@@ -7,6 +7,7 @@ use nets::covers;
 use nets::first_bad;
 use nets::shortfall;
 use nets::surplus;
+use refusals::EVENT_COUNTS;
 use refusals::Refusal;
 use refusals::WORD_EVENT;
 use refusals::WORD_LENGTH;
@@ -17,16 +18,16 @@ ghost use lib.IntN.{pos, _+ℤ_};
 ghost use lib.ListN.{length, take};
 ghost use Rattle.limits.specs.Limits.{MAX-EVENTS, MAX-PLACES, MAX-WORD-EVENTS};
 ghost use Rattle.refusals.specs.Answers.{refusal};
-ghost use Rattle.nets.specs.Nets.{Net, screen as screenWord};
+ghost use Rattle.nets.specs.Nets.{Net, join, screen as screenWord};
 ghost use Rattle.nets.specs.Machine.{placeOf, Held};
 ghost use Rattle.bundles.specs.Readers.{bundleHead, eventsIn, netIn};
 ghost use Rattle.bundles.specs.HeadReading.{headRead};
 ghost use Rattle.bundles.specs.PlaceReading.{placeSize, placeOn};
-ghost use Rattle.screening.specs.Screening.{replayed, screened};
+ghost use Rattle.screening.specs.Screening.{replayed, screened, screenedJoined};
 ghost use Rattle.screening.specs.Positions.{Best};
 ghost use Rattle.screening.specs.Replay.{stopOf};
 ghost use Rattle.screening.specs.Searching.{WordOver, Searchable, netAt, firstOf};
-ghost use Rattle.screening.specs.ScreenLaws.{answerOn};
+ghost use Rattle.screening.specs.ScreenLaws.{foundIn};
 
 // The first refused step: its position, the lowest place that refuses it, and how many tokens that place lacks there, at least 1.
 // The search carries the same from place to place; a word that no place so far refuses has its length for a position, and no shortfall.
@@ -187,28 +188,75 @@ fn search_places(bundle: &[u8], head: Head, word: &[u8], before: usize, from: St
     stop_at(last.position, before + paired, last.shortfall)
 }
 
-// The replay of a word on the places of a bundle.
-fn screen_places(bundle: &[u8], head: Head, word: &[u8]) -> Screened
-    requires { ⌜ Searchable (now bundle) head (now word) ⌝ }
-    ensures { λ r. ⌜ r ≡ replayed (screenWord (eventsIn (now (bundle .entry))) (netIn (now (bundle .entry))) (now (word .entry))) ⌝ }
+// The answer of a search in a word of so many events.
+fn answer_of(found: Stop, events: usize) -> Screened
+    ensures { λ r. ⌜ r ≡ foundIn events found ⌝ }
 {
-    let found = search_places(bundle, head, word, 0, stop_at(word.len(), 0, 0));
-    if found.position < word.len() {
+    if found.position < events {
         return Screened::Stopped(found);
     }
     Screened::Permitted
 }
 
+// The replay of a word on the places of a bundle.
+fn screen_places(bundle: &[u8], head: Head, word: &[u8]) -> Screened
+    requires { ⌜ Searchable (now bundle) head (now word) ⌝ }
+    ensures { λ r. ⌜ r ≡ replayed (screenWord (eventsIn (now (bundle .entry))) (netIn (now (bundle .entry))) (now (word .entry))) ⌝ }
+{
+    let none = stop_at(word.len(), 0, 0);
+    let found = search_places(bundle, head, word, 0, none);
+    answer_of(found, word.len())
+}
+
+// The replay of a word on the places of two bundles: the search goes on in the second from what it found in the first.
+fn screen_both(first: &[u8], one: Head, second: &[u8], two: Head, word: &[u8]) -> Screened
+    requires { ⌜ Searchable (now first) one (now word) ⌝ }
+    requires { ⌜ Searchable (now second) two (now word) × (one .n ≡ two .n) ⌝ }
+    ensures { λ r. ⌜ r ≡ replayed (screenWord (eventsIn (now (first .entry))) (join (netIn (now (first .entry))) (netIn (now (second .entry)))) (now (word .entry))) ⌝ }
+{
+    let none = stop_at(word.len(), 0, 0);
+    let from = search_places(first, one, word, 0, none);
+    let found = search_places(second, two, word, one.places.count, from);
+    answer_of(found, word.len())
+}
+
 // A word with a head that was read: 15 over the whole word, then the replay.
 fn screen_word(bundle: &[u8], head: Head, word: &[u8]) -> Screened
     requires { ⌜ (headRead (bundleHead (now bundle) 0) ≡ HeadRead.Read head) × (length (now word) ≤ MAX-WORD-EVENTS) ⌝ }
-    ensures { λ r. ⌜ r ≡ answerOn (now (word .entry)) (now (bundle .entry)) (bundleHead (now (bundle .entry)) 0) ⌝ }
+    ensures { λ r. ⌜ r ≡ screened (now (bundle .entry)) (now (word .entry)) ⌝ }
 {
     let bad = first_bad(word, head.n);
     if bad < word.len() {
         return refused(WORD_EVENT, bad);
     }
     screen_places(bundle, head, word)
+}
+
+// A word with two heads that were read: 19, then 15, then the replay.
+fn screen_heads(first: &[u8], one: Head, second: &[u8], two: Head, word: &[u8]) -> Screened
+    requires { ⌜ (headRead (bundleHead (now first) 0) ≡ HeadRead.Read one) × (length (now word) ≤ MAX-WORD-EVENTS) ⌝ }
+    requires { ⌜ headRead (bundleHead (now second) 0) ≡ HeadRead.Read two ⌝ }
+    ensures { λ r. ⌜ r ≡ screenedJoined (now (first .entry)) (now (second .entry)) (now (word .entry)) ⌝ }
+{
+    if one.n != two.n {
+        return refused(EVENT_COUNTS, 0);
+    }
+    let bad = first_bad(word, one.n);
+    if bad < word.len() {
+        return refused(WORD_EVENT, bad);
+    }
+    screen_both(first, one, second, two, word)
+}
+
+// A word with the first of two heads: the second bundle's refusals, then what follows them.
+fn screen_second(first: &[u8], one: Head, second: &[u8], word: &[u8]) -> Screened
+    requires { ⌜ (headRead (bundleHead (now first) 0) ≡ HeadRead.Read one) × (length (now word) ≤ MAX-WORD-EVENTS) ⌝ }
+    ensures { λ r. ⌜ r ≡ screenedJoined (now (first .entry)) (now (second .entry)) (now (word .entry)) ⌝ }
+{
+    match bundles::read_head(second) {
+        HeadRead::Refused(refusal) => Screened::Refused(refusal),
+        HeadRead::Read(two) => screen_heads(first, one, second, two, word),
+    }
 }
 
 // Screens a word with a bundle, which is read up to its last place and need not be accepted.
@@ -222,5 +270,19 @@ pub fn screen(bundle: &[u8], word: &[u8]) -> Screened
     match bundles::read_head(bundle) {
         HeadRead::Refused(refusal) => Screened::Refused(refusal),
         HeadRead::Read(head) => screen_word(bundle, head, word),
+    }
+}
+
+// Screens a word with the places of two bundles over the same events, those of the first one first; the places of the second are numbered behind
+// them. Refuses with 14, then with the first bundle's 4, 6, 7 and 8, the second's, then with 19, then with 15.
+pub fn screen_joined(first: &[u8], second: &[u8], word: &[u8]) -> Screened
+    ensures { λ r. ⌜ r ≡ screenedJoined (now (first .entry)) (now (second .entry)) (now (word .entry)) ⌝ }
+{
+    if MAX_WORD_EVENTS < word.len() {
+        return refused(WORD_LENGTH, MAX_WORD_EVENTS);
+    }
+    match bundles::read_head(first) {
+        HeadRead::Refused(refusal) => Screened::Refused(refusal),
+        HeadRead::Read(one) => screen_second(first, one, second, word),
     }
 }

@@ -1,13 +1,12 @@
-//! The calls that are timed. A further one is a further entry in [`on_files`],
-//! [`on_logs`], [`on_bundles`], [`on_sealed_bundles`] or [`on_words`].
+//! The calls that are timed, but for those of [`crate::words`]. A further one is a further
+//! entry in [`on_files`], [`on_logs`], [`on_bundles`] or [`on_sealed_bundles`].
 
-use differential::bundles::{Bundle, Place, MAX_PLACES, SAMPLE_A};
+use differential::bundles::SAMPLE_A;
 use differential::limits::{Size, LARGEST, MIDDLE};
 use differential::rng::Rng;
-use differential::screening::net;
 use hovmekhar::{
-    Summary, CONTENTS_SIZE, MAX_BLOCKS, MAX_BUNDLE_SIZE, MAX_EVENTS, MAX_FILE_SIZE, MAX_LOG_EVENTS,
-    MAX_ROWS, MAX_WORD_EVENTS, TABLE_SIZE,
+    Summary, CONTENTS_SIZE, MAX_BLOCKS, MAX_BUNDLE_SIZE, MAX_FILE_SIZE, MAX_LOG_EVENTS, MAX_ROWS,
+    TABLE_SIZE,
 };
 use std::hint::black_box;
 
@@ -134,40 +133,6 @@ pub fn on_sealed_bundles() -> Vec<Call<Sealed, u16>> {
             prepare: || with_table(sealed(&bundle_of(LARGEST))),
             ours: judge_file_ours,
             reference: judge_file_reference,
-        },
-    ]
-}
-
-/// Screening of words that are permitted, and of words that are stopped.
-pub fn on_words() -> Vec<Call<Screening, u8>> {
-    vec![
-        Call {
-            name: "screen",
-            size: "2 places, 2 events",
-            prepare: || without_output(sample_word()),
-            ours: screen_ours,
-            reference: screen_reference,
-        },
-        Call {
-            name: "screen",
-            size: "64 places, 65,535 events",
-            prepare: || without_output(longest_word()),
-            ours: screen_ours,
-            reference: screen_reference,
-        },
-        Call {
-            name: "screen",
-            size: "2 places, 3 events, stopped",
-            prepare: || without_output(sample_stop()),
-            ours: screen_ours,
-            reference: screen_reference,
-        },
-        Call {
-            name: "screen",
-            size: "64 places, 65,535 events, stopped",
-            prepare: || without_output(longest_stop()),
-            ours: screen_ours,
-            reference: screen_reference,
         },
     ]
 }
@@ -326,104 +291,4 @@ fn judge_file_reference(buffers: &mut Buffers<Sealed, u16>) -> Option<usize> {
     let table = black_box(&mut buffers.output);
     let counts = reference::judge_file(black_box(file), black_box(bundle), table).ok()?;
     Some(counts.rows + counts.allowed + counts.by_place + counts.by_weights)
-}
-
-/// A bundle, and a word to screen with it.
-pub struct Screening {
-    bundle: Vec<u8>,
-    word: Vec<u8>,
-}
-
-/// Screens, and returns how many events there are, or the sum of what is told of a
-/// stop.
-fn screen_ours(buffers: &mut Buffers<Screening, u8>) -> Option<usize> {
-    let Screening { bundle, word } = &buffers.input;
-    let screened = hovmekhar::screen(black_box(bundle), black_box(word)).ok()?;
-    Some(match screened {
-        hovmekhar::Screened::Permitted => word.len(),
-        hovmekhar::Screened::Stopped {
-            position,
-            place,
-            shortfall,
-        } => position + place + shortfall,
-    })
-}
-
-fn screen_reference(buffers: &mut Buffers<Screening, u8>) -> Option<usize> {
-    let Screening { bundle, word } = &buffers.input;
-    let screened = reference::screen(black_box(bundle), black_box(word)).ok()?;
-    Some(match screened {
-        reference::Screened::Permitted => word.len(),
-        reference::Screened::Stopped {
-            position,
-            place,
-            shortfall,
-        } => position + place + shortfall,
-    })
-}
-
-/// An input of a call that only reads.
-fn without_output<I>(input: I) -> Buffers<I, u8> {
-    Buffers {
-        input,
-        output: Vec::new(),
-    }
-}
-
-/// Sample B.
-fn sample_word() -> Screening {
-    Screening {
-        bundle: SAMPLE_A.to_vec(),
-        word: vec![0, 1],
-    }
-}
-
-/// Sample D: the last place refuses the last event.
-fn sample_stop() -> Screening {
-    Screening {
-        bundle: SAMPLE_A.to_vec(),
-        word: vec![0, 0, 0],
-    }
-}
-
-/// The longest word on the largest net, which permits it.
-fn longest_word() -> Screening {
-    longest_on(largest_net())
-}
-
-/// The same, but the last place refuses the last event.
-fn longest_stop() -> Screening {
-    let mut net = largest_net();
-    net.places[MAX_PLACES - 1] = Place {
-        m: MAX_WORD_EVENTS as u16 - 1,
-        ins: vec![0; net.n],
-        outs: vec![1; net.n],
-    };
-    longest_on(net)
-}
-
-/// As many places and events as there can be. An event puts as many tokens into a
-/// place as it takes out, or one more.
-fn largest_net() -> Bundle {
-    let n = MAX_EVENTS;
-    let place = |number: usize| {
-        let outs: Vec<u16> = (0..n).map(|e| ((e * 7 + number) % 5) as u16).collect();
-        let ins = (0..n).map(|e| outs[e] + u16::from((e + number) % 8 == 0));
-        Place {
-            m: 1_000,
-            ins: ins.collect(),
-            outs: outs.clone(),
-        }
-    };
-    net(n, (0..MAX_PLACES).map(place).collect())
-}
-
-/// The longest word, on a net.
-fn longest_on(net: Bundle) -> Screening {
-    Screening {
-        bundle: net.bytes(),
-        word: (0..MAX_WORD_EVENTS)
-            .map(|i| (i * 167 % 251 % net.n) as u8)
-            .collect(),
-    }
 }

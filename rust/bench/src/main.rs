@@ -7,6 +7,7 @@
 
 mod calls;
 mod timing;
+mod words;
 
 use calls::Call;
 use timing::ROUNDS;
@@ -20,7 +21,7 @@ fn main() {
     println!("The ratio is ours / reference; below 1 ours is faster.");
     println!();
     println!(
-        "{:<10} {:<33} {:>10} {:>10} {:>6}",
+        "{:<13} {:<38} {:>10} {:>10} {:>6}",
         "call", "size", "ours", "reference", "ratio"
     );
     for call in calls::on_files() {
@@ -35,7 +36,10 @@ fn main() {
     for call in calls::on_sealed_bundles() {
         print(&call);
     }
-    for call in calls::on_words() {
+    for call in words::on_one_net() {
+        print(&call);
+    }
+    for call in words::on_two_nets() {
         print(&call);
     }
 }
@@ -44,7 +48,7 @@ fn main() {
 fn print<I, T: Default + Clone + PartialEq>(call: &Call<I, T>) {
     let (ours, reference) = timing::compare(call);
     println!(
-        "{:<10} {:<33} {ours:>10.1} {reference:>10.1} {:>6.2}",
+        "{:<13} {:<38} {ours:>10.1} {reference:>10.1} {:>6.2}",
         call.name,
         call.size,
         ours / reference

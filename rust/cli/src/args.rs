@@ -18,8 +18,10 @@ pub enum Request {
     },
     /// Whether a net permits a word.
     Screen {
-        /// The file of the net.
+        /// The file of the net; `-` for it or for the other one, not for both.
         file: OsString,
+        /// The file of a net that is joined to it.
+        with: Option<OsString>,
         /// The events of the word; 255 stands for every higher number.
         word: Vec<u8>,
     },
@@ -88,7 +90,7 @@ impl Command {
     fn usage(self) -> &'static str {
         match self {
             Self::Judge => "hov judge FILE...",
-            Self::Screen => "hov screen FILE EVENT...",
+            Self::Screen => "hov screen FILE [--with FILE2] EVENT...",
             Self::Seal => "hov seal IN OUT",
             Self::Unseal => "hov unseal IN OUT",
             Self::Show => "hov show FILE [--certificate N]",
@@ -129,6 +131,7 @@ pub fn parse(mut arguments: impl Iterator<Item = OsString>) -> Result<Request, U
 struct Split {
     operands: Vec<OsString>,
     certificate: Option<usize>,
+    with: Option<OsString>,
 }
 
 fn parse_command(
@@ -138,13 +141,14 @@ fn parse_command(
     let Some(Split {
         operands,
         certificate,
+        with,
     }) = split(command, arguments)?
     else {
         return Ok(Request::Help);
     };
     match command {
         Command::Judge => judge(operands),
-        Command::Screen => screen(operands),
+        Command::Screen => screen(operands, with),
         Command::Seal => {
             let [input, output] = exactly(command, operands)?;
             Ok(Request::Seal { input, output })
@@ -167,6 +171,7 @@ fn split(
 ) -> Result<Option<Split>, Usage> {
     let mut operands = Vec::new();
     let mut certificate = None;
+    let mut with = None;
     while let Some(argument) = arguments.next() {
         let is_option = argument.as_encoded_bytes().starts_with(b"-") && argument != "-";
         match (argument.to_str(), command) {
@@ -175,6 +180,11 @@ fn split(
             (Some("--help" | "-h"), _) => return Ok(None),
             (Some("--certificate"), Command::Show) if certificate.is_none() => {
                 certificate = Some(certificate_number(arguments.next())?);
+            }
+            (Some("--with"), Command::Screen) if with.is_none() => {
+                let file = arguments.next();
+                let missing = || command.wrong("no file behind '--with'".into());
+                with = Some(file.ok_or_else(missing)?);
             }
             _ => {
                 let problem = format!("no such option here: '{}'", shown(&argument));
@@ -185,6 +195,7 @@ fn split(
     Ok(Some(Split {
         operands,
         certificate,
+        with,
     }))
 }
 
@@ -202,17 +213,27 @@ fn judge(files: Vec<OsString>) -> Result<Request, Usage> {
     if files.is_empty() {
         return Err(Command::Judge.wrong("no file".into()));
     }
-    if files.iter().filter(|&name| name == "-").count() > 1 {
-        let problem = "standard input is read once, but '-' is there twice";
-        return Err(Command::Judge.wrong(problem.into()));
-    }
+    one_standard_input(Command::Judge, &files)?;
     Ok(Request::Judge { files })
 }
 
-fn screen(operands: Vec<OsString>) -> Result<Request, Usage> {
+fn one_standard_input<'f>(
+    command: Command,
+    files: impl IntoIterator<Item = &'f OsString>,
+) -> Result<(), Usage> {
+    let inputs = files.into_iter().filter(|&name| name == "-");
+    if inputs.count() > 1 {
+        let problem = "standard input is read once, but '-' is there twice";
+        return Err(command.wrong(problem.into()));
+    }
+    Ok(())
+}
+
+fn screen(operands: Vec<OsString>, with: Option<OsString>) -> Result<Request, Usage> {
     let mut operands = operands.into_iter();
     let file = operands.next();
     let file = file.ok_or_else(|| Command::Screen.wrong("no file".into()))?;
+    one_standard_input(Command::Screen, [&file].into_iter().chain(&with))?;
     let event = |argument: OsString| {
         let wrong = || {
             let problem = format!("no event of 1 to 20 digits: '{}'", shown(&argument));
@@ -221,7 +242,7 @@ fn screen(operands: Vec<OsString>) -> Result<Request, Usage> {
         event(&argument).ok_or_else(wrong)
     };
     let word = operands.map(event).collect::<Result<Vec<u8>, Usage>>()?;
-    Ok(Request::Screen { file, word })
+    Ok(Request::Screen { file, with, word })
 }
 
 /// The number of an event. Above 255 it is cut, which changes no answer, since no

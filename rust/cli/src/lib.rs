@@ -47,7 +47,10 @@ fn answer(request: Request) -> Result<Status, Trouble> {
             output::print(line.as_bytes()).map(|()| Status::Good)
         }
         Request::Judge { files } => judge::judge(&files),
-        Request::Screen { file, word } => screen::screen(&file, &word),
+        Request::Screen { file, with, word } => match with {
+            None => screen::screen(&file, &word),
+            Some(with) => screen::screen_joined(&file, &with, &word),
+        },
         Request::Seal { input, output } => sealing::seal(&input, &output),
         Request::Unseal { input, output } => sealing::unseal(&input, &output),
         Request::Show { file, certificate } => show::show(&file, certificate),

@@ -8,7 +8,7 @@ use differential::run::Run;
 use differential::screening::{any_net, Kind, MAX_WORD_EVENTS};
 use reference::Screened;
 use std::fs::{self, File};
-use support::{command, directory, hov, hov_unread, hov_with, refused, Done};
+use support::{command, directory, hov, hov_unread, hov_with, refused, stopped, Done};
 
 const A: &str = "samples/a.sealed";
 
@@ -178,17 +178,12 @@ fn owed(run: &mut Run, bundle: &[u8], word: &[u8], name: &str) -> Done {
             place,
             shortfall,
         }) => {
-            let missing = if shortfall == 1 {
-                run.note("1 token missing");
-                "1 token missing".to_string()
-            } else {
-                run.note("several tokens missing");
-                format!("{shortfall} tokens missing")
-            };
-            let event = word[position];
-            let numbers = format!("{position} {place} {shortfall}");
-            let step = format!("event {event} at position {position}, refused by place {place}");
-            Done::new(1, &format!("stopped {numbers}: {step}; {missing}\n"), "")
+            run.note(match shortfall {
+                1 => "1 token missing",
+                _ => "several tokens missing",
+            });
+            let line = stopped(word, [position, place, shortfall], "");
+            Done::new(1, &line, "")
         }
         Err(refusal) => {
             run.count(refusal.number);

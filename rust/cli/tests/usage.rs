@@ -24,6 +24,7 @@ fn help() {
         "Status: 0 ",
         "too: judge first",
         "--certificate N",
+        "--with FILE2",
         "'--' ends",
     ] {
         assert!(help.output.contains(words), "{words}");
@@ -76,7 +77,7 @@ fn wrong_commands() -> Wrong {
 
 fn wrong_files() -> Wrong {
     let judge = "hov judge FILE...";
-    let screen = "hov screen FILE EVENT...";
+    let screen = "hov screen FILE [--with FILE2] EVENT...";
     let mut all = vec![
         (vec!["judge"], judge),
         (vec!["judge", "--"], judge),
@@ -88,6 +89,17 @@ fn wrong_files() -> Wrong {
         (vec!["screen", "-x", "0"], screen),
         (vec!["screen", "-", "-1"], screen),
         (vec!["screen", "-", "--", "-1"], screen),
+        (vec!["screen", "--with"], screen),
+        (vec!["screen", "--with", "-"], screen),
+        (vec!["screen", "-", "--with"], screen),
+        (vec!["screen", "-", "0", "--with"], screen),
+        (vec!["screen", "-", "--with", "-", "0"], screen),
+        (vec!["screen", "--with", "-", "--", "-", "0"], screen),
+        (vec!["screen", "-", "--with", "a", "--with", "b"], screen),
+        (vec!["screen", "-", "--with=a", "0"], screen),
+        (vec!["screen", "-", "--with", "a", "x"], screen),
+        (vec!["screen", "-", "--", "0", "--with", "a"], screen),
+        (vec!["judge", "-", "--with", "a"], judge),
     ];
     for (seal, usage) in [("seal", "hov seal IN OUT"), ("unseal", "hov unseal IN OUT")] {
         all.push((vec![seal], usage));

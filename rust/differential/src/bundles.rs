@@ -222,6 +222,13 @@ pub const SAMPLE_G: [u8; 7] = [1, 0, 0, 1, 1, 0, 0];
 /// Sample H: the same with k = 0.
 pub const SAMPLE_H: [u8; 7] = [1, 0, 0, 1, 0, 0, 0];
 
+/// Five words of 255 events 0, of `n` events. With the last the events pass 1,024, so it is
+/// refused with 8 at offset 2 + 4 × 256.
+pub fn five_long_words(n: u8) -> Vec<u8> {
+    let word = [[255].as_slice(), &[0; 255]].concat();
+    [vec![n, 5], word.repeat(5)].concat()
+}
+
 /// A bundle for each answer of the judge that does not depend on the table.
 pub fn one_for_each_answer() -> [(Vec<u8>, Outcome<Tally>); 10] {
     let changed = |position: usize, value| {
@@ -241,11 +248,7 @@ pub fn one_for_each_answer() -> [(Vec<u8>, Outcome<Tally>); 10] {
         (Vec::new(), refusal(4, 0)),
         (SAMPLE_F.to_vec(), refusal(6, 3)),
         (SAMPLE_H.to_vec(), refusal(7, 4)),
-        // Five words of 255 events.
-        (
-            [vec![1, 5], long_word.repeat(5)].concat(),
-            refusal(8, 2 + 4 * 256),
-        ),
+        (five_long_words(1), refusal(8, 2 + 4 * 256)),
         // A word of 255 events 0, which needs all rows, and the word 1.
         (
             [vec![2, 2], long_word, vec![1, 1]].concat(),

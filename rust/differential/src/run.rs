@@ -3,7 +3,7 @@
 use crate::guarded::Guarded;
 use crate::logs::{ROW, TABLE};
 use crate::rng::{Item, Rng};
-use hovmekhar::ffi;
+use hovmekhar::{ffi, Kind};
 use reference::{Refusal, Screened, Summary, Tally};
 use std::collections::BTreeMap;
 use std::time::{SystemTime, UNIX_EPOCH};
@@ -123,6 +123,9 @@ impl Written {
     }
 }
 
+/// How many numbers there are: those of the refusals, and 0.
+const NUMBERS: usize = 1 + Kind::ALL.len();
+
 /// The run of one test: its random numbers and its counts. As text it says how
 /// to repeat the run, for the messages of assertions.
 pub struct Run {
@@ -133,7 +136,7 @@ pub struct Run {
     multiplier: usize,
     calls: usize,
     /// How often each number was returned; 0 stands for a result.
-    counts: [usize; 19],
+    counts: [usize; NUMBERS],
     /// How often the test noted each class of cases.
     classes: BTreeMap<&'static str, usize>,
 }
@@ -154,7 +157,7 @@ impl Run {
             seed,
             multiplier,
             calls: 0,
-            counts: [0; 19],
+            counts: [0; NUMBERS],
             classes: BTreeMap::new(),
         }
     }
@@ -281,6 +284,25 @@ impl Run {
             Written::screened,
             nothing,
         );
+        self.note_screened(outcome)
+    }
+
+    /// Screens a word on two nets on both sides and compares, and notes as
+    /// [`Run::screen`] does.
+    pub fn screen_joined(&mut self, first: &[u8], second: &[u8], word: &[u8]) -> Outcome<Screened> {
+        let no_output: Vec<u8> = Vec::new();
+        let (outcome, _) = self.compare(
+            [first, second, word],
+            no_output,
+            |[first, second, word], _, answer| ffi::screen_joined(first, second, word, answer),
+            |[first, second, word], _| reference::screen_joined(first, second, word),
+            Written::screened,
+            nothing,
+        );
+        self.note_screened(outcome)
+    }
+
+    fn note_screened(&mut self, outcome: Outcome<Screened>) -> Outcome<Screened> {
         match outcome {
             Ok(Screened::Permitted) => self.note("permitted"),
             Ok(Screened::Stopped { .. }) => self.note("stopped"),

@@ -7,7 +7,7 @@ use crate::fields::Fields;
 use crate::files::MAX_BUNDLE_SIZE;
 use crate::logs::random_word;
 use crate::nets::small_log;
-use crate::places::{first_refused, Refused};
+use crate::places::{self, first_refused, Refused};
 use crate::rng::Rng;
 use crate::run::{refusal, Outcome, Run};
 use reference::Screened;
@@ -26,9 +26,32 @@ pub fn stopped(position: usize, place: usize, shortfall: usize) -> Outcome<Scree
 
 /// Screens a word by the definitions.
 pub fn screen_by_definitions(bundle: &[u8], word: &[u8]) -> Outcome<Screened> {
+    check_length(word)?;
+    let (n, places) = read_net(bundle)?;
+    replay(n, &places, word)
+}
+
+/// Screens a word on two nets by the definitions: with one list of all places.
+pub fn screen_joined_by_definitions(first: &[u8], second: &[u8], word: &[u8]) -> Outcome<Screened> {
+    check_length(word)?;
+    let (n, mut places) = read_net(first)?;
+    let (other_n, others) = read_net(second)?;
+    if n != other_n {
+        return refusal(19, 0);
+    }
+    places.extend(others);
+    replay(n, &places, word)
+}
+
+fn check_length(word: &[u8]) -> Outcome<()> {
     if word.len() > MAX_WORD_EVENTS {
         return refusal(14, MAX_WORD_EVENTS);
     }
+    Ok(())
+}
+
+/// The event count and the places of a bundle.
+fn read_net(bundle: &[u8]) -> Outcome<(usize, Vec<places::Place>)> {
     if bundle.is_empty() || bundle.len() > MAX_BUNDLE_SIZE {
         return refusal(4, 0);
     }
@@ -36,11 +59,14 @@ pub fn screen_by_definitions(bundle: &[u8], word: &[u8]) -> Outcome<Screened> {
     let n = fields.within(1, 1, 12)?;
     // Rows are not counted.
     fields.words(n, usize::MAX)?;
-    let places = fields.places(n)?;
+    Ok((n, fields.places(n)?))
+}
+
+fn replay(n: usize, places: &[places::Place], word: &[u8]) -> Outcome<Screened> {
     if let Some(position) = word.iter().position(|&event| usize::from(event) >= n) {
         return refusal(15, position);
     }
-    match first_refused(n, &places, word) {
+    match first_refused(n, places, word) {
         None => Ok(Screened::Permitted),
         Some(Refused {
             position,
@@ -55,6 +81,14 @@ pub fn screen(run: &mut Run, bundle: &[u8], word: &[u8]) -> Outcome<Screened> {
     let outcome = run.screen(bundle, word);
     let expected = screen_by_definitions(bundle, word);
     assert_eq!(outcome, expected, "{bundle:?}, {word:?}, {run}");
+    outcome
+}
+
+/// Screens a word on two nets on both sides, and checks the answer by the definitions.
+pub fn screen_joined(run: &mut Run, first: &[u8], second: &[u8], word: &[u8]) -> Outcome<Screened> {
+    let outcome = run.screen_joined(first, second, word);
+    let expected = screen_joined_by_definitions(first, second, word);
+    assert_eq!(outcome, expected, "{first:?}, {second:?}, {word:?}, {run}");
     outcome
 }
 
@@ -115,6 +149,10 @@ impl Kind {
     }
 }
 
+/// A bundle over two events with a place that event 0 puts a token into and event 1 takes
+/// one out of: event 1 occurs at most as often as event 0 before it.
+pub const ONE_FOLLOWS: [u8; 13] = [2, 0, 1, 0, 0, 1, 0, 0, 0, 0, 0, 1, 0];
+
 /// A bundle without words and certificates.
 pub fn net(n: usize, places: Vec<Place>) -> Bundle {
     Bundle {
@@ -131,20 +169,39 @@ pub fn any_net(rng: &mut Rng) -> (Bundle, Vec<u8>) {
     let (n, words) = small_log(rng);
     let longest = rng.choose(&[5, 50, 500]);
     let word = random_word(rng, n, 1..=longest);
-    let count = rng.choose(&[0, 1, 1, 2, 3, 8, MAX_PLACES]);
-    let places = (0..count)
-        .map(|_| {
-            let end = rng.within(word.len() / 2..=word.len());
-            any_place(rng, n, &word[..end])
-        })
-        .collect();
+    let places = any_places(rng, n, &word);
     let bundle = Bundle {
-        n,
         words,
-        places,
-        certificates: Vec::new(),
+        ..net(n, places)
     };
     (bundle, word)
+}
+
+/// Two bundles over the same events, like those of [`any_net`]; and a word.
+pub fn two_nets(rng: &mut Rng) -> (Bundle, Bundle, Vec<u8>) {
+    let (first, word) = any_net(rng);
+    let n = first.n;
+    let words = match rng.below(3) {
+        0 => Vec::new(),
+        // Two modellers share one log.
+        1 => first.words.clone(),
+        _ => vec![random_word(rng, n, 0..=20)],
+    };
+    let places = any_places(rng, n, &word);
+    let second = Bundle {
+        words,
+        ..net(n, places)
+    };
+    (first, second, word)
+}
+
+fn any_places(rng: &mut Rng, n: usize, word: &[u8]) -> Vec<Place> {
+    let count = rng.choose(&[0, 1, 1, 2, 3, 8, MAX_PLACES]);
+    let place = |_| {
+        let end = rng.within(word.len() / 2..=word.len());
+        any_place(rng, n, &word[..end])
+    };
+    (0..count).map(place).collect()
 }
 
 /// A place with the fewest initial tokens with which it permits a word, or as many

@@ -1,8 +1,8 @@
 //! Cases with their answers, from a file.
 //!
-//! A line is `judge FILE = ANSWER`, `screen BUNDLE WORD = ANSWER` or
-//! `log N WORD.. = ANSWER`, with bytes in hexadecimal, or a comment that starts with
-//! `#`. No bytes are written as `-`.
+//! A line is `judge FILE = ANSWER`, `screen BUNDLE WORD = ANSWER`,
+//! `screen_joined FIRST SECOND WORD = ANSWER` or `log N WORD.. = ANSWER`, with bytes in
+//! hexadecimal, or a comment that starts with `#`. No bytes are written as `-`.
 
 use crate::run::Outcome;
 use reference::{Refusal, Screened, Tally};
@@ -27,6 +27,19 @@ pub struct ScreenCase {
     pub line: String,
 }
 
+/// Two bundles and a word, and the answer in words.
+#[derive(Clone, Debug, PartialEq, Eq)]
+pub struct JoinedCase {
+    /// The bundle whose places stand in front.
+    pub first: Vec<u8>,
+    /// The other bundle.
+    pub second: Vec<u8>,
+    /// The word.
+    pub word: Vec<u8>,
+    /// The answer.
+    pub line: String,
+}
+
 /// The words of a log over `n` events, and what they leave in a fresh table.
 #[derive(Clone, Debug, PartialEq, Eq)]
 pub struct LogCase {
@@ -45,6 +58,8 @@ pub struct Cases {
     pub judge: Vec<JudgeCase>,
     /// Those for screening.
     pub screen: Vec<ScreenCase>,
+    /// Those for screening with two nets.
+    pub screen_joined: Vec<JoinedCase>,
     /// Those for the log table.
     pub log: Vec<LogCase>,
 }
@@ -66,6 +81,12 @@ pub fn read(text: &str) -> Cases {
             }),
             ["screen", bundle, word] => cases.screen.push(ScreenCase {
                 bundle: bytes(bundle),
+                word: bytes(word),
+                line: answer.to_string(),
+            }),
+            ["screen_joined", first, second, word] => cases.screen_joined.push(JoinedCase {
+                first: bytes(first),
+                second: bytes(second),
                 word: bytes(word),
                 line: answer.to_string(),
             }),

@@ -98,7 +98,19 @@ fn screening() {
          too many events: refused 8, 1026 7 7 7\n\
          long word: refused 14, 65535 7 7 7\n\
          longest word: stopped 256, 2 1 1 7\n\
-         wrong event: refused 15, 2 7 7 7\n"
+         wrong event: refused 15, 2 7 7 7\n\
+         joined: 0 1: permitted 0, 7 7 7 7\n\
+         joined, first: 0 0 0: stopped 256, 2 1 1 7\n\
+         joined, second: 0 1: stopped 256, 1 3 65535 7\n\
+         joined to itself: 1 0: stopped 256, 1 0 1 7\n\
+         joined, first empty: refused 4, 0 7 7 7\n\
+         joined, second cut: refused 6, 27 7 7 7\n\
+         joined, n = 0: refused 7, 0 7 7 7\n\
+         joined, too many events: refused 8, 1026 7 7 7\n\
+         joined, long word: refused 14, 65535 7 7 7\n\
+         joined, longest word: stopped 256, 2 1 1 7\n\
+         joined, wrong event: refused 15, 2 7 7 7\n\
+         joined, other events: refused 19, 0 7 7 7\n"
     );
 }
 
@@ -111,6 +123,7 @@ fn pages_around_the_buffers_are_not_touched() {
          2196 judged\n\
          4046 screened\n"
     );
+    assert_eq!(run("joined_pages"), "6240 screened on two nets\n");
 }
 
 /// The texts of the refusals are those of the Rust crate, and so is the version.
@@ -152,6 +165,7 @@ fn header_and_crate_agree() {
         ("HOV_WORD_EVENT", Refusal::WORD_EVENT),
         ("HOV_STATE_RANGE", Refusal::STATE_RANGE),
         ("HOV_BLOCK_NUMBER", Refusal::BLOCK_NUMBER),
+        ("HOV_BLOCK_USE", Refusal::BLOCK_USE),
     ] {
         assert!(
             has(&[name, "=", &format!("{number},")]),
@@ -160,9 +174,9 @@ fn header_and_crate_agree() {
     }
     // The last one of the enum, without a comma.
     assert!(has(&[
-        "HOV_BLOCK_USE",
+        "HOV_EVENT_COUNTS",
         "=",
-        &Refusal::BLOCK_USE.to_string()
+        &Refusal::EVENT_COUNTS.to_string()
     ]));
 
     for (name, size) in [

@@ -1,8 +1,8 @@
 //! Guards around every lent buffer, at every alignment.
 
-use differential::bundles::{one_for_each_answer, SAMPLE_A, SAMPLE_F};
+use differential::bundles::{five_long_words, one_for_each_answer, SAMPLE_A, SAMPLE_F};
 use differential::files::{build, bundle_length, BLOCK, CONTENTS};
-use differential::guarded::Guarded;
+use differential::guarded::{Guarded, ReadOnly};
 use differential::logs::TABLE;
 use differential::rng::Item;
 use differential::run::Run;
@@ -233,23 +233,13 @@ fn guards_of_judging_stay_as_they_were() {
     ]);
 }
 
-/// A bundle and a word, and what has to come of screening.
-struct Screening {
-    bundle: Vec<u8>,
-    word: Vec<u8>,
-    number: u32,
-    answered: Vec<u64>,
-}
-
 /// One for each answer that screening has, and one with the largest shortfall.
-fn screenings() -> [Screening; 10] {
-    let case = |bundle: &[u8], word: &[u8], number, answered: &[u64]| Screening {
-        bundle: bundle.to_vec(),
-        word: word.to_vec(),
+fn screenings() -> [ReadOnly<2>; 10] {
+    let case = |bundle: &[u8], word: &[u8], number, answered: &[u64]| ReadOnly {
+        inputs: [bundle.to_vec(), word.to_vec()],
         number,
         answered: answered.to_vec(),
     };
-    let five_words = [vec![1, 5], [vec![255], vec![0; 255]].concat().repeat(5)].concat();
     let takes_most = [1, 0, 1, 0, 0, 0, 0, 255, 255];
     [
         case(&SAMPLE_A, &[0, 1], 0, &[]),
@@ -259,38 +249,10 @@ fn screenings() -> [Screening; 10] {
         case(&[], &[1, 0], 4, &[0]),
         case(&SAMPLE_A[..28], &[1, 0], 6, &[27]),
         case(&[0, 0, 0], &[1, 0], 7, &[0]),
-        case(&five_words, &[1, 0], 8, &[2 + 4 * 256]),
+        case(&five_long_words(1), &[1, 0], 8, &[2 + 4 * 256]),
         case(&SAMPLE_A, &[0; MAX_WORD_EVENTS + 1], 14, &[65_535]),
         case(&SAMPLE_A, &[1, 0, 2], 15, &[2]),
     ]
-}
-
-/// Screens with guards of these lengths before bundle and word, and checks that
-/// nothing changed but the numbers to be answered.
-fn screen_between_guards(run: &mut Run, case: &Screening, bundle_front: usize, word_front: usize) {
-    let rng = &mut run.rng;
-    let bundle = Guarded::new(&rng.bytes(bundle_front), &case.bundle, &rng.bytes(100));
-    let word = Guarded::new(&rng.bytes(word_front), &case.word, &rng.bytes(100));
-    let mut answer = Guarded::new(
-        &rng.numbers::<4>(),
-        &rng.numbers::<4>(),
-        &rng.numbers::<4>(),
-    );
-    let four: &mut ffi::Answer = answer.lent_mut().try_into().expect("four numbers");
-    // A word that is stopped is a result.
-    run.count(u8::try_from(case.number).unwrap_or(0));
-    let number = ffi::screen(bundle.lent(), word.lent(), four);
-
-    let place = format!("bundle after {bundle_front}, word after {word_front}, {run}");
-    let answered = case.answered.len();
-    assert_eq!(number, case.number, "{place}");
-    assert_eq!(answer.lent()[..answered], case.answered, "{place}");
-    assert!(bundle.kept_beyond(0), "bundle or its guards: {place}");
-    assert!(word.kept_beyond(0), "word or its guards: {place}");
-    assert!(
-        answer.kept_beyond(answered),
-        "answer or its guards: {place}"
-    );
 }
 
 #[test]
@@ -301,8 +263,11 @@ fn guards_of_screening_stay_as_they_were() {
         for case in &cases {
             let this = ALIGNMENTS + alignment;
             let other = ALIGNMENTS + run.rng.below(ALIGNMENTS);
-            screen_between_guards(&mut run, case, this, other);
-            screen_between_guards(&mut run, case, other, this);
+            for fronts in [[this, other], [other, this]] {
+                case.between_guards(&mut run, fronts, |[bundle, word], answer| {
+                    ffi::screen(bundle, word, answer)
+                });
+            }
         }
     }
     // For each of 64 alignments each of the 10 cases twice.

@@ -1,12 +1,12 @@
 //! The cases of `tests/data`, answered by another implementation: opening and then
-//! judging, screening, and taking the words of a log, on both sides. The cases of a
-//! file are with the requests up to its number in force.
+//! judging, screening with one net or two, and taking the words of a log, on both
+//! sides. The cases of a file are with the requests up to its number in force.
 
 use differential::files::{BLOCK, MAX_BLOCKS, MAX_BUNDLE_SIZE};
 use differential::judging::judge;
 use differential::logs::{ROW, TABLE};
 use differential::run::{Outcome, Run};
-use differential::screening::screen;
+use differential::screening::{screen, screen_joined};
 use differential::vectors::{
     line, read, rows_line, screened_line, screened_line_without_shortfall,
 };
@@ -16,12 +16,13 @@ use reference::Screened;
 type File = (&'static str, fn(Outcome<Screened>) -> String);
 
 /// Screening tells the shortfall from request 2 on.
-const FILES: [File; 5] = [
+const FILES: [File; 6] = [
     (include_str!("data/01.txt"), screened_line_without_shortfall),
     (include_str!("data/02.txt"), screened_line),
     (include_str!("data/03.txt"), screened_line),
     (include_str!("data/04.txt"), screened_line),
     (include_str!("data/05.txt"), screened_line),
+    (include_str!("data/06.txt"), screened_line),
 ];
 
 #[test]
@@ -38,21 +39,22 @@ fn judged() {
             assert_eq!(line(answer), case.line, "{run}");
         }
     }
+    let opened = 110 + 105 + 112 + 103 + 107 + 113;
     run.finish(&[
         // Each file that is opened, and each bundle that is accepted.
-        (0, 110 + 61 + 105 + 53 + 112 + 52 + 103 + 53 + 107 + 42),
-        (1, 4 + 1 + 3 + 5 + 4),
+        (0, opened + 61 + 53 + 52 + 53 + 42 + 52),
+        (1, 4 + 1 + 3 + 5 + 4 + 3),
         (2, 1 + 1 + 2 + 3 + 1),
-        (6, 15 + 10 + 15 + 15 + 10),
-        (7, 8 + 7 + 9 + 9 + 13),
+        (6, 15 + 10 + 15 + 15 + 10 + 18),
+        (7, 8 + 7 + 9 + 9 + 13 + 9),
         (8, 1 + 1 + 1 + 1),
-        (9, 5 + 12 + 8 + 8 + 10),
-        (10, 5 + 8 + 10 + 7 + 9),
-        (11, 4 + 5 + 8 + 3 + 8),
+        (9, 5 + 12 + 8 + 8 + 10 + 11),
+        (10, 5 + 8 + 10 + 7 + 9 + 7),
+        (11, 4 + 5 + 8 + 3 + 8 + 9),
         (12, 1 + 1 + 2),
-        (13, 10 + 9 + 9 + 7 + 12),
-        (17, 6 + 3 + 2),
-        (18, 5 + 7 + 3 + 6 + 6),
+        (13, 10 + 9 + 9 + 7 + 12 + 7),
+        (17, 6 + 3 + 2 + 2),
+        (18, 5 + 7 + 3 + 6 + 6 + 2),
     ]);
 }
 
@@ -71,7 +73,7 @@ fn sealed_again() {
             }
         }
     }
-    run.finish(&[(0, 2 * (110 + 105 + 112 + 103 + 107))]);
+    run.finish(&[(0, 2 * (110 + 105 + 112 + 103 + 107 + 113))]);
 }
 
 #[test]
@@ -87,15 +89,34 @@ fn screened() {
     }
     run.finish_with_classes(
         &[
-            (0, 70 + 74 + 76 + 70 + 70),
-            (6, 2 + 3 + 5 + 4),
-            (7, 2 + 1 + 1 + 3),
-            (15, 6 + 2 + 3 + 2 + 6),
+            (0, 70 + 74 + 76 + 70 + 70 + 73),
+            (6, 2 + 3 + 5 + 4 + 3),
+            (7, 2 + 1 + 1 + 3 + 1),
+            (15, 6 + 2 + 3 + 2 + 6 + 3),
         ],
         &[
-            ("permitted", 32 + 30 + 37 + 28 + 36),
-            ("stopped", 38 + 44 + 39 + 42 + 34),
+            ("permitted", 32 + 30 + 37 + 28 + 36 + 30),
+            ("stopped", 38 + 44 + 39 + 42 + 34 + 43),
         ],
+    );
+}
+
+/// Two nets are joined from request 6 on.
+#[test]
+fn screened_on_two_nets() {
+    let mut run = Run::start("vectors::screened_on_two_nets");
+    let cases: Vec<_> = FILES
+        .iter()
+        .flat_map(|(text, _)| read(text).screen_joined)
+        .collect();
+    assert_eq!(cases.len(), 60);
+    for case in cases {
+        let answer = screen_joined(&mut run, &case.first, &case.second, &case.word);
+        assert_eq!(screened_line(answer), case.line, "{run}");
+    }
+    run.finish_with_classes(
+        &[(0, 47), (6, 3), (7, 1), (15, 3), (19, 6)],
+        &[("permitted", 15), ("stopped", 32)],
     );
 }
 
@@ -104,7 +125,7 @@ fn screened() {
 fn logs() {
     let mut run = Run::start("vectors::logs");
     let cases: Vec<_> = FILES.iter().flat_map(|(text, _)| read(text).log).collect();
-    assert_eq!(cases.len(), 40);
+    assert_eq!(cases.len(), 2 * 40);
     for case in cases {
         let fresh = run.fresh(case.n, &[9; TABLE]);
         let mut summary = fresh.outcome.expect("an allowed event count");
@@ -117,5 +138,5 @@ fn logs() {
         let rows = &table[..summary.rows * ROW];
         assert_eq!(rows_line(summary.rows, rows), case.line, "{run}");
     }
-    run.finish(&[(0, 40)]);
+    run.finish(&[(0, 2 * 40)]);
 }

@@ -6,8 +6,8 @@
 /// Where a call puts the numbers of its answer.
 pub type Answer = [u64; 4];
 
-/// What `hov_screen` returns for a word that is stopped; no refusal has this
-/// number.
+/// What `hov_screen` and `hov_screen_joined` return for a word that is stopped; no
+/// refusal has this number.
 pub const STOPPED: u32 = 256;
 
 unsafe extern "C" {
@@ -61,6 +61,16 @@ unsafe extern "C" {
     fn hov_screen(
         bundle: *const u8,
         bundle_len: usize,
+        word: *const u8,
+        word_len: usize,
+        answer: *mut u64,
+    ) -> u32;
+
+    fn hov_screen_joined(
+        first: *const u8,
+        first_len: usize,
+        second: *const u8,
+        second_len: usize,
         word: *const u8,
         word_len: usize,
         answer: *mut u64,
@@ -171,6 +181,22 @@ pub fn screen(bundle: &[u8], word: &[u8], answer: &mut Answer) -> u32 {
         hov_screen(
             bundle.as_ptr(),
             bundle.len(),
+            word.as_ptr(),
+            word.len(),
+            answer.as_mut_ptr(),
+        )
+    }
+}
+
+/// Calls `hov_screen_joined`.
+pub fn screen_joined(first: &[u8], second: &[u8], word: &[u8], answer: &mut Answer) -> u32 {
+    // SAFETY: As for `hov_screen`, with three inputs.
+    unsafe {
+        hov_screen_joined(
+            first.as_ptr(),
+            first.len(),
+            second.as_ptr(),
+            second.len(),
             word.as_ptr(),
             word.len(),
             answer.as_mut_ptr(),

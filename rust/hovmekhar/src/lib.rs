@@ -15,7 +15,8 @@
 //! [`judge`] accepts it when the net permits the log and every certificate holds;
 //! [`judge_file`] opens a file and judges its bundle.
 //! [`screen`] replays a word on the net of a bundle, and says where it is stopped
-//! and how many tokens were missing.
+//! and how many tokens were missing; [`screen_joined`] does so with the places of
+//! two bundles.
 //!
 //! A call that cannot give a result returns a [`Refusal`] and writes nothing; only
 //! [`judge`] clears the table, and so does [`judge_file`] for a bundle that it has
@@ -60,4 +61,4 @@ pub use blocks::{BLOCK_SIZE, CONTENTS_SIZE, MAX_BLOCKS, MAX_BUNDLE_SIZE, MAX_FIL
 pub use judging::{judge, judge_file, judge_file_vec, judge_vec, Tally, MAX_PLACES, MAX_TERMS};
 pub use logs::{Summary, MAX_EVENTS, MAX_LOG_EVENTS, MAX_ROWS, ROW_SIZE, TABLE_SIZE};
 pub use refusal::{Kind, Refusal};
-pub use screening::{screen, Screened, MAX_WORD_EVENTS};
+pub use screening::{screen, screen_joined, Screened, MAX_WORD_EVENTS};

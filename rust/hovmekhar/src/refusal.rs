@@ -57,6 +57,8 @@ pub enum Kind {
     BlockNumber = 17,
     /// [`Refusal::BLOCK_USE`]
     BlockUse = 18,
+    /// [`Refusal::EVENT_COUNTS`]
+    EventCounts = 19,
 }
 
 impl Kind {
@@ -80,6 +82,7 @@ impl Kind {
         Kind::StateRange,
         Kind::BlockNumber,
         Kind::BlockUse,
+        Kind::EventCounts,
     ];
 
     /// The refusal of a number, if one has it.
@@ -117,6 +120,7 @@ impl Kind {
             Kind::StateRange => "n is not 1 to 12, the rows are not 1 to 256, or the events are above 1,024",
             Kind::BlockNumber => "a block's number is not its position",
             Kind::BlockUse => "a block's used count is wrong, or an unused byte is not zero",
+            Kind::EventCounts => "the event counts of the two bundles are not the same",
         }
     }
 
@@ -149,6 +153,7 @@ impl Kind {
                 "the blocks came in the wrong order, or one is missing: have it sent again in order"
             }
             Kind::BlockUse => "it was cut short, or written by something else: have it sent again",
+            Kind::EventCounts => "the nets are not of one log: join only nets over the same events",
         }
     }
 }
@@ -171,7 +176,7 @@ impl fmt::Display for Kind {
 /// ```
 #[derive(Clone, Copy, Debug, PartialEq, Eq, Hash)]
 pub struct Refusal {
-    /// The number, 1 to 18.
+    /// The number, 1 to 19.
     pub number: u8,
     /// Where or how much, according to the number.
     pub spot: usize,
@@ -222,6 +227,8 @@ impl Refusal {
     /// The used count of the lowest faulty block is wrong, or an unused byte of it is
     /// not zero; its number is right. Spot: that block.
     pub const BLOCK_USE: u8 = Kind::BlockUse.number();
+    /// The event counts of two bundles that are joined are not the same. Spot: 0.
+    pub const EVENT_COUNTS: u8 = Kind::EventCounts.number();
 
     /// Which refusal it is; nothing for a number that is not in the table, which no
     /// call gives.
@@ -250,7 +257,7 @@ impl Refusal {
             return Ok(());
         }
         Err(Refusal {
-            // The refusal table ends at 18 and `usize` has 64 bits here, so both
+            // The refusal table ends at 19 and `usize` has 64 bits here, so both
             // conversions keep the value.
             number: number as u8,
             spot: answer[0] as usize,

@@ -4,8 +4,8 @@
 //! It is written from the product's rules alone and shares no code with the
 //! proved library, so that tests can compare the two. See [`open`] and [`seal`]
 //! for files, [`fresh`] and [`take`] for the log table, [`judge`] for bundles,
-//! [`judge_file`] for files with bundles, [`screen`] for a word. [`log_rows`] has
-//! the same rows without a table.
+//! [`judge_file`] for files with bundles, [`screen`] for a word, [`screen_joined`] for
+//! a word on two nets. [`log_rows`] has the same rows without a table.
 
 #![forbid(unsafe_code)]
 #![deny(missing_docs)]
@@ -21,7 +21,7 @@ mod tables;
 pub use blocks::{open, seal};
 pub use judging::{judge, judge_file, Tally};
 pub use logs::{log_rows, Row};
-pub use screening::{screen, Screened};
+pub use screening::{screen, screen_joined, Screened};
 pub use tables::{fresh, take, Summary};
 
 /// Why a call gave no result.

@@ -1,6 +1,7 @@
 //! Screening a word.
 //!
-//! A bundle is read up to its last place; then each place replays the word.
+//! A bundle is read up to its last place; then each place replays the word. The nets
+//! of two bundles are joined by replaying it on the places of both, in turn.
 
 use crate::blocks::MAX_BUNDLE_SIZE;
 use crate::places::Place;
@@ -35,25 +36,70 @@ pub enum Screened {
 /// of a field, 8 with the offset of a word's length. Else 15 with the first
 /// position of `word` whose event is not below the event count.
 pub fn screen(bundle: &[u8], word: &[u8]) -> Result<Screened, Refusal> {
+    check_length(word)?;
+    let net = Net::read(bundle)?;
+    check_events(net.n, word)?;
+    Ok(replay(&net.places, word))
+}
+
+/// Screens a word with the places of two bundles, those of the first in front. Those of
+/// the second are numbered on from there.
+///
+/// # Errors
+///
+/// 14 when the word is too long, else what is wrong with the first bundle as in
+/// [`screen`], else with the second. Else 19 when the event counts are not the same,
+/// and else 15 as in [`screen`].
+pub fn screen_joined(first: &[u8], second: &[u8], word: &[u8]) -> Result<Screened, Refusal> {
+    check_length(word)?;
+    let first = Net::read(first)?;
+    let second = Net::read(second)?;
+    if first.n != second.n {
+        return Err(Refusal {
+            number: 19,
+            spot: 0,
+        });
+    }
+    check_events(first.n, word)?;
+    Ok(replay(first.places.iter().chain(&second.places), word))
+}
+
+/// What screening needs of a bundle.
+struct Net {
+    n: u8,
+    places: Vec<Place<i64>>,
+}
+
+impl Net {
+    /// Reads a bundle up to its last place.
+    fn read(bundle: &[u8]) -> Result<Self, Refusal> {
+        if bundle.is_empty() || bundle.len() > MAX_BUNDLE_SIZE {
+            return Err(Refusal { number: 4, spot: 0 });
+        }
+        let mut reader = Reader::new(bundle);
+        let n = reader.byte(1..=MAX_EVENTS as u8)?;
+        // The words have to be sound, but are not needed.
+        reader.words(n, |_, _| Ok(()))?;
+        let places = Place::read_all(&mut reader, n)?;
+        Ok(Self { n, places })
+    }
+}
+
+fn check_length(word: &[u8]) -> Result<(), Refusal> {
     if word.len() > MAX_WORD_EVENTS {
         return Err(Refusal {
             number: 14,
             spot: MAX_WORD_EVENTS,
         });
     }
-    if bundle.is_empty() || bundle.len() > MAX_BUNDLE_SIZE {
-        return Err(Refusal { number: 4, spot: 0 });
-    }
+    Ok(())
+}
 
-    let mut reader = Reader::new(bundle);
-    let n = reader.byte(1..=MAX_EVENTS as u8)?;
-    // The words have to be sound, but are not needed.
-    reader.words(n, |_, _| Ok(()))?;
-    let places = Place::read_all(&mut reader, n)?;
-    if let Some(spot) = first_not_below(n, word) {
-        return Err(Refusal { number: 15, spot });
+fn check_events(n: u8, word: &[u8]) -> Result<(), Refusal> {
+    match first_not_below(n, word) {
+        Some(spot) => Err(Refusal { number: 15, spot }),
+        None => Ok(()),
     }
-    Ok(replay(&places, word))
 }
 
 /// The first position of a word whose event is not below `n`.
@@ -66,12 +112,12 @@ fn first_not_below(n: u8, word: &[u8]) -> Option<usize> {
     word.iter().position(|&event| event >= n)
 }
 
-fn replay(places: &[Place<i64>], word: &[u8]) -> Screened {
+fn replay<'p>(places: impl IntoIterator<Item = &'p Place<i64>>, word: &[u8]) -> Screened {
     // What is permitted by all places so far. A further place has to refuse a step
     // of it, so the lowest place stays where several refuse the same step.
     let mut permitted = word;
     let mut screened = Screened::Permitted;
-    for (number, place) in places.iter().enumerate() {
+    for (number, place) in places.into_iter().enumerate() {
         if let Some((position, shortfall)) = place.first_refused(permitted) {
             permitted = &permitted[..position];
             screened = Screened::Stopped {

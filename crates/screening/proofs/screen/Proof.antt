@@ -1,7 +1,8 @@
 -- `screening::screen` meets its contract: its tests are those of `screened`, in the same order.
 use mathlib.Core.Path.{sym, _∙_}
 use borrow.Author.Needs.{needs}
-use Rattle.screening.specs.ScreenLaws.{word-long, word-short, head-refused}
+use Rattle.bundles.specs.ReadHead.{kept-refused}
+use Rattle.screening.specs.ScreenLaws.{word-long, head-wrong}
 use Rattle.screening.proofs.screen.Statement.{statement}
 use Rattle.screening.proofs.screen.Tie as tie
 
@@ -18,10 +19,7 @@ returns-2 : tie.Need-returns-2
 returns-2 c =
     let told = c .before in
     let call = told .before .before in
-    sym (word-short _ _ (call .before .if1 .left) ∙ head-refused _ _ (told .refusal .given .0 .0) _ (sym (call .read-head .ensures) ∙ told .refusal .given .1))
-
-returns-3 : tie.Need-returns-3
-returns-3 c = c .screen-word .ensures ∙ sym (word-short _ _ (c .before .before .before .before .before .if1 .left))
+    sym (head-wrong _ _ (call .before .if1 .left) (told .refusal .given .0 .0) (kept-refused _ _ (sym (call .read-head .ensures) ∙ told .refusal .given .1)))
 
 pub screen-spec : {M : Type 1} → statement M
 screen-spec =
@@ -34,4 +32,4 @@ screen-spec =
     (λ c. search needs)
     screen-word-requires
     returns-2
-    returns-3)
+    (λ c. search needs))

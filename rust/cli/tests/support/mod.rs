@@ -123,6 +123,18 @@ pub fn sample(name: &str) -> PathBuf {
     samples::directory().join(name)
 }
 
+/// The line that a word has which is stopped: position, place and shortfall. `whose` tells
+/// more of the place.
+pub fn stopped(word: &[u8], numbers: [usize; 3], whose: &str) -> String {
+    let [position, place, shortfall] = numbers;
+    let event = word[position];
+    let step = format!("event {event} at position {position}");
+    let tokens = if shortfall == 1 { "token" } else { "tokens" };
+    let missing = format!("{shortfall} {tokens} missing");
+    let numbers = numbers.map(|number| number.to_string()).join(" ");
+    format!("stopped {numbers}: {step}, refused by place {place}{whose}; {missing}\n")
+}
+
 /// The line that a refusal has, for a file that is shown by this name.
 pub fn refused(number: u8, spot: usize, name: &str) -> String {
     let refusal = Refusal { number, spot };

@@ -4,53 +4,9 @@
  * written. A call that reads or writes beyond its buffers, or writes to an
  * input, ends the program with a signal.
  */
-#define _DEFAULT_SOURCE
+#include "pages.h"
+
 #include "hovmekhar.h"
-
-#include <stdbool.h>
-#include <stdio.h>
-#include <stdlib.h>
-#include <string.h>
-#include <sys/mman.h>
-#include <unistd.h>
-
-/* Pages to lend from, with a closed page before and after. */
-struct pages {
-    uint8_t *first;
-    size_t size;
-};
-
-static _Noreturn void fail(const char *what)
-{
-    fprintf(stderr, "%s\n", what);
-    exit(1);
-}
-
-static void protect(struct pages pages, int protection)
-{
-    if (mprotect(pages.first, pages.size, protection) != 0) {
-        fail("mprotect");
-    }
-}
-
-static struct pages open_pages(size_t at_least)
-{
-    size_t page = (size_t)sysconf(_SC_PAGESIZE);
-    size_t size = (at_least + page - 1) / page * page;
-    uint8_t *all = mmap(NULL, size + 2 * page, PROT_NONE, MAP_PRIVATE | MAP_ANONYMOUS, -1, 0);
-    if (all == MAP_FAILED) {
-        fail("mmap");
-    }
-    struct pages pages = {all + page, size};
-    protect(pages, PROT_READ | PROT_WRITE);
-    return pages;
-}
-
-/* A buffer at the very start or the very end of the pages. */
-static uint8_t *lend(struct pages pages, size_t length, bool at_end)
-{
-    return at_end ? pages.first + pages.size - length : pages.first;
-}
 
 typedef uint32_t call(const uint8_t *, size_t, uint8_t *, size_t, uint64_t[4]);
 

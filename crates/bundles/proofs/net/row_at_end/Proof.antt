@@ -1,11 +1,11 @@
--- `bundles::net::row_at` meets its contract. The loop's invariant: the row has the numbers of the events below i, and zeros.
+-- `bundles::net::row_at_end` meets its contract. The loop's invariant: the row has the numbers of the events below i, and zeros.
 use mathlib.Core.Path.{_≡_, sym, _∙_}
 use Prim.Native.Nat.{_-_, _≤_}
 use native.Mathlib.Omega.{arith}
 use borrow.Author.Needs.{needs}
 use Rattle.bundles.specs.PlaceReading.{numbersAt, widened, row-start, row-next}
-use Rattle.bundles.proofs.net.row_at.Statement.{statement}
-use Rattle.bundles.proofs.net.row_at.Tie as tie
+use Rattle.bundles.proofs.net.row_at_end.Statement.{statement}
+use Rattle.bundles.proofs.net.row_at_end.Tie as tie
 
 abbrev Inv-loop : tie.InvT-loop
 Inv-loop bundle at n row₀ i₀ row i = (i ≤ n) × (row ≡ widened (numbersAt i bundle at))
@@ -26,8 +26,8 @@ returns c =
     let all : c .before .loop .i ≡ c .before .before .before .args .n = omega arith in
     c .before .loop .inv .1 ∙ rw all
 
-pub row-at-spec : {M : Type 1} → statement M
-row-at-spec =
+pub row-at-end-spec : {M : Type 1} → statement M
+row-at-end-spec =
     tie.close
     (tie.spec
     Inv-loop

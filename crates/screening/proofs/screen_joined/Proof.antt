@@ -1,0 +1,35 @@
+-- `screening::screen_joined` meets its contract: its tests are those of `screenedJoined`, in the same order.
+use mathlib.Core.Path.{sym, _∙_}
+use borrow.Author.Needs.{needs}
+use Rattle.bundles.specs.ReadHead.{kept-refused}
+use Rattle.screening.specs.ScreenLaws.{joined-long, first-wrong}
+use Rattle.screening.proofs.screen_joined.Statement.{statement}
+use Rattle.screening.proofs.screen_joined.Tie as tie
+
+returns : tie.Need-returns
+returns c = c .refused .ensures ∙ sym (joined-long _ _ _ (c .before .if1 .taken))
+
+screen-second-requires : tie.Need-screen-second-requires
+screen-second-requires c κs =
+    let told = c .before in
+    let call = told .before .before in
+    (sym (call .read-head .ensures) ∙ told .one .given .1, call .before .if1 .left)
+
+returns-2 : tie.Need-returns-2
+returns-2 c =
+    let told = c .before in
+    let call = told .before .before in
+    sym (first-wrong _ _ _ (call .before .if1 .left) (told .refusal .given .0 .0) (kept-refused _ _ (sym (call .read-head .ensures) ∙ told .refusal .given .1)))
+
+pub screen-joined-spec : {M : Type 1} → statement M
+screen-joined-spec =
+    tie.close
+    (tie.spec
+    (λ c κs. search needs)
+    returns
+    (λ c κs. search needs)
+    (λ c. search needs)
+    (λ c. search needs)
+    screen-second-requires
+    returns-2
+    (λ c. search needs))
