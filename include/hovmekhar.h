@@ -1,7 +1,7 @@
 /*
- * Hovmekhar: opening and sealing of files, the log table, judging, and the
- * screening of words. C11 and C++. The library, libhovmekhar.a, is compiled for
- * x86-64 Linux.
+ * Hovmekhar: opening and sealing of files, the log table, judging, the pruning of
+ * nets, and the screening of words. C11 and C++. The library, libhovmekhar.a, is
+ * compiled for x86-64 Linux.
  *
  * A sealed file is 1 to 128 blocks of 512 bytes. Numbers of two bytes have the
  * low byte first. A block holds:
@@ -22,6 +22,8 @@
  *   numbers 0-11   how often each event occurs in the prefix; zero from n on
  *   number 12      a mask: bit e is set when a prefix with these counts is
  *                  followed by event e in the log
+ *   number 13      the traffic: how many words of the log have a prefix with
+ *                  these counts; 65,535 stays
  *
  * These set bits are the allowed steps. A pair of a row and an event below n
  * with its bit clear is a wrong continuation; they are numbered from 0, by row
@@ -45,6 +47,9 @@
  * the sum of g is at most k and, for each event i, the sum of g * u(i) is at
  * most k * v(i) and the sum of g * (u(i) + [f = i]) is at least
  * k * (v(i) + [e = i]), where [ ] is 1 if true, else 0.
+ *
+ * A place is idle when no certificate of kind 0 names it. Pruning leaves the idle
+ * places of an accepted bundle out.
  *
  * The steps of a word are its events, each after the counts of the events before
  * it. A net permits a word when every place permits each of its steps. The shortfall
@@ -83,9 +88,9 @@ extern "C" {
 #endif
 
 /** The version, as text and in its three numbers. */
-#define HOV_VERSION "0.7.0"
+#define HOV_VERSION "0.8.0"
 #define HOV_VERSION_MAJOR 0
-#define HOV_VERSION_MINOR 7
+#define HOV_VERSION_MINOR 8
 #define HOV_VERSION_PATCH 0
 
 /** Bytes of a block. */
@@ -146,7 +151,7 @@ extern "C" {
  * Each comment gives the cause, the spot that answer[0] then holds, and what
  * stays as it was. hov_judge_file refuses as open, and then as judge. No refusal
  * writes to an input; none writes to an output, but for those of hov_judge_file
- * that come after opening.
+ * that come after opening. hov_prune leaves the table as judge does.
  *
  * This is the whole table, so that a number keeps its meaning when calls are
  * added.
@@ -166,79 +171,80 @@ enum hov_refusal {
     HOV_BLOCK_SUMS = 2,
 
     /**
-     * open, seal: the output is shorter than the result.
-     * Spot: the length needed. As it was: the output.
+     * open, seal, prune: the output is shorter than the result.
+     * Spot: the length needed. As it was: the output. From prune the bundle is
+     * accepted, and the rows of its log are in the table.
      */
     HOV_OUTPUT_SHORT = 3,
 
     /**
-     * seal, judge, screen, screen_joined: a bundle's length is 0 or above 64,512.
+     * seal, judge, prune, screen, screen_joined: a bundle's length is 0 or above
+     * 64,512.
      * Spot: 0. As it was: the output, the table.
      */
     HOV_BUNDLE_LENGTH = 4,
 
     /**
-     * fresh, take, judge: the table has fewer than 3,584 numbers.
-     * Spot: 3,584. As it was: the table.
+     * fresh, take, judge, prune: the table has fewer than 3,584 numbers.
+     * Spot: 3,584. As it was: the table; from prune the output.
      */
     HOV_NUMBERS_SHORT = 5,
 
     /**
-     * judge, screen, screen_joined: a bundle ends before or inside a field.
-     * Spot: the offset of the field. As it was: the bundle. See HOV_VALUE for
-     * the judge's table.
+     * judge, prune, screen, screen_joined: a bundle ends before or inside a
+     * field.
+     * Spot: the offset of the field. As it was: the bundle; from prune the output.
+     * See HOV_VALUE for the table.
      */
     HOV_BUNDLE_END = 6,
 
     /**
-     * take, judge, screen, screen_joined: a value is outside its range, or names
-     * a row, event or place that is not there.
+     * take, judge, prune, screen, screen_joined: a value is outside its range, or
+     * names a row, event or place that is not there.
      * Spot: the offset of the field; in a lent word, the position in the word.
-     * As it was: from take, the table. The judge, refusing with any number but
-     * 4 and 5, leaves the table's numbers 0 to 3,583 zero and the rest as it
-     * was.
+     * As it was: from take, the table; from prune, the output. The judge, refusing
+     * with any number but 4 and 5, leaves the table's numbers 0 to 3,583 zero and
+     * the rest as it was; so does prune, but for 3.
      */
     HOV_VALUE = 7,
 
     /**
-     * take, judge, screen, screen_joined: the events would pass 1,024.
+     * take, judge, prune, screen, screen_joined: the events would pass 1,024.
      * Spot: the offset of the word's length byte; from take 0.
      * As it was: as for HOV_VALUE.
      */
     HOV_EVENTS = 8,
 
     /**
-     * take, judge: the rows would pass 256.
+     * take, judge, prune: the rows would pass 256.
      * Spot: as for HOV_EVENTS. As it was: as for HOV_VALUE.
      */
     HOV_ROWS = 9,
 
     /**
-     * judge: a place does not fit.
-     * Spot: the lowest such place. As it was: the bundle; the table as for
+     * judge, prune: a place does not fit.
+     * Spot: the lowest such place. As it was: the bundle; output and table as for
      * HOV_VALUE.
      */
     HOV_PLACE_MISFIT = 10,
 
     /**
-     * judge: the place that a certificate lists permits the wrong continuation.
-     * Spot: the certificate's number. As it was: the bundle; the table as for
-     * HOV_VALUE.
+     * judge, prune: the place that a certificate lists permits the wrong
+     * continuation.
+     * Spot: the certificate's number. As it was: as for HOV_PLACE_MISFIT.
      */
     HOV_PLACE_PERMITS = 11,
 
     /**
-     * judge: a certificate of kind 1 does not hold, or the step of one of its
-     * terms is not allowed.
-     * Spot: the certificate's number. As it was: the bundle; the table as for
-     * HOV_VALUE.
+     * judge, prune: a certificate of kind 1 does not hold, or the step of one of
+     * its terms is not allowed.
+     * Spot: the certificate's number. As it was: as for HOV_PLACE_MISFIT.
      */
     HOV_WEIGHTS = 12,
 
     /**
-     * judge: bytes follow the last certificate.
-     * Spot: the offset of the first. As it was: the bundle; the table as for
-     * HOV_VALUE.
+     * judge, prune: bytes follow the last certificate.
+     * Spot: the offset of the first. As it was: as for HOV_PLACE_MISFIT.
      */
     HOV_BYTES_FOLLOW = 13,
 
@@ -400,6 +406,35 @@ uint32_t hov_judge_file(const uint8_t *file, size_t file_len,
                         uint8_t *output, size_t output_len,
                         uint16_t *table, size_t table_len,
                         uint64_t answer[4]);
+
+/**
+ * Prunes a bundle: judges it as hov_judge does and, when it is accepted, writes it
+ * to the front of the output without its idle places, those that no certificate of
+ * kind 0 names. The rest of the output stays as it was. table_len counts numbers,
+ * not bytes.
+ *
+ * The other places keep their order, and a certificate of kind 0 names its place by
+ * the new number: how many places that stay stand before it. All else is the same
+ * byte for byte: n, the words and the certificates of kind 1. So the result is
+ * accepted with the same four counts and leaves the same table, and it is never
+ * longer. A prefix of the log with one event added is permitted by the new net when
+ * the old one permits it, and only then; a word that leaves the log earlier may be
+ * permitted although it was not. Pruning the result once more changes nothing.
+ *
+ * Returns HOV_OK, with the length of the result in answer[0]. Or returns the first
+ * refusal that applies, with its spot in answer[0]: those of hov_judge in its order,
+ * then HOV_OUTPUT_SHORT. All leave the output as it was. answer[1] to answer[3] stay
+ * as they were.
+ *
+ * The table is as hov_judge leaves it for this bundle, whatever comes after: with
+ * HOV_OK and with HOV_OUTPUT_SHORT it has the rows of the log.
+ *
+ * An output of bundle_len bytes is long enough for every bundle.
+ */
+uint32_t hov_prune(const uint8_t *bundle, size_t bundle_len,
+                   uint8_t *output, size_t output_len,
+                   uint16_t *table, size_t table_len,
+                   uint64_t answer[4]);
 
 /**
  * Screens a word: replays its events on the places of a bundle, which need not be

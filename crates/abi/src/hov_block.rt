@@ -7,7 +7,7 @@ ghost use Rattle.block.specs.File.{opened, sealed};
 ghost use Rattle.abi.specs.Numbers.{withValue};
 
 // Hands an answer out as numbers.
-fn handed(written: Written, answer: &mut [u64; 4]) -> u32
+pub fn handed(written: Written, answer: &mut [u64; 4]) -> u32
     ensures { λ r. ⌜ r ≡ numberOf written ⌝ }
     ensures { λ _. ⌜ now (answer .exit) ≡ withValue (now (answer .entry)) written ⌝ }
 {

@@ -6,3 +6,4 @@ pub mod hov_block; // opening and sealing
 pub mod hov_logs; // the log table
 pub mod hov_judging; // judging
 pub mod hov_screening; // screening
+pub mod hov_pruning; // pruning

@@ -4,6 +4,7 @@ pub mod Readers
 pub mod ReadingLaws
 pub mod LayoutLaws
 pub mod Limits
+pub mod Bytes
 pub mod Refusing
 pub mod Causes
 pub mod FieldReading

@@ -38,7 +38,7 @@ use Rattle.demands.specs.TablesProved.{log-left}
 -- ---- one accepted bundle
 
 -- the table of an accepted bundle was long enough
-long-table : (tableSize : ℕ) (b : List ℕ) (c : Tally) → verdict tableSize b ≡ Accepted c → TABLE ≤ tableSize
+pub long-table : (tableSize : ℕ) (b : List ℕ) (c : Tally) → verdict tableSize b ≡ Accepted c → TABLE ≤ tableSize
 unfolding verdict verdictOf
 long-table tableSize b c e = go (judged tableSize b 0) refl e
   where

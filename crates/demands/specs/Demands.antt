@@ -2,7 +2,8 @@
 -- A page for each group of calls says exactly when which refusal meets a call, and at which spot, in the words of the requirements: Opening.antt
 -- (open, seal), Tables.antt (fresh, take, and what stands in a table), Judging.antt and Screening.antt. Here they are gathered by name. A page for
 -- each change request says what it promised beyond that: BlockOrder.antt (request 1), Shortfalls.antt (2), Sealing.antt (3), Alterations.antt (4),
--- Traffic.antt (5), Joining.antt (6). The demands are stated with the requests' changes in them.
+-- Traffic.antt (5), Joining.antt (6), Pruning.antt (7; the refusals of prune stand there, too). The demands are stated with the requests'
+-- changes in them.
 -- A file, a bundle, an output, a table and a word are lists of numbers; `Bytes` says that each number is below 256.
 use mathlib.Core.Path.{_≡_}
 use mathlib.Core.Bool.{true, false, not}
@@ -44,10 +45,12 @@ use Rattle.screening.specs.Screens.{Readable, Screenable}
 use Rattle.screening.specs.Joins.{JoinReadable}
 use Rattle.screening.specs.declared.Screened.{Screened}
 use Rattle.screening.specs.declared.Screened.the-variants as screening
+use Rattle.pruning.specs.Pruning.{pruning}
 use Rattle.demands.specs.Opening.{OpenExactly, SealExactly}
 use Rattle.demands.specs.Tables.{FreshExactly, TakeExactly, TakeLeaves, LogLeft}
 use Rattle.demands.specs.Judging.{JudgeExactly, FieldsExactly}
 use Rattle.demands.specs.Screening.{ScreenExactly, JoinExactly}
+use Rattle.demands.specs.Pruning.{PruneExactly}
 
 -- ---- DEMAND 1: 'every call on every input ends in a result or in a refusal from the numbered table, touches no memory but the buffers
 -- lent to it, and leaves in each of them exactly what the table says.'
@@ -64,6 +67,7 @@ pub record Demand1 : Type 0 where
   pub judge-exactly : (tableSize : ℕ) (b : List ℕ) → Bytes b → JudgeExactly tableSize b
   pub screen-exactly : (b : List ℕ) → Bytes b → (w : Word) → ScreenExactly b w
   pub join-exactly : (first second : List ℕ) (w : Word) → JoinExactly first second w
+  pub prune-exactly : (tableSize : ℕ) (b : List ℕ) (room : ℕ) → Bytes b → PruneExactly tableSize b room
   pub fields-exactly : (b : List ℕ) (at : ℕ) → FieldsExactly b at
   -- the limits that no other line says by a numeral: 64 places, 64 terms
   pub counts-most : (MAX-PLACES ≡ 64) × (MAX-TERMS ≡ 64)
@@ -81,7 +85,9 @@ pub record Demand1 : Type 0 where
   pub refusals-of-screen : (b : List ℕ) (w : Word) → among (screenedNumber (screened b w)) (0 ∷ 256 ∷ 14 ∷ 4 ∷ 6 ∷ 7 ∷ 8 ∷ 15 ∷ []) ≡ true
   pub refusals-of-join : (first second : List ℕ) (w : Word)
       → among (screenedNumber (screenedJoined first second w)) (0 ∷ 256 ∷ 14 ∷ 4 ∷ 6 ∷ 7 ∷ 8 ∷ 19 ∷ 15 ∷ []) ≡ true
-  -- no refusal of opening or sealing writes to an output; a result stands in front of it, and the rest is left
+  pub refusals-of-prune : (tableSize : ℕ) (b : List ℕ) (room : ℕ)
+      → among (numberOf (answer (pruning tableSize b) room)) (0 ∷ 4 ∷ 5 ∷ 6 ∷ 7 ∷ 8 ∷ 9 ∷ 10 ∷ 11 ∷ 12 ∷ 13 ∷ 3 ∷ []) ≡ true
+  -- no refusal of opening, sealing or pruning writes to an output; a result stands in front of it, and the rest is left
   pub refused-output : (result : Result (List ℕ)) (output : List ℕ) (r : Refusal) → answer result (length output) ≡ writing.Refused r
       → written result output ≡ output
   pub result-output : (result : Result (List ℕ)) (output : List ℕ) (n : ℕ) → answer result (length output) ≡ writing.Length n

@@ -7,6 +7,7 @@ pub mod Judging
 pub mod Screening
 pub mod Shortfalls
 pub mod Joining
+pub mod Pruning
 pub mod Sealing
 pub mod Demands
 pub mod OpeningProved
@@ -18,6 +19,7 @@ pub mod ScreeningProved
 pub mod ShortfallsProved
 pub mod SealingProved
 pub mod Comparing
+pub mod PruningProved
 pub mod TrafficProved
 pub mod Proved
 pub mod Files

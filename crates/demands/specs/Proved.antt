@@ -24,11 +24,13 @@ use Rattle.screening.specs.Screening.{screenedNumber}
 use Rattle.screening.specs.RefusalNumbers.{screen-numbers, join-numbers}
 use Rattle.screening.specs.Screens.{permitted-exactly, stopped-exactly, readable-exactly, screenable-head, replay-permits, replay-stops}
 use Rattle.screening.specs.JoinLaws.{join-readable, joined-replayed}
+use Rattle.pruning.specs.RefusalNumbers.{prune-numbers}
 use Rattle.demands.specs.Demands.{Demand1, Demand2, Demand3, FileAccepted}
 use Rattle.demands.specs.OpeningProved.{open-exactly, seal-exactly}
 use Rattle.demands.specs.TablesProved.{fresh-exactly, take-exactly, take-leaves, taken-left}
 use Rattle.demands.specs.JudgingProved.{judge-exactly, fields-exactly}
 use Rattle.demands.specs.ScreeningProved.{screen-exactly, join-exactly}
+use Rattle.demands.specs.PruningProved.{prune-exactly}
 use Rattle.demands.specs.Comparing.{accepted-head, net-complete, net-suboptimal, table-left, numbers-left, compared}
 
 pub demand-1 : Demand1
@@ -41,6 +43,7 @@ demand-1 = record {
   judge-exactly = judge-exactly;
   screen-exactly = screen-exactly;
   join-exactly = join-exactly;
+  prune-exactly = prune-exactly;
   fields-exactly = fields-exactly;
   refusals-of-open = open-numbers;
   refusals-of-seal = seal-numbers;
@@ -50,6 +53,7 @@ demand-1 = record {
   refusals-of-judge-file = judge-file-numbers;
   refusals-of-screen = screen-numbers;
   refusals-of-join = join-numbers;
+  refusals-of-prune = prune-numbers;
   counts-most = (refl, refl);
   refusal-numbers = λ r. (refl, refl, refl, refl);
   refused-output = refused-writes-nothing;

@@ -12,3 +12,5 @@ pub mod Primes
 pub mod Differences
 pub mod Bits
 pub mod Numbers
+pub mod Ranks
+pub mod Spans

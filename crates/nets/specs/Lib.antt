@@ -22,3 +22,4 @@ pub mod ParikhClosure
 pub mod Wide
 pub mod Traffic
 pub mod Machine
+pub mod Pruning

@@ -149,6 +149,10 @@ pub record AcceptedAs (b : List ℕ) (c : Tally) (d : Contents) : Type 0 where
 acceptable : {b : List ℕ} {c : Tally} {d : Contents} → AcceptedAs b c d → Acceptable d
 acceptable a = record { head = a .limits .head; rowCount = a .limits .rowCount; certificates = a .limits .certificates; accepted = a .accepted }
 
+-- the judge reads these fields of it
+pub accepted-judging : (b : List ℕ) → Bytes b → (c : Tally) (d : Contents) → AcceptedAs b c d → judging b 0 ≡ got d (length (bytesOf d))
+accepted-judging b bytes c d a = →judging b bytes d (acceptable a) (a .layout)
+
 -- a bundle that is so has the right length
 accepted-size : {b : List ℕ} {c : Tally} {d : Contents} → AcceptedAs b c d → rightSize (length b) ≡ true
 unfolding bytesOf
@@ -166,6 +170,9 @@ module _ (tableSize : ℕ) (b : List ℕ) where
 
   pub judged-long : (d : Contents) (next : ℕ) → judged tableSize b 0 ≡ got d next → TABLE ≤ tableSize
   judged-long d next e = leb-true TABLE tableSize (judged→ d next e .1)
+
+  pub judged-judging : (d : Contents) (next : ℕ) → judged tableSize b 0 ≡ got d next → judging b 0 ≡ got d next
+  judged-judging d next e = judged→ d next e .2
 
   pub judged-right : TABLE ≤ tableSize → rightSize (length b) ≡ true → judged tableSize b 0 ≡ judging b 0
   unfolding judged bundleSize require bind onward

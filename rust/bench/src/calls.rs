@@ -1,5 +1,6 @@
-//! The calls that are timed, but for those of [`crate::words`]. A further one is a further
-//! entry in [`on_files`], [`on_logs`], [`on_bundles`] or [`on_sealed_bundles`].
+//! The calls that are timed, but for those of [`crate::pruning`] and [`crate::words`]. A
+//! further one is a further entry in [`on_files`], [`on_logs`], [`on_bundles`] or
+//! [`on_sealed_bundles`].
 
 use differential::bundles::SAMPLE_A;
 use differential::limits::{Size, LARGEST, MIDDLE};

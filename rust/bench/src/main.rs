@@ -6,6 +6,7 @@
 #![forbid(unsafe_code)]
 
 mod calls;
+mod pruning;
 mod timing;
 mod words;
 
@@ -16,8 +17,8 @@ fn main() {
     println!("Time of one call in nanoseconds: the median of {ROUNDS} rounds, ours and the");
     println!("reference in turn. Both get the same buffers, allocated once and not cleared");
     println!("between calls. A log is a fresh table and then all of its words, one by one. The");
-    println!("bundles that are judged are accepted, and the words that are screened permitted, or");
-    println!("stopped where the size says so: at the last event, by the last place.");
+    println!("bundles that are judged or pruned are accepted, and the words that are screened");
+    println!("permitted, or stopped where the size says so: at the last event, by the last place.");
     println!("The ratio is ours / reference; below 1 ours is faster.");
     println!();
     println!(
@@ -34,6 +35,9 @@ fn main() {
         print(&call);
     }
     for call in calls::on_sealed_bundles() {
+        print(&call);
+    }
+    for call in pruning::on_bundles() {
         print(&call);
     }
     for call in words::on_one_net() {

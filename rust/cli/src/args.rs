@@ -39,6 +39,13 @@ pub enum Request {
         /// Where the bundle goes.
         output: OsString,
     },
+    /// A sealed file without its idle places.
+    Prune {
+        /// Where the file is.
+        input: OsString,
+        /// Where the other file goes.
+        output: OsString,
+    },
     /// What a file holds.
     Show {
         /// The file.
@@ -72,6 +79,7 @@ enum Command {
     Screen,
     Seal,
     Unseal,
+    Prune,
     Show,
 }
 
@@ -82,6 +90,7 @@ impl Command {
             "screen" => Some(Self::Screen),
             "seal" => Some(Self::Seal),
             "unseal" => Some(Self::Unseal),
+            "prune" => Some(Self::Prune),
             "show" => Some(Self::Show),
             _ => None,
         }
@@ -93,6 +102,7 @@ impl Command {
             Self::Screen => "hov screen FILE [--with FILE2] EVENT...",
             Self::Seal => "hov seal IN OUT",
             Self::Unseal => "hov unseal IN OUT",
+            Self::Prune => "hov prune IN OUT",
             Self::Show => "hov show FILE [--certificate N]",
         }
     }
@@ -109,7 +119,7 @@ impl Command {
 ///
 /// When they ask for nothing that there is.
 pub fn parse(mut arguments: impl Iterator<Item = OsString>) -> Result<Request, Usage> {
-    let right = "hov judge|screen|seal|unseal|show ARGUMENT...";
+    let right = "hov judge|screen|seal|unseal|prune|show ARGUMENT...";
     let wrong = |problem| Usage { problem, right };
     let first = arguments.next();
     let first = first.ok_or_else(|| wrong("no command".into()))?;
@@ -156,6 +166,10 @@ fn parse_command(
         Command::Unseal => {
             let [input, output] = exactly(command, operands)?;
             Ok(Request::Unseal { input, output })
+        }
+        Command::Prune => {
+            let [input, output] = exactly(command, operands)?;
+            Ok(Request::Prune { input, output })
         }
         Command::Show => {
             let [file] = exactly(command, operands)?;

@@ -1,5 +1,5 @@
-//! The command-line tool `hov`: judges, screens, seals, unseals and shows sealed
-//! files, with the proved library.
+//! The command-line tool `hov`: judges, screens, seals, unseals, prunes and shows
+//! sealed files, with the proved library.
 //!
 //! All of it is here, so that tests can call it; the binary only hands over its
 //! arguments. Every verdict is the library's: nothing here decides by itself.
@@ -12,6 +12,7 @@ mod files;
 mod judge;
 mod names;
 mod output;
+mod pruning;
 mod screen;
 mod sealing;
 pub mod show;
@@ -53,6 +54,7 @@ fn answer(request: Request) -> Result<Status, Trouble> {
         },
         Request::Seal { input, output } => sealing::seal(&input, &output),
         Request::Unseal { input, output } => sealing::unseal(&input, &output),
+        Request::Prune { input, output } => pruning::prune(&input, &output),
         Request::Show { file, certificate } => show::show(&file, certificate),
     }
 }

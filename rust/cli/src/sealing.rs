@@ -25,8 +25,7 @@ pub fn unseal(input: &OsStr, output: &OsStr) -> Result<Status, Trouble> {
     finish(hovmekhar::open_vec(&file), input, output)
 }
 
-/// Writes a result. A refusal goes to standard error, since the result may go to
-/// standard output and may be any bytes, also those of a refusal.
+/// Writes a result, or tells its refusal.
 fn finish(
     result: Result<Vec<u8>, Refusal>,
     input: &OsStr,
@@ -34,9 +33,13 @@ fn finish(
 ) -> Result<Status, Trouble> {
     match result {
         Ok(bytes) => files::write(output, &bytes).map(|()| Status::Good),
-        Err(refusal) => {
-            output::tell(&output::refused(refusal, input));
-            Ok(Status::Refused)
-        }
+        Err(refusal) => Ok(refused(refusal, input)),
     }
+}
+
+/// Tells a refusal on standard error, since a result may go to standard output and may be
+/// any bytes, also those of a refusal.
+pub fn refused(refusal: Refusal, input: &OsStr) -> Status {
+    output::tell(&output::refused(refusal, input));
+    Status::Refused
 }

@@ -8,7 +8,7 @@ use std::io::{Read, Seek};
 use std::os::unix::ffi::OsStrExt;
 use support::{command, directory, hov, hov_in, start, Done};
 
-const COMMANDS: [&str; 5] = ["judge", "screen", "seal", "unseal", "show"];
+const COMMANDS: [&str; 6] = ["judge", "screen", "seal", "unseal", "prune", "show"];
 
 #[test]
 fn help() {
@@ -58,7 +58,7 @@ fn wrong() -> Wrong {
 }
 
 fn wrong_commands() -> Wrong {
-    let any = "hov judge|screen|seal|unseal|show ARGUMENT...";
+    let any = "hov judge|screen|seal|unseal|prune|show ARGUMENT...";
     vec![
         (vec![], any),
         (vec![""], any),
@@ -101,12 +101,16 @@ fn wrong_files() -> Wrong {
         (vec!["screen", "-", "--", "0", "--with", "a"], screen),
         (vec!["judge", "-", "--with", "a"], judge),
     ];
-    for (seal, usage) in [("seal", "hov seal IN OUT"), ("unseal", "hov unseal IN OUT")] {
-        all.push((vec![seal], usage));
-        all.push((vec![seal, "-"], usage));
-        all.push((vec![seal, "-", "-", "-"], usage));
-        all.push((vec![seal, "-", "--", "-", "-"], usage));
-        all.push((vec![seal, "-", "-", "-x"], usage));
+    for (writes, usage) in [
+        ("seal", "hov seal IN OUT"),
+        ("unseal", "hov unseal IN OUT"),
+        ("prune", "hov prune IN OUT"),
+    ] {
+        all.push((vec![writes], usage));
+        all.push((vec![writes, "-"], usage));
+        all.push((vec![writes, "-", "-", "-"], usage));
+        all.push((vec![writes, "-", "--", "-", "-"], usage));
+        all.push((vec![writes, "-", "-", "-x"], usage));
     }
     all
 }

@@ -11,7 +11,8 @@
 //! - [`limits`]: bundles up to the limits.
 //! - [`bundle_faults`]: bundles that have to be refused.
 //! - [`fields`], [`places`]: reading a bundle, and its places, by the definitions.
-//! - [`judging`], [`screening`]: judging and screening, by the definitions.
+//! - [`judging`], [`pruning`], [`screening`]: judging, pruning and screening, by the
+//!   definitions.
 //! - [`samples`]: the files in `samples/`.
 //! - [`vectors`]: cases with their answers, from a file.
 //! - [`programs`]: the programs, run as a person or a script runs them.
@@ -43,6 +44,7 @@ pub mod logs;
 pub mod nets;
 pub mod places;
 pub mod programs;
+pub mod pruning;
 pub mod rng;
 pub mod run;
 pub mod samples;

@@ -1,5 +1,7 @@
 //! Makes each call on both sides, compares, and counts.
 
+mod with_table;
+
 use crate::guarded::Guarded;
 use crate::logs::{ROW, TABLE};
 use crate::rng::{Item, Rng};
@@ -8,6 +10,8 @@ use reference::{Refusal, Screened, Summary, Tally};
 use std::collections::BTreeMap;
 use std::time::{SystemTime, UNIX_EPOCH};
 use std::{env, fmt};
+
+pub use with_table::WithTable;
 
 /// What a call answers: a result or a refusal. The result is a length, except
 /// for the calls on a log table, for judging and for screening.
@@ -38,16 +42,6 @@ pub struct Taken {
 pub struct Judged {
     /// The answer.
     pub outcome: Outcome<Tally>,
-    /// The whole table after the call.
-    pub table: Vec<u16>,
-}
-
-/// What judging a sealed file did, the same on both sides.
-pub struct FileJudged {
-    /// The answer.
-    pub outcome: Outcome<Tally>,
-    /// The whole output after the call.
-    pub output: Vec<u8>,
     /// The whole table after the call.
     pub table: Vec<u16>,
 }
@@ -241,35 +235,6 @@ impl Run {
             },
         );
         Judged { outcome, table }
-    }
-
-    /// Judges a sealed file on both sides, with copies of this table and outputs of
-    /// noise, and compares. Of the output only the bundle's bytes may change.
-    pub fn judge_file(&mut self, file: &[u8], output_len: usize, table: &[u16]) -> FileJudged {
-        let mut output = self.rng.bytes(output_len);
-        let mut our_output = self.guarded(&output);
-        let written = reference::open(file, &mut output.clone()).unwrap_or(0);
-        let (outcome, table) = self.compare(
-            [file],
-            table.to_vec(),
-            |[file], table, answer| ffi::judge_file(file, our_output.lent_mut(), table, answer),
-            |[file], table| reference::judge_file(file, &mut output, table),
-            Written::counts,
-            |refused| match refused.number {
-                1..=5 | 17 | 18 => 0,
-                _ => TABLE,
-            },
-        );
-        assert!(our_output.lent() == output, "the outputs differ: {self}");
-        assert!(
-            our_output.kept_beyond(written),
-            "changed beyond the bundle, in the output or around it: {self}"
-        );
-        FileJudged {
-            outcome,
-            output,
-            table,
-        }
     }
 
     /// Screens a word on both sides and compares. Notes whether it is permitted or

@@ -1,6 +1,6 @@
 //! Cases with their answers, from a file.
 //!
-//! A line is `judge FILE = ANSWER`, `screen BUNDLE WORD = ANSWER`,
+//! A line is `judge FILE = ANSWER`, `prune BUNDLE = ANSWER`, `screen BUNDLE WORD = ANSWER`,
 //! `screen_joined FIRST SECOND WORD = ANSWER` or `log N WORD.. = ANSWER`, with bytes in
 //! hexadecimal, or a comment that starts with `#`. No bytes are written as `-`.
 
@@ -13,6 +13,15 @@ pub struct JudgeCase {
     /// The sealed file.
     pub file: Vec<u8>,
     /// The line, without its end.
+    pub line: String,
+}
+
+/// A bundle, and the answer of pruning in words.
+#[derive(Clone, Debug, PartialEq, Eq)]
+pub struct PruneCase {
+    /// The bundle.
+    pub bundle: Vec<u8>,
+    /// The answer.
     pub line: String,
 }
 
@@ -56,6 +65,8 @@ pub struct LogCase {
 pub struct Cases {
     /// Those for judging.
     pub judge: Vec<JudgeCase>,
+    /// Those for pruning.
+    pub prune: Vec<PruneCase>,
     /// Those for screening.
     pub screen: Vec<ScreenCase>,
     /// Those for screening with two nets.
@@ -77,6 +88,10 @@ pub fn read(text: &str) -> Cases {
         match words.as_slice() {
             ["judge", file] => cases.judge.push(JudgeCase {
                 file: bytes(file),
+                line: answer.to_string(),
+            }),
+            ["prune", bundle] => cases.prune.push(PruneCase {
+                bundle: bytes(bundle),
                 line: answer.to_string(),
             }),
             ["screen", bundle, word] => cases.screen.push(ScreenCase {
@@ -121,6 +136,17 @@ pub fn line(answer: Outcome<Tally>) -> String {
             by_place,
             by_weights,
         }) => format!("accepted {rows} {allowed} {by_place} {by_weights}"),
+        Err(refused) => refused_line(refused),
+    }
+}
+
+/// The answer of pruning in words: the bytes that are written, in hexadecimal.
+pub fn pruned_line(answer: Outcome<Vec<u8>>) -> String {
+    match answer {
+        Ok(bytes) => {
+            let digits: String = bytes.iter().map(|byte| format!("{byte:02x}")).collect();
+            format!("written {digits}")
+        }
         Err(refused) => refused_line(refused),
     }
 }

@@ -82,6 +82,28 @@ fn judging() {
 }
 
 #[test]
+fn pruning() {
+    assert_eq!(
+        run("prune"),
+        "two idle: 0, 13 7 7 7, output 1 1 1 0 1 1 0 0 0 1 0 0 0, table with rows\n\
+         again: 0, 13 7 7 7, output 1 1 1 0 1 1 0 0 0 1 0 0 0, table with rows\n\
+         exact output: 0, 13 7 7 7, output 1 1 1 0 1 1 0 0 0 1 0 0 0, table with rows\n\
+         short output: 3, 13 7 7 7, output as it was, table with rows\n\
+         no output: 3, 13 7 7 7, output as it was, table with rows\n\
+         empty: 4, 0 7 7 7, output as it was, table as it was\n\
+         short table: 5, 3584 7 7 7, output as it was, table as it was\n\
+         cut: 6, 24 7 7 7, output as it was, table zero\n\
+         too many events: 8, 1026 7 7 7, output as it was, table zero\n\
+         too many rows: 9, 258 7 7 7, output as it was, table zero\n\
+         no terms: 12, 0 7 7 7, output as it was, table zero\n\
+         a byte more: 13, 25 7 7 7, output as it was, table zero\n\
+         no such place: 7, 24 7 7 7, output as it was, table zero\n\
+         place permits: 11, 0 7 7 7, output as it was, table zero\n\
+         place does not fit: 10, 0 7 7 7, output as it was, table zero\n"
+    );
+}
+
+#[test]
 fn screening() {
     assert_eq!(
         run("screen"),
@@ -124,6 +146,7 @@ fn pages_around_the_buffers_are_not_touched() {
          4046 screened\n"
     );
     assert_eq!(run("joined_pages"), "6240 screened on two nets\n");
+    assert_eq!(run("prune_pages"), "17920 pruned\n");
 }
 
 /// The texts of the refusals are those of the Rust crate, and so is the version.

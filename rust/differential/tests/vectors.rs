@@ -1,14 +1,15 @@
 //! The cases of `tests/data`, answered by another implementation: opening and then
-//! judging, screening with one net or two, and taking the words of a log, on both
-//! sides. The cases of a file are with the requests up to its number in force.
+//! judging, pruning, screening with one net or two, and taking the words of a log, on
+//! both sides. The cases of a file are with the requests up to its number in force.
 
 use differential::files::{BLOCK, MAX_BLOCKS, MAX_BUNDLE_SIZE};
 use differential::judging::judge;
 use differential::logs::{ROW, TABLE};
+use differential::pruning::prune;
 use differential::run::{Outcome, Run};
 use differential::screening::{screen, screen_joined};
 use differential::vectors::{
-    line, read, rows_line, screened_line, screened_line_without_shortfall,
+    line, pruned_line, read, rows_line, screened_line, screened_line_without_shortfall,
 };
 use reference::Screened;
 
@@ -16,13 +17,14 @@ use reference::Screened;
 type File = (&'static str, fn(Outcome<Screened>) -> String);
 
 /// Screening tells the shortfall from request 2 on.
-const FILES: [File; 6] = [
+const FILES: [File; 7] = [
     (include_str!("data/01.txt"), screened_line_without_shortfall),
     (include_str!("data/02.txt"), screened_line),
     (include_str!("data/03.txt"), screened_line),
     (include_str!("data/04.txt"), screened_line),
     (include_str!("data/05.txt"), screened_line),
     (include_str!("data/06.txt"), screened_line),
+    (include_str!("data/07.txt"), screened_line),
 ];
 
 #[test]
@@ -39,22 +41,22 @@ fn judged() {
             assert_eq!(line(answer), case.line, "{run}");
         }
     }
-    let opened = 110 + 105 + 112 + 103 + 107 + 113;
+    let opened = 110 + 105 + 112 + 103 + 107 + 113 + 104;
     run.finish(&[
         // Each file that is opened, and each bundle that is accepted.
-        (0, opened + 61 + 53 + 52 + 53 + 42 + 52),
-        (1, 4 + 1 + 3 + 5 + 4 + 3),
+        (0, opened + 61 + 53 + 52 + 53 + 42 + 52 + 55),
+        (1, 4 + 1 + 3 + 5 + 4 + 3 + 5),
         (2, 1 + 1 + 2 + 3 + 1),
-        (6, 15 + 10 + 15 + 15 + 10 + 18),
-        (7, 8 + 7 + 9 + 9 + 13 + 9),
-        (8, 1 + 1 + 1 + 1),
-        (9, 5 + 12 + 8 + 8 + 10 + 11),
-        (10, 5 + 8 + 10 + 7 + 9 + 7),
-        (11, 4 + 5 + 8 + 3 + 8 + 9),
-        (12, 1 + 1 + 2),
-        (13, 10 + 9 + 9 + 7 + 12 + 7),
-        (17, 6 + 3 + 2 + 2),
-        (18, 5 + 7 + 3 + 6 + 6 + 2),
+        (6, 15 + 10 + 15 + 15 + 10 + 18 + 10),
+        (7, 8 + 7 + 9 + 9 + 13 + 9 + 10),
+        (8, 1 + 1 + 1 + 1 + 1),
+        (9, 5 + 12 + 8 + 8 + 10 + 11 + 7),
+        (10, 5 + 8 + 10 + 7 + 9 + 7 + 7),
+        (11, 4 + 5 + 8 + 3 + 8 + 9 + 5),
+        (12, 1 + 1 + 2 + 4),
+        (13, 10 + 9 + 9 + 7 + 12 + 7 + 5),
+        (17, 6 + 3 + 2 + 2 + 2),
+        (18, 5 + 7 + 3 + 6 + 6 + 2 + 9),
     ]);
 }
 
@@ -73,7 +75,29 @@ fn sealed_again() {
             }
         }
     }
-    run.finish(&[(0, 2 * (110 + 105 + 112 + 103 + 107 + 113))]);
+    run.finish(&[(0, 2 * (110 + 105 + 112 + 103 + 107 + 113 + 104))]);
+}
+
+/// Nets are pruned from request 7 on. Each case is tried with outputs of 6 lengths, two of
+/// them too short, and tables of 4, two of them too short.
+#[test]
+fn pruned() {
+    let mut run = Run::start("vectors::pruned");
+    let cases: Vec<_> = FILES
+        .iter()
+        .flat_map(|(text, _)| read(text).prune)
+        .collect();
+    assert_eq!(cases.len(), 60);
+    for case in cases {
+        let answer = prune(&mut run, &case.bundle);
+        if matches!(&answer, Ok(result) if result.len() < case.bundle.len()) {
+            run.note("shorter");
+        }
+        assert_eq!(pruned_line(answer), case.line, "{run}");
+    }
+    let written = [(0, 55 * 8), (3, 55 * 4), (5, 60 * 12)];
+    let refused = [(6, 2 * 12), (7, 12), (10, 12), (13, 12)];
+    run.finish_with_classes(&[written.as_slice(), &refused].concat(), &[("shorter", 35)]);
 }
 
 #[test]
@@ -89,14 +113,14 @@ fn screened() {
     }
     run.finish_with_classes(
         &[
-            (0, 70 + 74 + 76 + 70 + 70 + 73),
-            (6, 2 + 3 + 5 + 4 + 3),
-            (7, 2 + 1 + 1 + 3 + 1),
-            (15, 6 + 2 + 3 + 2 + 6 + 3),
+            (0, 70 + 74 + 76 + 70 + 70 + 73 + 72),
+            (6, 2 + 3 + 5 + 4 + 3 + 5),
+            (7, 2 + 1 + 1 + 3 + 1 + 2),
+            (15, 6 + 2 + 3 + 2 + 6 + 3 + 1),
         ],
         &[
-            ("permitted", 32 + 30 + 37 + 28 + 36 + 30),
-            ("stopped", 38 + 44 + 39 + 42 + 34 + 43),
+            ("permitted", 32 + 30 + 37 + 28 + 36 + 30 + 26),
+            ("stopped", 38 + 44 + 39 + 42 + 34 + 43 + 46),
         ],
     );
 }
@@ -109,14 +133,14 @@ fn screened_on_two_nets() {
         .iter()
         .flat_map(|(text, _)| read(text).screen_joined)
         .collect();
-    assert_eq!(cases.len(), 60);
+    assert_eq!(cases.len(), 2 * 60);
     for case in cases {
         let answer = screen_joined(&mut run, &case.first, &case.second, &case.word);
         assert_eq!(screened_line(answer), case.line, "{run}");
     }
     run.finish_with_classes(
-        &[(0, 47), (6, 3), (7, 1), (15, 3), (19, 6)],
-        &[("permitted", 15), ("stopped", 32)],
+        &[(0, 47 + 48), (6, 3 + 1), (7, 2), (15, 3 + 2), (19, 6 + 8)],
+        &[("permitted", 15 + 17), ("stopped", 32 + 31)],
     );
 }
 
@@ -125,7 +149,7 @@ fn screened_on_two_nets() {
 fn logs() {
     let mut run = Run::start("vectors::logs");
     let cases: Vec<_> = FILES.iter().flat_map(|(text, _)| read(text).log).collect();
-    assert_eq!(cases.len(), 2 * 40);
+    assert_eq!(cases.len(), 3 * 40);
     for case in cases {
         let fresh = run.fresh(case.n, &[9; TABLE]);
         let mut summary = fresh.outcome.expect("an allowed event count");
@@ -138,5 +162,5 @@ fn logs() {
         let rows = &table[..summary.rows * ROW];
         assert_eq!(rows_line(summary.rows, rows), case.line, "{run}");
     }
-    run.finish(&[(0, 2 * 40)]);
+    run.finish(&[(0, 3 * 40)]);
 }

@@ -98,7 +98,7 @@ pub fn seal_vec(bundle: &[u8]) -> Result<Vec<u8>, Refusal> {
 
 /// Reads what a call of the library returned: 0 and a length, or a refusal's
 /// number and spot.
-fn length_or_refusal(number: u32, answer: Answer) -> Result<usize, Refusal> {
+pub(crate) fn length_or_refusal(number: u32, answer: Answer) -> Result<usize, Refusal> {
     Refusal::check(number, answer)?;
     // `usize` has 64 bits here, so the conversion keeps the value.
     Ok(answer[0] as usize)

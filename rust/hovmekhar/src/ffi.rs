@@ -58,6 +58,16 @@ unsafe extern "C" {
         answer: *mut u64,
     ) -> u32;
 
+    fn hov_prune(
+        bundle: *const u8,
+        bundle_len: usize,
+        output: *mut u8,
+        output_len: usize,
+        table: *mut u16,
+        table_len: usize,
+        answer: *mut u64,
+    ) -> u32;
+
     fn hov_screen(
         bundle: *const u8,
         bundle_len: usize,
@@ -164,6 +174,22 @@ pub fn judge_file(file: &[u8], output: &mut [u8], table: &mut [u16], answer: &mu
         hov_judge_file(
             file.as_ptr(),
             file.len(),
+            output.as_mut_ptr(),
+            output.len(),
+            table.as_mut_ptr(),
+            table.len(),
+            answer.as_mut_ptr(),
+        )
+    }
+}
+
+/// Calls `hov_prune`.
+pub fn prune(bundle: &[u8], output: &mut [u8], table: &mut [u16], answer: &mut Answer) -> u32 {
+    // SAFETY: As for `hov_judge_file`, with the bundle in place of the file.
+    unsafe {
+        hov_prune(
+            bundle.as_ptr(),
+            bundle.len(),
             output.as_mut_ptr(),
             output.len(),
             table.as_mut_ptr(),

@@ -1,11 +1,12 @@
-//! A second implementation of the file format, the log table, the judge and the
-//! screening of words, in plain safe Rust.
+//! A second implementation of the file format, the log table, the judge, the pruning
+//! of nets and the screening of words, in plain safe Rust.
 //!
 //! It is written from the product's rules alone and shares no code with the
 //! proved library, so that tests can compare the two. See [`open`] and [`seal`]
 //! for files, [`fresh`] and [`take`] for the log table, [`judge`] for bundles,
-//! [`judge_file`] for files with bundles, [`screen`] for a word, [`screen_joined`] for
-//! a word on two nets. [`log_rows`] has the same rows without a table.
+//! [`judge_file`] for files with bundles, [`prune`] for bundles without idle places,
+//! [`screen`] for a word, [`screen_joined`] for a word on two nets. [`log_rows`] has the
+//! same rows without a table.
 
 #![forbid(unsafe_code)]
 #![deny(missing_docs)]
@@ -14,6 +15,7 @@ mod blocks;
 mod judging;
 mod logs;
 mod places;
+mod pruning;
 mod reader;
 mod screening;
 mod tables;
@@ -21,6 +23,7 @@ mod tables;
 pub use blocks::{open, seal};
 pub use judging::{judge, judge_file, Tally};
 pub use logs::{log_rows, Row};
+pub use pruning::prune;
 pub use screening::{screen, screen_joined, Screened};
 pub use tables::{fresh, take, Summary};
 

@@ -5,7 +5,7 @@ use crate::tables::MAX_EVENTS;
 use crate::Refusal;
 use std::ops::SubAssign;
 
-const MAX_PLACES: u8 = 64;
+pub const MAX_PLACES: u8 = 64;
 
 /// A place, with its numbers in a type that is wide enough for its tokens.
 pub struct Place<T> {

@@ -24,6 +24,7 @@ use std::ffi::OsStr;
 
 pub use look::Look;
 pub(crate) use page::count;
+pub(crate) use reading::Reading;
 
 /// Shows a file, or one of its certificates.
 ///

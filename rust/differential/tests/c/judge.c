@@ -2,32 +2,15 @@
  * Judges bundles from C, one for each answer, and prints what each call returned,
  * the numbers of its answer, and how it left the table.
  */
-#include "hovmekhar.h"
+#include "judged.h"
 
 #include <inttypes.h>
 #include <stdio.h>
 
-static uint16_t table[HOV_TABLE_SIZE];
-
-static const char *table_state(void)
-{
-    size_t zeros = 0;
-    size_t nines = 0;
-    for (size_t i = 0; i < HOV_TABLE_SIZE; i++) {
-        zeros += table[i] == 0;
-        nines += table[i] == 9;
-    }
-    return zeros == HOV_TABLE_SIZE   ? "table zero"
-           : nines == HOV_TABLE_SIZE ? "table as it was"
-                                     : "table with rows";
-}
-
 static void judge(const char *what, const uint8_t *bundle, size_t bundle_len, size_t table_len)
 {
     uint64_t answer[4] = {7, 7, 7, 7};
-    for (size_t i = 0; i < HOV_TABLE_SIZE; i++) {
-        table[i] = 9;
-    }
+    fill_table();
     uint32_t number = hov_judge(bundle, bundle_len, table, table_len, answer);
     printf("%s: %" PRIu32 ", %" PRIu64 " %" PRIu64 " %" PRIu64 " %" PRIu64 ", %s\n", what, number,
            answer[0], answer[1], answer[2], answer[3], table_state());
@@ -44,14 +27,7 @@ int main(void)
     const uint8_t longer[] = {1, 0, 1, 0, 0, 0, 0, 1, 0, 0, 0, 0};
     const uint8_t no_terms[] = {1, 0, 0, 1, 1, 0, 0};
     const uint8_t k_zero[] = {1, 0, 0, 1, 0, 0, 0};
-    /* Words of 255 events 0: five of them, or one and then the word 1. */
-    static uint8_t five_words[2 + 5 * 256] = {1, 5};
-    for (size_t word = 0; word < 5; word++) {
-        five_words[2 + word * 256] = 255;
-    }
-    static uint8_t two_words[2 + 256 + 2] = {2, 2, 255};
-    two_words[2 + 256] = 1;
-    two_words[2 + 256 + 1] = 1;
+    write_long_words();
 
     judge("accepted", accepted, sizeof accepted, HOV_TABLE_SIZE);
     for (size_t row = 0; row < 5; row++) {
