@@ -81,6 +81,15 @@ module _ {A : Type 0} (size : ℕ) (value : List ℕ → ℕ → A) where
       let here : at + 2 * size + 2 * (k * size) ≡ at + 2 * (suc k * size) = omega (arith, suc-mul k size) in
       ap {B = List A} (λ l. value b at ∷ l) (items-snoc k b (at + 2 * size) ∙ rw here)
 
+  -- those behind the first j
+  pub items-append : (j k : ℕ) (b : List ℕ) (at : ℕ) → itemsAt size value (j + k) b at ≡ itemsAt size value j b at ++ itemsAt size value k b (at + 2 * (j * size))
+  unfolding itemsAt
+  items-append zero k b at = let here : at + 2 * (0 * size) ≡ at = omega (arith, zero-mul size) in let none : 0 + k ≡ k = omega arith in rw (here, none)
+  items-append (suc j) k b at =
+      let here : at + 2 * size + 2 * (j * size) ≡ at + 2 * (suc j * size) = omega (arith, suc-mul j size) in
+      let more : suc j + k ≡ suc (j + k) = omega arith in
+      rw more (ap {B = List A} (λ l. value b at ∷ l) (items-append j k b (at + 2 * size) ∙ rw here))
+
   pub getD-items : (k : ℕ) (b : List ℕ) (at j : ℕ) (d : A) → j < k → getD (itemsAt size value k b at) j d ≡ value b (at + 2 * (j * size))
   unfolding itemsAt
   getD-items zero b at j d h = absurd (not-suc-le-zero h)

@@ -1,7 +1,7 @@
 -- Places: their bytes, the code's struct, and what the code keeps of a list of places.
-use mathlib.Core.Path.{_≡_, refl, sym, ap, _∙_}
+use mathlib.Core.Path.{_≡_, refl, sym, ap, _∙_, subst}
 use mathlib.Core.Bool.{Bool, true, false, cond}
-use mathlib.Core.Logic.{_⊎_, inl, inr}
+use mathlib.Core.Logic.{_⊎_, inl, inr, ⊎-elim}
 use mathlib.Core.List.{List, [], _∷_, _++_, append-assoc}
 use Prim.Native.Nat.{ℕ, suc, _+_, _-_, _*_, _≤_, _<_}
 use native.Mathlib.Nat.{mul-one, suc-mul, mul-le-mul-right}
@@ -9,11 +9,11 @@ use native.Mathlib.Numerals.{add-one}
 use native.Mathlib.Omega.{arith}
 use lib.Dec.{leb, ltb}
 use borrow.Author.Tests.{leb-true, ltb-true, ltb-false, le-ltb}
-use lib.ListN.{length, replicate, set, length-append, List·getD-eq-default}
+use lib.ListN.{length, getD, replicate, set, length-append, List·getD-eq-default}
 use lib.Seq.{set-append-seam, set-getD}
 use Rattle.laws.specs.Booleans.{impossible, lt-or-le}
 use Rattle.laws.specs.Parts.{getD-padded}
-use Rattle.laws.specs.Numbers.{numberAt}
+use Rattle.laws.specs.Numbers.{Bytes, numberAt}
 use Rattle.limits.specs.Limits.{MAX-EVENTS, MAX-PLACES}
 use Rattle.refusals.specs.Table.{BUNDLE-END}
 use Rattle.refusals.specs.Results.{value, refused, bind}
@@ -25,7 +25,7 @@ use Rattle.bundles.specs.Layout.{PlaceFields, toPlace}
 use Rattle.bundles.specs.Readers.{anything, place, places}
 use Rattle.bundles.specs.FieldReading.{upTo, byte-got}
 use Rattle.bundles.specs.ReadingLaws.{andThen-got}
-use Rattle.bundles.specs.NumberReading.{Spans, spans-number, spans-give, spans-same, spans-then, spans-times, numbersLeft, itemsAt, items-length, items-snoc}
+use Rattle.bundles.specs.NumberReading.{Spans, spans-number, spans-give, spans-same, spans-then, spans-times, numbersLeft, itemsAt, items-length, items-snoc, getD-items}
 use Rattle.bundles.specs.declared.Places.{Places}
 use Rattle.bundles.specs.declared.PlacesRead.{PlacesRead}
 use Rattle.bundles.specs.declared.PlacesRead.the-variants as places-read
@@ -46,6 +46,22 @@ fieldsAt n b at = record { initial = numberAt b at; produced = numbersAt n b (at
 -- the place of n events at an offset
 abbrev pub placeOn : ℕ → List ℕ → ℕ → theory.Place
 placeOn n b at = toPlace (fieldsAt n b at)
+
+-- each number of it is a `u16`
+module _ (b : List ℕ) (small : Bytes b) where
+  number-small : (at : ℕ) → numberAt b at < 65536
+  unfolding numberAt
+  number-small at = omega (arith, small at, small (at + 1))
+
+  numbers-small : (n at e : ℕ) → getD (numbersAt n b at) e 0 < 65536
+  numbers-small n at e = ⊎-elim
+      (λ h. subst (λ (x : ℕ). x < 65536) (sym (getD-items 1 numberAt n b at e 0 h)) (number-small (at + 2 * (e * 1))))
+      (λ h. subst (λ (x : ℕ). x < 65536) (sym (List·getD-eq-default (numbersAt n b at) 0 (omega (arith, items-length 1 numberAt n b at)))) (omega arith))
+      (lt-or-le e n)
+
+  pub place-small : (n at : ℕ) → (placeOn n b at .initial < 65536) × ((e : ℕ) → placeOn n b at .produced e < 65536) × ((e : ℕ) → placeOn n b at .consumed e < 65536)
+  unfolding toPlace
+  place-small n at = (number-small at, numbers-small n (at + 2), numbers-small n (at + 2 + 2 * n))
 
 pub spans-place : (n : ℕ) → Spans (place n) (placeSize n) (fieldsAt n)
 unfolding place

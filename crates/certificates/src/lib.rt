@@ -129,7 +129,9 @@ fn check_certificate(
 {
     match byte_up_to(bundle, at, 1) {
         Field::Refused(refusal) => Checked::Refused(refusal),
-        Field::Value(kind, next) => {
+        Field::Value(kind, _) => {
+            // Not the answer's offset, which is the same: the next read need not wait for the test of this one.
+            let next = at + 1;
             if kind == 0 {
                 return check_place(bundle, next, head, table, row, event, number);
             }

@@ -1,10 +1,9 @@
 -- The steps of the code that tests places side by side, as laws of the definitions in Columns.
 use mathlib.Core.Path.{_≡_, refl, sym, ap, ap₂, _∙_, subst}
-use mathlib.Core.Logic.{⊎-elim}
 use mathlib.Core.Bool.{true}
 use mathlib.Core.List.{List}
 use Prim.Native.Nat.{ℕ, _+_, _*_, _≤_, _<_}
-use native.Mathlib.Nat.{add-mul, eq-or-lt-of-le}
+use native.Mathlib.Nat.{add-mul}
 use native.Mathlib.Omega.{arith}
 use lib.Dec.{T}
 use lib.IntN.{ℤ, pos, subℕ, _+ℤ_, _-ℤ_, _*ℤ_, +ℤ-idr}
@@ -14,7 +13,7 @@ use lib.Signed.{nonNeg}
 use Rattle.laws.specs.Booleans.{yes-true, implied, implies}
 use Rattle.laws.specs.Bits.{bit}
 use Rattle.laws.specs.Differences.{difference, difference-add, difference-mul, difference-same}
-use Rattle.laws.specs.Lists.{all-member, all-intro, tabulate, tabulate-inverse}
+use Rattle.laws.specs.Lists.{all-member, all-intro, tabulate, tabulate-inverse, each-next}
 use Rattle.laws.specs.Scans.{failing-never}
 use Rattle.laws.specs.Sums.{sum, sum-same}
 use Rattle.limits.specs.Limits.{MAX-EVENTS}
@@ -142,20 +141,6 @@ module _ {p q : Place} (s : SamePlace p q) where
   pub same-fits : (rs : List Row) → fitsRows p rs ≡ true → fitsRows q rs ≡ true
   unfolding fitsRows
   same-fits rs e = yes-true _ (all-intro (rowFits q) rs (λ r k. same-row r (all-member (rowFits p) rs (rw e tt) k)))
-
--- ---- Lists written one number after another
-
--- what is so below k and at k is so below k + 1
-pub each-next : (P : ℕ → Type 0) (k : ℕ) → ((i : ℕ) → i < k → P i) → P k → (i : ℕ) → i < k + 1 → P i
-each-next P k below here i b = ⊎-elim (λ e. subst P (sym e) here) (below i) (eq-or-lt-of-le {n = i} {m = k} (omega arith))
-
--- the same of a list's elements, once element k is written
-pub each-set : {A : Type 0} (d : A) (P : ℕ → A → Type 0) (l : List A) (k : ℕ) (x : A) → k < length l → ((i : ℕ) → i < k → P i (getD l i d)) → P k x
-    → (i : ℕ) → i < k + 1 → P i (getD (set l k x) i d)
-each-set d P l k x h below here =
-    each-next (λ (i : ℕ). P i (getD (set l k x) i d)) k
-    (λ i b. subst (P i) (sym (getD-set-other l k i x d (λ e. omega arith))) (below i b))
-    (subst (P k) (sym (getD-set-same l k x d h)) here)
 
 -- ---- A place written into a column
 

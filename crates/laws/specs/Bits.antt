@@ -1,13 +1,13 @@
 -- Bits of numbers: a number as the set of those e whose bit is set.
 use mathlib.Core.Path.{_≡_, refl, sym, ap, _∙_}
 use mathlib.Core.Bool.{Bool, true, false, not, _||_}
-use Prim.Native.Nat.{ℕ, zero, suc, _+_, _*_, _/_, _%_, _^_, _≤_, _<_, max}
+use Prim.Native.Nat.{ℕ, zero, suc, _+_, _-_, _*_, _/_, _%_, _^_, _≤_, _<_, max}
 use native.Mathlib.Nat.{pow-succ', pow-suc, div-div-eq-div-mul, div-one, mul-div-cancel, mul-mod-left, mul-add-mod-self-right, mod-eq-of-lt, max-zero, zero-div, div-eq-of-lt, lt-of-lt-of-le}
 use native.Mathlib.Decide.{ℕ-discrete}
 use native.Mathlib.Omega.{arith}
 use borrow.Author.Tests.{eq-eqb, ne-eqb}
 use lib.Dec.{eqb}
-use lib.Bits.{bitOr, or-shr, or-step, or-zero-r, or-lt}
+use lib.Bits.{bitAnd, bitOr, and-mask, or-shr, or-step, or-zero-r, or-lt}
 use lib.Pow.{pow-lt, pow-mono}
 use mir.Val.{boolByte}
 
@@ -179,5 +179,11 @@ pub maskOf-none : (k : ℕ) → maskOf k (λ e. false) ≡ 0
 unfolding maskOf
 maskOf-none zero = refl
 maskOf-none (suc k) = ap (λ (n : ℕ). n * 2 + 0) (maskOf-none k)
+
+-- ---- the low bits
+
+-- a number of k bits, its k low bits cut out
+pub low-bits : (k n : ℕ) → n < 2 ^ k → bitAnd n (2 ^ k - 1) ≡ n
+low-bits k n h = and-mask n k ∙ mod-eq-of-lt h
 
 -- ---- how many bits are set

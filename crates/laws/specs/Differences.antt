@@ -7,7 +7,7 @@ use Prim.Native.Nat.{ℕ, zero, suc, _+_, _-_, _*_, _≤_, _<_, zero-le}
 use native.Mathlib.Nat.{add-zero, zero-mul, suc-mul}
 use native.Mathlib.Omega.{arith}
 use lib.Dec.{T, eqb, ltb, le→leb, leb→le}
-use lib.IntN.{ℤ, pos, negsuc, negℤ, subℕ, _+ℤ_, _-ℤ_, _*ℤ_, +ℤ-assoc, +ℤ-comm, negℤ-+ℤ, zero-*ℤ, sucℤ-*ℤ}
+use lib.IntN.{ℤ, pos, negsuc, negℤ, subℕ, _+ℤ_, _-ℤ_, _*ℤ_, +ℤ-assoc, +ℤ-comm, +ℤ-idl, +ℤ-idr, negℤ-+ℤ, zero-*ℤ, sucℤ-*ℤ}
 use lib.Signed.{mag, nonNeg, leZ, _≤ℤ_, leZ-yes, yes-nonNeg}
 use borrow.Author.Tests.{ltb-true, ltb-false, le-ltb, le-leb, ne-eqb}
 use Rattle.laws.specs.Sums.{sum}
@@ -54,6 +54,13 @@ difference-minus a b o =
     ∙ +ℤ-assoc (pos a) (negℤ (pos b)) (negℤ (pos o))
     ∙ ap (λ (t : ℤ). pos a +ℤ t) (sym (negℤ-+ℤ (pos b) (pos o)))
     ∙ difference a (b + o)
+
+-- a number once, and less none
+pub once : (z : ℤ) → pos 1 *ℤ z ≡ z
+once z = sucℤ-*ℤ (pos 0) z ∙ ap (λ (t : ℤ). t +ℤ z) (zero-*ℤ z) ∙ +ℤ-idl z
+
+pub less-none : (z : ℤ) {k : ℕ} → k ≡ 0 → z -ℤ pos k ≡ z
+less-none z none = ap (λ (n : ℕ). z -ℤ pos n) none ∙ +ℤ-idr z
 
 pub nonNeg-difference : (a b : ℕ) → T (nonNeg (subℕ a b)) ↔ (b ≤ a)
 nonNeg-difference a b = (to (ltb a b) refl, from (ltb a b) refl)

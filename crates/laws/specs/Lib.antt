@@ -14,3 +14,4 @@ pub mod Bits
 pub mod Numbers
 pub mod Ranks
 pub mod Spans
+pub mod Columns

@@ -1,16 +1,16 @@
 -- Tests over lists, with the law of each: `all`, `any`, `keep` (the members that pass a test, in order), `tabulate`, equality and
--- membership of lists of numbers, and a list for each member, joined.
+-- membership of lists of numbers, a list for each member, joined, and lists written one element after another.
 use mathlib.Core.Path.{_≡_, refl, sym, ap, ap₂, _∙_, subst}
 use mathlib.Core.Bool.{Bool, true, false, cond, _&&_, _||_, and-true, and-assoc, false≢true, true≢false}
 use mathlib.Core.Logic.{_⊎_, inl, inr, ⊎-elim}
 use mathlib.Core.List.{List, [], _∷_, _++_, map, flatMap, append-assoc, List·Memᴰ, List·Memᴰ·head, List·Memᴰ·tail, List·Memᴰ·not-nil, List·Memᴰ·cases-cons, Memᴰ·cast, List·Memᴰ·append-cases, Memᴰ·append-left, Memᴰ·append-right}
 use Prim.Native.Nat.{ℕ, zero, suc, _+_, _≤_, _<_, zero-le, suc-le-suc}
-use native.Mathlib.Nat.{not-suc-le-zero, le-of-suc-le-suc, add-zero, add-suc, le-add-right}
+use native.Mathlib.Nat.{not-suc-le-zero, le-of-suc-le-suc, add-zero, add-suc, le-add-right, eq-or-lt-of-le}
 use native.Mathlib.Numerals.{add-one}
 use lib.Dec.{T, eqb, eqb→eq, eqb-refl}
 use native.Mathlib.Omega.{arith}
-use lib.ListN.{length, take, drop, getD, replicate, length-append}
-use lib.Seq.{drop-cons, take-at, drop-at}
+use lib.ListN.{length, take, drop, getD, set, replicate, length-append}
+use lib.Seq.{drop-cons, take-at, drop-at, getD-set-same, getD-set-other, take-suc}
 use lib.Ieee.Fits.{and-i, and-l, and-r}
 use Rattle.laws.specs.Booleans.{same-test, or-yes, yes-or-left, yes-or-right, yes-true, true-or-false}
 
@@ -88,6 +88,15 @@ module _ {A : Type 0} where
   unfolding all
   all-append f [] ys = refl
   all-append f (x ∷ xs) ys = ap (λ (b : Bool). f x && b) (all-append f xs ys) ∙ sym (and-assoc (f x) (all f xs) (all f ys))
+
+  -- the elements before i + 1 pass when those before i do, and element i does
+  pub all-taken : (f : A → Bool) (l : List A) (i : ℕ) (d : A) → i < length l → all f (take (i + 1) l) ≡ (all f (take i l) && f (getD l i d))
+  unfolding all
+  all-taken f l i d h =
+      ap (λ (k : ℕ). all f (take k l)) (add-one i)
+      ∙ ap (all f) (take-suc l i d h)
+      ∙ all-append f (take i l) (getD l i d ∷ [])
+      ∙ ap (λ (b : Bool). all f (take i l) && b) (and-true (f (getD l i d)))
 
   -- tests that agree on the members
   pub all-same : (f g : A → Bool) (xs : List A) → ((x : A) → List·Memᴰ x xs → f x ≡ g x) → all f xs ≡ all g xs
@@ -315,3 +324,17 @@ module _ {A : Type 0} where
       let size : length b ≡ length a = omega (arith, length-append a (x ∷ []), length-append b (y ∷ []), ap length e) in
       let last : x ∷ [] ≡ y ∷ [] = sym (drop-at a (x ∷ []) (length a) refl) ∙ ap (drop (length a)) e ∙ drop-at b (y ∷ []) (length a) size in
       (sym (take-at a (x ∷ []) (length a) refl) ∙ ap (take (length a)) e ∙ take-at b (y ∷ []) (length a) size, cc)
+
+-- ---- lists written one element after another
+
+-- what is so below k and at k is so below k + 1
+pub each-next : (P : ℕ → Type 0) (k : ℕ) → ((i : ℕ) → i < k → P i) → P k → (i : ℕ) → i < k + 1 → P i
+each-next P k below here i b = ⊎-elim (λ e. subst P (sym e) here) (below i) (eq-or-lt-of-le {n = i} {m = k} (omega arith))
+
+-- the same of a list's elements, once element k is written
+pub each-set : {A : Type 0} (d : A) (P : ℕ → A → Type 0) (l : List A) (k : ℕ) (x : A) → k < length l → ((i : ℕ) → i < k → P i (getD l i d)) → P k x
+    → (i : ℕ) → i < k + 1 → P i (getD (set l k x) i d)
+each-set d P l k x h below here =
+    each-next (λ (i : ℕ). P i (getD (set l k x) i d)) k
+    (λ i b. subst (P i) (sym (getD-set-other l k i x d (λ e. omega arith))) (below i b))
+    (subst (P k) (sym (getD-set-same l k x d h)) here)

@@ -80,14 +80,18 @@ fn number_rows(table: &[u16], rows: usize, word: &[u8], index: &[u16], numbers: 
     let mut key = 0;
     let mut next = rows;
     let mut i = 0;
-    while i < word.len() {
-        let e = word[i] as usize;
+    // The prefixes are one more than the events, and the loop ends by the return. One call for all of them: then the compiler puts `number_row` into it.
+    while i <= word.len() {
         next = number_row(table, rows, counts, index, key, numbers, i, next);
+        if word.len() <= i {
+            return next;
+        }
+        let e = word[i] as usize;
         add_event(&mut counts, e);
         key += multiplier_of(e);
         i += 1;
     }
-    number_row(table, rows, counts, index, key, numbers, i, next)
+    next
 }
 
 // Visits a prefix with these counts, whose row is r, and sets the bit of event e, which follows it. Returns how many rows there are.
@@ -114,7 +118,7 @@ fn write_word(table: &mut [u16], rows: usize, word: &[u8], numbers: &[u16]) -> u
     while i < word.len() {
         let e = word[i] as usize;
         k = step(table, k, counts, numbers[i] as usize, e);
-        counts[e] = counts[e] + 1;
+        add_event(&mut counts, e);
         i += 1;
     }
     visit_row(table, k, counts, numbers[i] as usize)

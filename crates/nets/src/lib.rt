@@ -3,11 +3,13 @@
 use limits::MAX_EVENTS;
 ghost use mathlib.Core.Path.{_≡_};
 ghost use Prim.Native.Nat.{_≤_, _<_};
+ghost use lib.Dec.{ltb};
 ghost use lib.IntN.{pos, _-ℤ_, _*ℤ_};
 ghost use lib.ListN.{length};
 ghost use lib.Signed.{nonNeg};
 ghost use Rattle.laws.specs.Bits.{bit, withBit};
 ghost use Rattle.laws.specs.Differences.{negativePart};
+ghost use Rattle.laws.specs.Lists.{all};
 ghost use Rattle.limits.specs.Limits.{MAX-EVENTS};
 ghost use Rattle.nets.specs.Nets.{tokens as tokensAfter};
 ghost use Rattle.nets.specs.Events.{firstBad};
@@ -69,8 +71,21 @@ pub fn covers(tokens: i64, consumed: u16) -> bool
     shortfall(surplus(tokens, consumed)) == 0
 }
 
-// The position of the first event that is not below n, or the word's length. (Inner function.)
-pub fn first_bad(word: &[u8], n: usize) -> usize
+// Whether every event of a word is below n. No event ends the loop, so that the compiler takes several at a time.
+fn all_below(word: &[u8], n: u8) -> bool
+    ensures { λ r. ⌜ r ≡ all (λ e. ltb e n) (now (word .entry)) ⌝ }
+{
+    let mut fit = true;
+    let mut i = 0;
+    while i < word.len() {
+        fit = fit & (word[i] < n);
+        i += 1;
+    }
+    fit
+}
+
+// The position of the first event that is not below n, or the word's length.
+fn search_bad(word: &[u8], n: usize) -> usize
     ensures { λ r. ⌜ r ≡ firstBad n (now (word .entry)) ⌝ }
 {
     let mut i = 0;
@@ -81,6 +96,18 @@ pub fn first_bad(word: &[u8], n: usize) -> usize
         i += 1;
     }
     i
+}
+
+// The same. Mostly there is none, which is faster to find out. (Inner function.)
+pub fn first_bad(word: &[u8], n: usize) -> usize
+    ensures { λ r. ⌜ r ≡ firstBad n (now (word .entry)) ⌝ }
+{
+    if n < 256 {
+        if all_below(word, n as u8) {
+            return word.len();
+        }
+    }
+    search_bad(word, n)
 }
 
 // The mask with bit `event` set. (Inner function.)

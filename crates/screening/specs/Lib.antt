@@ -5,6 +5,8 @@ pub mod RefusalNumbers
 pub mod Positions
 pub mod Replay
 pub mod Searching
+pub mod Parts
+pub mod Groups
 pub mod ScreenLaws
 pub mod Joins
 pub mod JoinLaws

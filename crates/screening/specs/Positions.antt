@@ -1,16 +1,17 @@
 -- Screening by positions: the answer is the lowest position that some place refuses, then the lowest place that refuses it.
 -- It may be found place by place, each one followed only up to the best position so far.
 use mathlib.Core.Path.{_≡_, refl, sym, ap, ap₂, _∙_, subst}
-use mathlib.Core.Bool.{Bool, true, false, _&&_, and-true, and-assoc}
+use mathlib.Core.Bool.{Bool, true, false, _&&_, and-true}
 use mathlib.Core.List.{[], _∷_, _++_, append-nil, append-assoc}
 use Prim.Native.Nat.{ℕ, zero, suc, _+_, _≤_, _<_}
 use native.Mathlib.Nat.{not-suc-le-zero, le-of-suc-le-suc}
 use native.Mathlib.Omega.{arith}
-use lib.ListN.{length, take, getD, length-append, List·getD-append}
-use lib.Seq.{getD-append-seam}
+use lib.ListN.{length, take, getD, length-append, length-take, List·getD-append}
+use lib.Seq.{getD-append-seam, getD-append-add, take-take, getD-take}
 use Rattle.laws.specs.Lists.{all}
-use Rattle.laws.specs.Scans.{failing-append, failing-found, all-failing, some-failing}
+use Rattle.laws.specs.Scans.{failing-append, failing-found, failing-behind, all-failing, some-failing}
 use Rattle.nets.specs.Nets.{Word, Net, Place, Step, noPlace, permitted, stopped, stepAfter, stepAt, placePermits, netPermits, firstRefusing, shortfall, shortfallOf, stoppedAt, screenAfter, screen}
+use Rattle.nets.specs.Joining.{join-step}
 use Rattle.screening.specs.declared.Stop.{Stop}
 
 module _ (n : ℕ) where
@@ -24,6 +25,10 @@ module _ (n : ℕ) where
   -- behind one event more
   pub step-shift : (u : Word) (e : ℕ) (w : Word) (i : ℕ) → stepBehind (u ++ e ∷ []) w i ≡ stepBehind u (e ∷ w) (suc i)
   step-shift u e w i = ap (λ (v : Word). stepAfter n v (getD w i 0)) (append-assoc u (e ∷ []) (take i w))
+
+  -- the steps of a prefix are those of the word
+  pub step-cut : (w : Word) (end i : ℕ) → i < end → stepAt n (take end w) i ≡ stepAt n w i
+  step-cut w end i h = ap₂ (λ (u : Word) (e : ℕ). stepAfter n u e) (take-take i end w (omega arith)) (getD-take end w i 0 h)
 
   -- ---- screening
 
@@ -57,16 +62,31 @@ module _ (n : ℕ) where
 
   -- ---- one place more
 
-  module _ (p : Place) (s : Step) where
-    net-snoc : (net : Net) → netPermits n (net ++ p ∷ []) s ≡ netPermits n net s && placePermits n p s
-    unfolding netPermits all
-    net-snoc [] = and-true (placePermits n p s)
-    net-snoc (q ∷ net) = ap (λ (t : Bool). placePermits n q s && t) (net-snoc net) ∙ sym (and-assoc (placePermits n q s) (netPermits n net s) (placePermits n p s))
-
-    -- a place that is refused already stays the lowest
-    lowest-stays : (net : Net) → netPermits n net s ≡ false → firstRefusing n (net ++ p ∷ []) s ≡ firstRefusing n net s
+  -- a net with more places behind it
+  module _ (s : Step) (net more : Net) where
+    -- where it refuses already, its lowest place stays the lowest
+    lowest-stays : netPermits n net s ≡ false → firstRefusing n (net ++ more) s ≡ firstRefusing n net s
     unfolding netPermits firstRefusing
-    lowest-stays net e = failing-found (λ q. placePermits n q s) net (p ∷ []) (some-failing (λ q. placePermits n q s) net e)
+    lowest-stays e = failing-found (λ q. placePermits n q s) net more (some-failing (λ q. placePermits n q s) net e)
+
+    -- where it does not, the lowest of the others is
+    lowest-behind : netPermits n net s ≡ true → firstRefusing n (net ++ more) s ≡ length net + firstRefusing n more s
+    unfolding netPermits firstRefusing
+    lowest-behind e = failing-behind (λ q. placePermits n q s) net more e
+
+    -- the shortfalls stay, by the places' numbers
+    short-stays : (j : ℕ) → j < length net → shortfallOf n (net ++ more) j s ≡ shortfallOf n net j s
+    unfolding shortfallOf
+    short-stays j h = ap (λ (q : Place). shortfall n q s) (List·getD-append net more noPlace j h)
+
+    short-behind : (j : ℕ) → shortfallOf n (net ++ more) (length net + j) s ≡ shortfallOf n more j s
+    unfolding shortfallOf
+    short-behind j = ap (λ (q : Place). shortfall n q s) (getD-append-add net more j noPlace)
+
+  module _ (p : Place) (s : Step) where
+    permits-snoc : (net : Net) → netPermits n (net ++ p ∷ []) s ≡ netPermits n net s && placePermits n p s
+    unfolding netPermits all
+    permits-snoc net = join-step n net (p ∷ []) s ∙ ap (λ (t : Bool). netPermits n net s && t) (and-true (placePermits n p s))
 
     -- the new one is the lowest where no other refuses
     lowest-new : (net : Net) → netPermits n net s ≡ true → placePermits n p s ≡ false → firstRefusing n (net ++ p ∷ []) s ≡ length net
@@ -78,12 +98,8 @@ module _ (n : ℕ) where
     unfolding shortfallOf
     short-new net = ap (λ (q : Place). shortfall n q s) (getD-append-seam net p [] noPlace)
 
-    -- those of the others stay
-    short-stays : (net : Net) (j : ℕ) → j < length net → shortfallOf n (net ++ p ∷ []) j s ≡ shortfallOf n net j s
-    unfolding shortfallOf
-    short-stays net j h = ap (λ (q : Place). shortfall n q s) (List·getD-append net (p ∷ []) noPlace j h)
-
-    -- a place that refuses is there
+  -- a place that refuses is there
+  module _ (s : Step) where
     lowest-there : (net : Net) → netPermits n net s ≡ false → firstRefusing n net s < length net
     unfolding netPermits firstRefusing
     lowest-there net e = some-failing (λ q. placePermits n q s) net e
@@ -116,6 +132,10 @@ module _ (n : ℕ) where
         ∙ ap (λ (j : ℕ). stopped (stop .position) j (shortfallOf n net j (stepAt n w (stop .position)))) (b .first h)
         ∙ ap (stopped (stop .position) (stop .place)) (b .short h)
 
+    -- the place that refuses is one of the net
+    pub best-place : stop .position < length w → stop .place < length net
+    best-place h = subst (λ (j : ℕ). j < length net) (b .first h) (lowest-there (stepAt n w (stop .position)) net (b .refused h))
+
     pub best-permitted : length w ≤ stop .position → screen n net w ≡ permitted
     best-permitted h = screen-passed net w (λ i k. b .passed i (omega arith))
 
@@ -126,10 +146,10 @@ module _ (n : ℕ) where
           let step = stepAt n w (stop .position) in
           record {
             within = b .within;
-            passed = λ i h. net-snoc p (stepAt n w i) net ∙ rw (b .passed i h, permits i h);
-            refused = λ h. net-snoc p step net ∙ rw (b .refused h);
-            first = λ h. lowest-stays p step net (b .refused h) ∙ b .first h;
-            short = λ h. short-stays p step net (stop .place) (subst (λ (j : ℕ). j < length net) (b .first h) (lowest-there p step net (b .refused h))) ∙ b .short h;
+            passed = λ i h. permits-snoc p (stepAt n w i) net ∙ rw (b .passed i h, permits i h);
+            refused = λ h. permits-snoc p step net ∙ rw (b .refused h);
+            first = λ h. lowest-stays step net (p ∷ []) (b .refused h) ∙ b .first h;
+            short = λ h. short-stays step net (p ∷ []) (stop .place) (best-place h) ∙ b .short h;
           }
 
       -- a place that refuses an earlier one
@@ -138,8 +158,58 @@ module _ (n : ℕ) where
           → Best (net ++ p ∷ []) w (record { position = k; place = length net; shortfall = shortfall n p (stepAt n w k) })
       best-earlier k h permits refuses = record {
         within = omega (arith, b .within);
-        passed = λ i l. net-snoc p (stepAt n w i) net ∙ rw (b .passed i (omega arith), permits i l);
-        refused = λ l. net-snoc p (stepAt n w k) net ∙ rw (b .passed k h, refuses);
+        passed = λ i l. permits-snoc p (stepAt n w i) net ∙ rw (b .passed i (omega arith), permits i l);
+        refused = λ l. permits-snoc p (stepAt n w k) net ∙ rw (b .passed k h, refuses);
         first = λ l. lowest-new p (stepAt n w k) net (b .passed k h) refuses;
         short = λ l. short-new p (stepAt n w k) net;
+      }
+
+  -- ---- the places of two nets, the second searched up to the best position of the first
+
+  module _ {one two : Net} {w : Word} {first second : Stop} (a : Best one w first) (b : Best two (take (first .position) w) second) where
+    abbrev end : ℕ
+    end = first .position
+
+    size : length (take end w) ≡ end
+    size = length-take end w ∙ omega (arith, a .within)
+
+    both : (i : ℕ) → i < end → i < second .position → netPermits n (one ++ two) (stepAt n w i) ≡ true
+    both i h l = join-step n one two (stepAt n w i) ∙ rw (a .passed i h) (ap (netPermits n two) (sym (step-cut w end i h)) ∙ b .passed i l)
+
+    pub best-first : end ≤ second .position → Best (one ++ two) w first
+    best-first h =
+        let step = stepAt n w end in
+        record {
+          within = a .within;
+          passed = λ i l. both i l (omega arith);
+          refused = λ l. join-step n one two step ∙ rw (a .refused l);
+          first = λ l. lowest-stays step one two (a .refused l) ∙ a .first l;
+          short = λ l. short-stays step one two (first .place) (best-place a l) ∙ a .short l;
+        }
+
+    pub best-second : second .position < end → Best (one ++ two) w (record { position = second .position; place = length one + second .place; shortfall = second .shortfall })
+    best-second h =
+        let step = stepAt n w (second .position) in
+        let same = step-cut w end (second .position) h in
+        let inside : second .position < length (take end w) = omega (arith, size) in
+        let passed = a .passed (second .position) h in
+        record {
+          within = omega (arith, a .within);
+          passed = λ i l. both i (omega arith) l;
+          refused = λ l. join-step n one two step ∙ rw passed (ap (netPermits n two) (sym same) ∙ b .refused inside);
+          first = λ l. lowest-behind step one two passed ∙ ap (λ (j : ℕ). length one + j) (ap (firstRefusing n two) (sym same) ∙ b .first inside);
+          short = λ l. short-behind step one two (second .place) ∙ ap (shortfallOf n two (second .place)) (sym same) ∙ b .short inside;
+        }
+
+  -- a stop in a prefix is one of the word
+  pub best-cut : {net : Net} {w : Word} {stop : Stop} {end : ℕ} → end ≤ length w → Best net (take end w) stop → stop .position < end → Best net w stop
+  best-cut {net} {w} {stop} {end} inside b h =
+      let same = step-cut w end (stop .position) h in
+      let l : stop .position < length (take end w) = omega (arith, length-take end w) in
+      record {
+        within = omega arith;
+        passed = λ i k. ap (netPermits n net) (sym (step-cut w end i (omega arith))) ∙ b .passed i k;
+        refused = λ k. ap (netPermits n net) (sym same) ∙ b .refused l;
+        first = λ k. ap (firstRefusing n net) (sym same) ∙ b .first l;
+        short = λ k. ap (shortfallOf n net (stop .place)) (sym same) ∙ b .short l;
       }

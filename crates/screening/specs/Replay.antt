@@ -1,5 +1,5 @@
 -- The replay of a word on one place, with its tokens from step to step.
-use mathlib.Core.Path.{_≡_, refl, sym, ap, _∙_}
+use mathlib.Core.Path.{_≡_, refl, sym, ap, _∙_, subst}
 use mathlib.Core.Bool.{Bool, true, false, cond}
 use mathlib.Core.List.{[], _∷_, _++_}
 use Prim.Native.Nat.{ℕ, zero, suc, _+_, _≤_, _<_}
@@ -12,6 +12,7 @@ use lib.Seq.{drop-cons}
 use mir.Syntax.{w64}
 use mir.Val.{ofZ, toZ}
 use mir.Facts.{toZ-pos}
+use Rattle.limits.specs.Limits.{MAX-EVENTS, MAX-WORD-EVENTS}
 use Rattle.nets.specs.Nets.{Word, Place, Step, counts, stepAfter, tokens, placePermits, shortfall}
 use Rattle.nets.specs.Events.{EventsBelow}
 use Rattle.nets.specs.Machine.{Held}
@@ -36,56 +37,97 @@ replay p t (e ∷ w) = cond (covered p t e) (later 1 (replay p (moved p t e) w))
 unfoldable pub stopOf : Place → Word → Stop
 stopOf p w = replay p (pos (p .initial)) w
 
--- a loop has replayed i steps of w on the place p, with t tokens behind them
-pub record Going (p : Place) (w : Word) (t : ℤ) (i : ℕ) : Type 0 where
-  pub tokens : TokensAfter t i
-  pub rest : stopOf p w ≡ later i (replay p t (drop i w))
+-- a word over the twelve events that is replayed from t tokens on: so many as a place may have behind `earlier` events
+pub record Start (t : ℤ) (w : Word) : Type 0 where
+  pub earlier : ℕ
+  pub tokens : TokensAfter t earlier
+  pub size : earlier + length w ≤ MAX-WORD-EVENTS
+  pub events : EventsBelow MAX-EVENTS w
 
-pub going-start : (p : Place) (w : Word) → p .initial ≤ 65535 → Going p w (toZ w64 (p .initial)) 0
+-- the initial tokens are such a start
+module _ (p : Place) (few : p .initial ≤ 65535) (w : Word) where
+  pub start-initial : length w ≤ MAX-WORD-EVENTS → EventsBelow MAX-EVENTS w → Start (toZ w64 (p .initial)) w
+  start-initial short below = rw (toZ-pos w64 {n = p .initial} (omega arith)) (record { earlier = 0; tokens = tokens-start p few; size = omega arith; events = below })
+
+  pub replay-initial : replay p (toZ w64 (p .initial)) w ≡ stopOf p w
+  unfolding stopOf
+  replay-initial = rw (toZ-pos w64 {n = p .initial} (omega arith))
+
+-- a loop has replayed i steps of w on the place p, with t tokens behind them; s is what the whole replay finds
+pub record Going (p : Place) (w : Word) (s : Stop) (t : ℤ) (i : ℕ) : Type 0 where
+  pub earlier : ℕ
+  pub tokens : TokensAfter t (earlier + i)
+  pub size : earlier + length w ≤ MAX-WORD-EVENTS
+  pub rest : s ≡ later i (replay p t (drop i w))
+
+-- no step later
+none-later : (s : Stop) → s ≡ later 0 s
+none-later s = ap (λ (k : ℕ). record { position = k; place = s .place; shortfall = s .shortfall }) (omega arith)
+
+-- the tokens of a start, read back from their bits
+pub start-bits : {t : ℤ} {w : Word} → Start t w → toZ w64 (ofZ w64 t) ≡ t
+start-bits start = tokens-bits (start .tokens) (omega (arith, start .size))
+
+-- at first
+pub going-from : (p : Place) {w : Word} {t : ℤ} → Start t w → Going p w (replay p (toZ w64 (ofZ w64 t)) w) (toZ w64 (ofZ w64 t)) 0
+going-from p {w} {t} start =
+    rw (start-bits start)
+    (record {
+      earlier = start .earlier;
+      tokens = subst (TokensAfter t) (omega arith) (start .tokens);
+      size = start .size;
+      rest = none-later (replay p t w);
+    })
+
+pub going-start : (p : Place) (w : Word) → p .initial ≤ 65535 → length w ≤ MAX-WORD-EVENTS → Going p w (stopOf p w) (toZ w64 (p .initial)) 0
 unfolding stopOf
-going-start p w h = rw (toZ-pos w64 {n = p .initial} (omega arith)) (record { tokens = tokens-start p h; rest = at (replay p (pos (p .initial)) w) })
-  where
-    at : (s : Stop) → s ≡ later 0 s
-    at s = ap (λ (k : ℕ). record { position = k; place = s .place; shortfall = s .shortfall }) (omega arith)
+going-start p w h short = rw (toZ-pos w64 {n = p .initial} (omega arith)) (record {
+  earlier = 0;
+  tokens = tokens-start p h;
+  size = omega arith;
+  rest = none-later (replay p (pos (p .initial)) w);
+})
 
-module _ {p : Place} {w : Word} {t : ℤ} {i : ℕ} (g : Going p w t i) where
-  pub going-least : i ≤ stopOf p w .position
-  going-least = omega (arith, ap (λ (s : Stop). s .position) (g .rest))
+module _ {p : Place} {w : Word} {s : Stop} {t : ℤ} {i : ℕ} (g : Going p w s t i) where
+  pub going-least : i ≤ s .position
+  going-least = omega (arith, ap (λ (k : Stop). k .position) (g .rest))
 
-  pub going-end : length w ≤ i → stopOf p w ≡ stop i 0
+  pub going-end : length w ≤ i → s ≡ stop i 0
   unfolding replay
   going-end h = g .rest ∙ rw (drop-of-length-le w h) (ap (λ (k : ℕ). stop k 0) (omega arith))
 
-  pub going-held : i ≤ 65535 → Held t
-  going-held h = after-held (g .tokens) h
+  pub going-held : i ≤ length w → Held t
+  going-held h = after-held (g .tokens) (omega (arith, g .size))
 
   -- what the event leaves
-  pub going-left : i ≤ 65535 → p .consumed (getD w i 0) ≤ 65535 → {z : ℤ} → z ≡ left p t (getD w i 0) → Held z
-  going-left short few is = rw is (left-held (g .tokens) short (p .consumed (getD w i 0)) few)
+  pub going-left : i ≤ length w → p .consumed (getD w i 0) ≤ 65535 → {z : ℤ} → z ≡ left p t (getD w i 0) → Held z
+  going-left short few is = rw is (left-held (g .tokens) (omega (arith, g .size)) (p .consumed (getD w i 0)) few)
 
   module _ (h : i < length w) where
     step : replay p t (drop i w) ≡ cond (covered p t (getD w i 0)) (later 1 (replay p (moved p t (getD w i 0)) (drop (i + 1) w))) (stop 0 (missing p t (getD w i 0)))
     unfolding replay
     step = rw (drop-cons w i 0 h, add-one i)
 
-    pub going-stop : covered p t (getD w i 0) ≡ false → stopOf p w ≡ stop i (missing p t (getD w i 0))
+    pub going-stop : covered p t (getD w i 0) ≡ false → s ≡ stop i (missing p t (getD w i 0))
     going-stop e = g .rest ∙ rw (step, e) (ap (λ (k : ℕ). stop k (missing p t (getD w i 0))) (omega arith))
 
     module _ (e : covered p t (getD w i 0) ≡ true) where
-      passed : stopOf p w ≡ later (i + 1) (replay p (moved p t (getD w i 0)) (drop (i + 1) w))
+      passed : s ≡ later (i + 1) (replay p (moved p t (getD w i 0)) (drop (i + 1) w))
       passed = g .rest ∙ rw (step, e) (shift (replay p (moved p t (getD w i 0)) (drop (i + 1) w)))
         where
           shift : (s : Stop) → later i (later 1 s) ≡ later (i + 1) s
           shift s = ap (λ (k : ℕ). record { position = k; place = s .place; shortfall = s .shortfall }) (omega arith)
 
-      pub going-past : i < stopOf p w .position
-      going-past = omega (arith, ap (λ (s : Stop). s .position) passed)
+      pub going-past : i < s .position
+      going-past = omega (arith, ap (λ (k : Stop). k .position) passed)
 
-      pub going-next : i + 1 ≤ 65535 → p .produced (getD w i 0) ≤ 65535 → {y z : ℤ} → y ≡ left p t (getD w i 0) → z ≡ y +ℤ pos (p .produced (getD w i 0))
-          → Going p w (toZ w64 (ofZ w64 z)) (i + 1)
-      going-next short few {y} {z} leaves is =
+      pub going-next : p .produced (getD w i 0) ≤ 65535 → {y z : ℤ} → y ≡ left p t (getD w i 0) → z ≡ y +ℤ pos (p .produced (getD w i 0))
+          → Going p w s (toZ w64 (ofZ w64 z)) (i + 1)
+      going-next few {y} {z} leaves is =
           let next = tokens-moved (g .tokens) p (getD w i 0) e few in
-          rw (is, leaves, tokens-bits next short) (record { tokens = next; rest = passed })
+          let more : g .earlier + i + 1 ≡ g .earlier + (i + 1) = omega arith in
+          rw (is, leaves, tokens-bits next (omega (arith, g .size)))
+          (record { earlier = g .earlier; tokens = subst (TokensAfter (moved p t (getD w i 0))) more next; size = g .size; rest = passed })
 
 module _ (n : ℕ) (p : Place) where
   -- s is the first step of w behind u that the place refuses, with its shortfall there; its position is the word's length where there is none

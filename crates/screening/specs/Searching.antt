@@ -9,12 +9,12 @@ use native.Mathlib.Numerals.{add-one}
 use native.Mathlib.Omega.{arith}
 use borrow.Author.Tests.{le-leb, lt-leb, leb-true, leb-false}
 use lib.Dec.{leb}
-use lib.IntN.{pos}
+use lib.IntN.{ℤ, pos}
 use lib.ListN.{length, take, length-map, length-take, length-append}
-use lib.Seq.{take-take, getD-take}
+use lib.Seq.{getD-take}
 use Rattle.laws.specs.Booleans.{lt-or-le}
 use Rattle.limits.specs.Limits.{MAX-WORD-EVENTS}
-use Rattle.nets.specs.Nets.{Word, Net, Place, stepAfter, stepAt, placePermits, shortfall}
+use Rattle.nets.specs.Nets.{Word, Net, Place, stepAt, placePermits, shortfall}
 use Rattle.nets.specs.Events.{EventsBelow}
 use Rattle.nets.specs.Machine as machine
 use Rattle.nets.specs.Markings.{tokens-none}
@@ -26,8 +26,8 @@ use Rattle.bundles.specs.NumberReading.{itemsAt, items-length, items-snoc}
 use Rattle.bundles.specs.PlaceReading.{placeSize, fieldsAt, placeOn, machinePlace, place-means}
 use Rattle.bundles.specs.declared.Places.{Places}
 use Rattle.bundles.specs.declared.Head.{Head}
-use Rattle.screening.specs.Positions.{Best, best-stays, best-earlier}
-use Rattle.screening.specs.Replay.{First, stop, stopOf, replay-first}
+use Rattle.screening.specs.Positions.{step-cut, Best, best-stays, best-earlier}
+use Rattle.screening.specs.Replay.{First, stop, replay, stopOf, replay-first}
 use Rattle.screening.specs.declared.Stop.{Stop}
 
 -- a stop, by the place of that number
@@ -65,12 +65,15 @@ module _ (a b : Stop) where
 pub stop-means : (n : ℕ) (b : List ℕ) (at : ℕ) (w : Word) (p : declared.Place) → p ≡ machinePlace (fieldsAt n b at) → stopOf (machine.placeOf p) w ≡ stopOf (placeOn n b at) w
 stop-means n b at w p e = ap (λ (q : declared.Place). stopOf (machine.placeOf q) w) e ∙ ap (λ (q : Place). stopOf q w) (place-means (fieldsAt n b at))
 
+pub replay-means : (n : ℕ) (b : List ℕ) (at : ℕ) (t : ℤ) (w : Word) (p : declared.Place) → p ≡ machinePlace (fieldsAt n b at) → replay (machine.placeOf p) t w ≡ replay (placeOn n b at) t w
+replay-means n b at t w p e = ap (λ (q : declared.Place). replay (machine.placeOf q) t w) e ∙ ap (λ (q : Place). replay q t w) (place-means (fieldsAt n b at))
+
 -- ---- the places of a bundle, from an offset on
 
 abbrev pub netAt : ℕ → List ℕ → ℕ → ℕ → Net
 netAt n b first count = map toPlace (itemsAt (placeSize n) (fieldsAt n) count b first)
 
-net-snoc : (n : ℕ) (b : List ℕ) (first j : ℕ) → netAt n b first (j + 1) ≡ netAt n b first j ++ placeOn n b (first + 2 * (j * placeSize n)) ∷ []
+pub net-snoc : (n : ℕ) (b : List ℕ) (first j : ℕ) → netAt n b first (j + 1) ≡ netAt n b first j ++ placeOn n b (first + 2 * (j * placeSize n)) ∷ []
 net-snoc n b first j = rw (add-one j) (ap (map toPlace) (items-snoc (placeSize n) (fieldsAt n) j b first) ∙ map-append toPlace (itemsAt (placeSize n) (fieldsAt n) j b first) (fieldsAt n b (first + 2 * (j * placeSize n)) ∷ []))
 
 -- no place yet
@@ -78,7 +81,7 @@ pub net-start : (n : ℕ) (b : List ℕ) (first : ℕ) (net : Net) → net ++ ne
 unfolding itemsAt
 net-start n b first net = append-nil net
 
-net-length : (n : ℕ) (b : List ℕ) (first j : ℕ) → length (netAt n b first j) ≡ j
+pub net-length : (n : ℕ) (b : List ℕ) (first j : ℕ) → length (netAt n b first j) ≡ j
 net-length n b first j = length-map (itemsAt (placeSize n) (fieldsAt n) j b first) toPlace ∙ items-length (placeSize n) (fieldsAt n) j b first
 
 -- the net of a bundle whose head was read
@@ -108,27 +111,24 @@ module _ (n : ℕ) (w : Word) (below : EventsBelow n w) where
   pub part-below : (k : ℕ) → EventsBelow n (take k w)
   part-below k i h = let inside : i < k = omega (arith, length-take k w) in rw (getD-take k w i 0 inside) (below i (omega (arith, length-take k w)))
 
-  -- what the replay of a word's beginning says of the word
+  -- what the replay of a prefix says of the word
   module _ (p : Place) (k : ℕ) (inside : k ≤ length w) where
     found : First n p [] (take k w) (stopOf p (take k w))
     unfolding stopOf
     found = replay-first n p (take k w) [] (pos (p .initial)) (part-below k) (sym (tokens-none n p))
 
-    step-same : (i : ℕ) → i < k → stepAt n (take k w) i ≡ stepAt n w i
-    step-same i h = ap₂ (λ (u : Word) (e : ℕ). stepAfter n u e) (take-take i k w (omega arith)) (getD-take k w i 0 h)
-
     stop-within : stopOf p (take k w) .position ≤ k
     stop-within = omega (arith, found .within, length-take k w)
 
     stop-permits : (i : ℕ) → i < stopOf p (take k w) .position → placePermits n p (stepAt n w i) ≡ true
-    stop-permits i h = ap (placePermits n p) (sym (step-same i (omega (arith, stop-within)))) ∙ found .permits i h
+    stop-permits i h = ap (placePermits n p) (sym (step-cut n w k i (omega (arith, stop-within)))) ∙ found .permits i h
 
     module _ (h : stopOf p (take k w) .position < k) where
       stop-refuses : placePermits n p (stepAt n w (stopOf p (take k w) .position)) ≡ false
-      stop-refuses = ap (placePermits n p) (sym (step-same (stopOf p (take k w) .position) h)) ∙ found .refuses (omega (arith, length-take k w))
+      stop-refuses = ap (placePermits n p) (sym (step-cut n w k (stopOf p (take k w) .position) h)) ∙ found .refuses (omega (arith, length-take k w))
 
       stop-short : shortfall n p (stepAt n w (stopOf p (take k w) .position)) ≡ stopOf p (take k w) .shortfall
-      stop-short = ap (shortfall n p) (sym (step-same (stopOf p (take k w) .position) h)) ∙ found .short (omega (arith, length-take k w))
+      stop-short = ap (shortfall n p) (sym (step-cut n w k (stopOf p (take k w) .position) h)) ∙ found .short (omega (arith, length-take k w))
 
   -- so far a net and j places of a bundle were searched, and the next place is replayed up to some position of the word
   module _ (net : Net) (b : List ℕ) (first j : ℕ) {from : Stop} (so-far : Best n (net ++ netAt n b first j) w from) (end : ℕ) (inside : end ≤ length w) where

@@ -1,4 +1,6 @@
 // Screening a word: the first step that a bundle's net refuses, or two nets joined. The contracts cite specs/Screening.antt.
+pub mod parts; // the search in a long word
+
 use bundles::Head;
 use bundles::HeadRead;
 use limits::MAX_WORD_EVENTS;
@@ -7,6 +9,8 @@ use nets::covers;
 use nets::first_bad;
 use nets::shortfall;
 use nets::surplus;
+use parts::LONG;
+use parts::search_long;
 use refusals::EVENT_COUNTS;
 use refusals::Refusal;
 use refusals::WORD_EVENT;
@@ -25,7 +29,7 @@ ghost use Rattle.bundles.specs.HeadReading.{headRead};
 ghost use Rattle.bundles.specs.PlaceReading.{placeSize, placeOn};
 ghost use Rattle.screening.specs.Screening.{replayed, screened, screenedJoined};
 ghost use Rattle.screening.specs.Positions.{Best};
-ghost use Rattle.screening.specs.Replay.{stopOf};
+ghost use Rattle.screening.specs.Replay.{replay, stopOf, Start};
 ghost use Rattle.screening.specs.Searching.{WordOver, Searchable, netAt, firstOf};
 ghost use Rattle.screening.specs.ScreenLaws.{foundIn};
 
@@ -68,13 +72,13 @@ fn tokens_behind(left: i64, produced: u16) -> i64
     left + produced as i64
 }
 
-// The first step of a word that a place refuses, or the word's length where there is none. `covers` tests the shortfall of the same difference:
-// `shortfall(left) != 0` in its place compiles to a subtraction and a test, which on the longest word took a seventh more time.
-fn stop_of(place: Place, word: &[u8]) -> Stop
-    requires { ⌜ WordOver MAX-EVENTS (now word) ⌝ }
-    ensures { λ r. ⌜ r ≡ stopOf (placeOf place) (now (word .entry)) ⌝ }
+// The first step of a word that a place refuses, with so many tokens at first, or the word's length where there is none. `covers` tests the
+// shortfall of the same difference: `shortfall(left) != 0` in its place compiles to a subtraction and a test more at each step.
+fn stop_from(place: Place, start: i64, word: &[u8]) -> Stop
+    requires { ⌜ Start start (now word) ⌝ }
+    ensures { λ r. ⌜ r ≡ replay (placeOf place) start (now (word .entry)) ⌝ }
 {
-    let mut tokens = place.initial as i64;
+    let mut tokens = start;
     let mut i = 0;
     while i < word.len() {
         let event = word[i] as usize;
@@ -124,7 +128,7 @@ fn stop_of_place_at(bundle: &[u8], at: usize, n: usize, word: &[u8], end: usize)
     ensures { λ r. ⌜ r ≡ stopOf (placeOn n (now (bundle .entry)) at) (take end (now (word .entry))) ⌝ }
 {
     let place = bundles::net::place_at(bundle, at, n);
-    stop_of(place, &word[..end])
+    stop_from(place, place.initial as i64, &word[..end])
 }
 
 // The first of the word's first `end` steps that one of the two places at an offset refuses, and which of them.
@@ -168,8 +172,9 @@ fn search_pairs(bundle: &[u8], head: Head, word: &[u8], before: usize, from: Sto
     stop_at(best, lowest, missing)
 }
 
-// The first refused step of a word with the places of a bundle, which follow `before` places whose first refused step is `from`.
-fn search_places(bundle: &[u8], head: Head, word: &[u8], before: usize, from: Stop) -> Stop
+// The first refused step of a word with the places of a bundle, which follow `before` places whose first refused step is `from`: pair by pair, and
+// an odd last one.
+fn search_short(bundle: &[u8], head: Head, word: &[u8], before: usize, from: Stop) -> Stop
     requires { ⌜ Searchable (now bundle) head (now word) ⌝ }
     requires { ⌜ (before ≤ MAX-PLACES) × (from .position ≤ length (now word)) ⌝ }
     ensures { λ r. ⌜ ((net : Net) → length net ≡ before → Best (eventsIn (now (bundle .entry))) net (now (word .entry)) from
@@ -186,6 +191,22 @@ fn search_places(bundle: &[u8], head: Head, word: &[u8], before: usize, from: St
         return found;
     }
     stop_at(last.position, before + paired, last.shortfall)
+}
+
+// The first refused step of a word with the places of a bundle, which follow `before` places whose first refused step is `from`. A long word with
+// three places or more is searched part by part, eight places at a time.
+fn search_places(bundle: &[u8], head: Head, word: &[u8], before: usize, from: Stop) -> Stop
+    requires { ⌜ Searchable (now bundle) head (now word) ⌝ }
+    requires { ⌜ (before ≤ MAX-PLACES) × (from .position ≤ length (now word)) ⌝ }
+    ensures { λ r. ⌜ ((net : Net) → length net ≡ before → Best (eventsIn (now (bundle .entry))) net (now (word .entry)) from
+        → Best (eventsIn (now (bundle .entry))) (net ++ netIn (now (bundle .entry))) (now (word .entry)) r) ⌝ }
+{
+    if LONG <= from.position {
+        if 2 < head.places.count {
+            return search_long(bundle, head, word, before, from);
+        }
+    }
+    search_short(bundle, head, word, before, from)
 }
 
 // The answer of a search in a word of so many events.

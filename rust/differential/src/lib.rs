@@ -13,6 +13,7 @@
 //! - [`fields`], [`places`]: reading a bundle, and its places, by the definitions.
 //! - [`judging`], [`pruning`], [`screening`]: judging, pruning and screening, by the
 //!   definitions.
+//! - [`long_words`]: long words, and places that have no token to spare on them.
 //! - [`samples`]: the files in `samples/`.
 //! - [`vectors`]: cases with their answers, from a file.
 //! - [`programs`]: the programs, run as a person or a script runs them.
@@ -41,6 +42,7 @@ pub mod guarded;
 pub mod judging;
 pub mod limits;
 pub mod logs;
+pub mod long_words;
 pub mod nets;
 pub mod places;
 pub mod programs;

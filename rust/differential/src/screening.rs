@@ -216,15 +216,20 @@ fn any_place(rng: &mut Rng, n: usize, word: &[u8]) -> Place {
     let ins: Vec<u16> = (0..n).map(|_| number()).collect();
     let outs: Vec<u16> = (0..n).map(|_| number()).collect();
 
+    Place {
+        m: fewest_tokens(&ins, &outs, word).min(65_535) as u16,
+        ins,
+        outs,
+    }
+}
+
+/// The fewest initial tokens with which a place permits a word.
+pub fn fewest_tokens(ins: &[u16], outs: &[u16], word: &[u8]) -> i64 {
     let mut tokens = 0;
     let mut fewest = 0;
     for event in word.iter().map(|&event| usize::from(event)) {
         fewest = fewest.max(i64::from(outs[event]) - tokens);
         tokens += i64::from(ins[event]) - i64::from(outs[event]);
     }
-    Place {
-        m: fewest.min(65_535) as u16,
-        ins,
-        outs,
-    }
+    fewest
 }

@@ -146,6 +146,7 @@ fn pages_around_the_buffers_are_not_touched() {
          4046 screened\n"
     );
     assert_eq!(run("joined_pages"), "6240 screened on two nets\n");
+    assert_eq!(run("long_pages"), "15360 long words screened\n");
     assert_eq!(run("prune_pages"), "17920 pruned\n");
 }
 

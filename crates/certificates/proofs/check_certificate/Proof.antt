@@ -1,6 +1,6 @@
 -- `certificates::check_certificate` meets its contract: the kind decides which of the two tests is made.
 use mathlib.Core.Path.{_≡_, sym, ap, _∙_}
-use Prim.Native.Nat.{ℕ, _≤_}
+use Prim.Native.Nat.{ℕ, _+_, _≤_}
 use native.Mathlib.Omega.{arith}
 use borrow.Author.Needs.{needs}
 use borrow.Author.Tests.{leb-true}
@@ -12,9 +12,16 @@ use Rattle.certificates.proofs.check_certificate.Statement.{statement}
 use Rattle.certificates.proofs.check_certificate.Tie as tie
 
 -- the kind
-known : (c : tie.After-kind) → let a = c .before .before .before .before .before .args in byte (upTo 1) (a .bundle .now) (a .at) ≡ got (c .kind .given .0 .0) (c .kind .given .0 .1 .0)
+read : (c : tie.After-kind) → let a = c .before .before .before .before .before .args in byte (upTo 1) (a .bundle .now) (a .at) ≡ got (c .kind .given .0 .0) (c .kind .given .0 .1 .0)
 unfolding readOf
-known c = sym (c .before .before .byte-up-to .ensures) ∙ ap readOf (c .kind .given .1)
+read c = sym (c .before .before .byte-up-to .ensures) ∙ ap readOf (c .kind .given .1)
+
+-- and the offset behind it
+known : (c : tie.After-kind) → let a = c .before .before .before .before .before .args in byte (upTo 1) (a .bundle .now) (a .at) ≡ got (c .kind .given .0 .0) (a .at + 1)
+known c = read c ∙ ap (got (c .kind .given .0 .0)) (byte-got _ _ _ _ _ (read c) .2)
+
+add-next : tie.Need-add-next
+add-next c = let behind = byte-got _ _ _ _ _ (read (c .before)) in omega (arith, behind .2, behind .3)
 
 -- the bundle has bytes
 bytes : (c : tie.After-shared-slice-known) → Bytes (c .before .args .bundle .now)
@@ -27,7 +34,7 @@ returns c =
     let first : kind .kind .given .0 .0 ≡ 0 = omega (arith, c .before .if1 .taken) in
     λ before size.
     place-checked (start .pre .0) (start .args .row) (start .pre .1 .0) (start .args .event) (start .pre .1 .1) before _ size _
-    (known kind ∙ ap (λ (k : ℕ). got k (kind .kind .given .0 .1 .0)) first) (c .check-place .ensures)
+    (known kind ∙ ap (λ (k : ℕ). got k (start .args .at + 1)) first) (c .check-place .ensures)
 
 returns-2 : tie.Need-returns-2
 unfolding readOf
@@ -46,7 +53,7 @@ returns-3 c =
     λ before size.
     weights-checked (start .pre .0) (start .args .row) (start .pre .1 .0) (start .args .event) (start .pre .1 .1) before _ size _
     (bytes (kind .before .before .before .before))
-    (known kind ∙ ap (λ (k : ℕ). got k (kind .kind .given .0 .1 .0)) second) (c .check-weights .ensures) (c .before .read-weights .ensures)
+    (known kind ∙ ap (λ (k : ℕ). got k (start .args .at + 1)) second) (c .check-weights .ensures) (c .before .read-weights .ensures)
 
 pub check-certificate-spec : {M : Type 1} → statement M
 check-certificate-spec =
@@ -55,6 +62,7 @@ check-certificate-spec =
     (λ c κs. search needs)
     (λ c. search needs)
     (λ c. search needs)
+    add-next
     (λ c κs. search needs)
     returns
     (λ c κs. search needs)

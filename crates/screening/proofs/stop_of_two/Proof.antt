@@ -12,19 +12,19 @@ use Rattle.laws.specs.Differences.{negativePart}
 use Rattle.limits.specs.Limits.{MAX-EVENTS}
 use Rattle.nets.specs.Machine.{placeOf}
 use Rattle.nets.specs.Markings.{left}
-use Rattle.screening.specs.Replay.{stop, Going, going-start, going-least, going-held, going-left, going-stop, going-past, going-next, going-end}
+use Rattle.screening.specs.Replay.{stop, stopOf, Going, going-start, going-least, going-held, going-left, going-stop, going-past, going-next, going-end}
 use Rattle.screening.specs.Searching.{named, first-stops, second-stops}
 use Rattle.screening.proofs.stop_of_two.Statement.{statement}
 use Rattle.screening.proofs.stop_of_two.Tie as tie
 
 abbrev Inv-loop : tie.InvT-loop
-Inv-loop word one two first₀ second₀ i₀ first second i = (i ≤ length word) × Going (placeOf one) word (toZ w64 first) i × Going (placeOf two) word (toZ w64 second) i
+Inv-loop word one two first₀ second₀ i₀ first second i = (i ≤ length word) × Going (placeOf one) word (stopOf (placeOf one) word) (toZ w64 first) i × Going (placeOf two) word (stopOf (placeOf two) word) (toZ w64 second) i
 
 abbrev μ-loop : tie.MeasureT-loop
 μ-loop word one two first₀ second₀ i₀ first second i = length word - i
 
 loop-holds : tie.Need-loop-holds Inv-loop μ-loop
-loop-holds c = (omega arith, going-start _ _ (omega arith), going-start _ _ (omega arith))
+loop-holds c = (omega arith, going-start _ _ (omega arith) (c .before .pre .size), going-start _ _ (omega arith) (c .before .pre .size))
 
 -- the event of a turn is below 12
 event : (c : tie.In-loop Inv-loop μ-loop) → getD (c .before .before .before .args .word .now) (c .before .loop .i) 0 < MAX-EVENTS
@@ -106,8 +106,8 @@ loop-again c =
     let passed₁ = sym (one .before .covers .ensures) ∙ not-false _ (one .if1 .left) in
     let passed₂ = sym (tested .covers2 .ensures) ∙ not-false _ (two .if2 .left) in (
       omega arith,
-      going-next (inv .1) (turn .loop-test .taken) passed₁ (omega arith) (omega (arith, few turn .1 .fits)) (rest₁ (one .before .before)) (c .before .before .tokens-behind .ensures),
-      going-next (inv .2) (turn .loop-test .taken) passed₂ (omega arith) (omega (arith, few turn .3 .fits)) (rest₂ (tested .before)) (c .tokens-behind2 .ensures),
+      going-next (inv .1) (turn .loop-test .taken) passed₁ (omega (arith, few turn .1 .fits)) (rest₁ (one .before .before)) (c .before .before .tokens-behind .ensures),
+      going-next (inv .2) (turn .loop-test .taken) passed₂ (omega (arith, few turn .3 .fits)) (rest₂ (tested .before)) (c .tokens-behind2 .ensures),
     )
 
 returns-3 : tie.Need-returns-3 Inv-loop μ-loop

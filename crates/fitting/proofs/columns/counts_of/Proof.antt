@@ -4,8 +4,8 @@ use Prim.Native.Nat.{ℕ, _-_, _≤_, _<_}
 use native.Mathlib.Omega.{arith}
 use borrow.Author.Needs.{needs}
 use lib.ListN.{length, getD, length-set}
+use Rattle.laws.specs.Lists.{each-set}
 use Rattle.limits.specs.Limits.{MAX-EVENTS}
-use Rattle.fitting.specs.ColumnLaws.{each-set}
 use Rattle.fitting.proofs.columns.counts_of.Statement.{statement}
 use Rattle.fitting.proofs.columns.counts_of.Tie as tie
 

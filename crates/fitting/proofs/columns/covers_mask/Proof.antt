@@ -6,9 +6,9 @@ use borrow.Author.Needs.{needs}
 use borrow.Author.Tests.{not-false}
 use lib.Dec.{T}
 use Rattle.laws.specs.Bits.{bit}
+use Rattle.laws.specs.Lists.{each-next}
 use Rattle.limits.specs.Limits.{MAX-EVENTS}
 use Rattle.fitting.specs.Columns.{outRow, Covered}
-use Rattle.fitting.specs.ColumnLaws.{each-next}
 use Rattle.fitting.proofs.columns.covers_mask.Statement.{statement}
 use Rattle.fitting.proofs.columns.covers_mask.Tie as tie
 

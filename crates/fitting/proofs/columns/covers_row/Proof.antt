@@ -1,43 +1,22 @@
 -- `fitting::columns::covers_row` meets its contract. The invariant: where the sign of `all` is clear, the surplus of each column below j is 0 or more.
-use mathlib.Core.Path.{_≡_, refl, sym, ap, _∙_, subst}
-use Prim.Native.Nat.{ℕ, suc, _+_, _-_, _^_, _≤_, _<_}
+use mathlib.Core.Path.{_≡_, sym, ap, _∙_, subst}
+use Prim.Native.Nat.{ℕ, _+_, _-_, _^_, _≤_, _<_}
 use native.Mathlib.Omega.{arith}
 use borrow.Author.Needs.{needs}
-use borrow.Author.Tests.{ltb-true}
-use lib.Bits.{bitOr, or-add-and, and-le-l, and-le-r}
-use lib.Dec.{T, eqb, ltb}
-use lib.IntN.{ℤ, pos, negsuc, _-ℤ_}
+use lib.Bits.{bitOr}
+use lib.Dec.{T, eqb}
+use lib.IntN.{ℤ, pos, _-ℤ_}
 use lib.ListN.{getD}
 use lib.Signed.{nonNeg}
-use mathlib.Core.Bool.{Bool, true, false}
 use mir.Syntax.{w64}
-use mir.Val.{SFits, sel, toZ, ofZ}
+use mir.Val.{toZ, ofZ}
 use mir.Facts.{toZ-ofZ}
 use Rattle.laws.specs.Differences.{negative-tested}
+use Rattle.laws.specs.Lists.{each-next}
 use Rattle.nets.specs.Machine.{Held}
-use Rattle.fitting.specs.ColumnLaws.{each-next}
+use Rattle.nets.proofs.Signed.{sign-clear, clear-sign, or-left, or-right}
 use Rattle.fitting.proofs.columns.covers_row.Statement.{statement}
 use Rattle.fitting.proofs.columns.covers_row.Tie as tie
-
--- bits that are 0 or more as a signed number have a clear sign
-sign-clear : (n : ℕ) → nonNeg (toZ w64 n) ≡ true → n < 2 ^ 63
-sign-clear n e = go (ltb n (2 ^ 63)) refl e
-  where
-    go : (b : Bool) → ltb n (2 ^ 63) ≡ b → nonNeg (sel b (pos n) (negsuc (2 ^ 64 - suc n))) ≡ true → n < 2 ^ 63
-    go true q h = ltb-true n (2 ^ 63) q
-    go false q h = absurd (subst T (sym h) tt)
-
--- and the other way round
-clear-sign : (z : ℤ) → SFits w64 z → ofZ w64 z < 2 ^ 63 → T (nonNeg z)
-clear-sign (pos n) f h = tt
-clear-sign (negsuc n) f h = absurd (omega (arith, f .sfits))
-
--- no bit is lost
-or-left : (a b : ℕ) → a ≤ bitOr a b
-or-left a b = omega (arith, or-add-and a b, and-le-r a b)
-
-or-right : (a b : ℕ) → b ≤ bitOr a b
-or-right a b = omega (arith, or-add-and a b, and-le-l a b)
 
 abbrev Inv-loop : tie.InvT-loop
 Inv-loop tokens count matrix at all₀ j₀ all j =

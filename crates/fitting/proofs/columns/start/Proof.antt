@@ -7,7 +7,8 @@ use lib.IntN.{pos}
 use lib.ListN.{length, getD, length-set}
 use mir.Syntax.{w64}
 use mir.Facts.{toZ-pos}
-use Rattle.fitting.specs.ColumnLaws.{each-set, marking-start}
+use Rattle.laws.specs.Lists.{each-set}
+use Rattle.fitting.specs.ColumnLaws.{marking-start}
 use Rattle.fitting.proofs.columns.start.Statement.{statement}
 use Rattle.fitting.proofs.columns.start.Tie as tie
 

@@ -1,12 +1,12 @@
 -- `logs::words::write_word` meets its contract.
 use borrow.Author.Needs.{needs}
 use Prim.Native.Nat.{_+_, _-_, _<_}
-use mathlib.Core.Path.{_≡_, refl, sym, _∙_}
+use mathlib.Core.Path.{_≡_, sym, _∙_}
 use native.Mathlib.Omega.{arith}
 use lib.ListN.{length, getD, take}
 use lib.Seq.{getD-take}
 use Rattle.limits.specs.Limits.{MAX-EVENTS}
-use Rattle.rows.specs.Rows.{rowsOf, addEvent, findRow, takeWord, none}
+use Rattle.rows.specs.Rows.{rowsOf, findRow, takeWord, none}
 use Rattle.logs.specs.Takable.{takable-room}
 use Rattle.logs.specs.Taking.{Taking, taking-none, taking-row, taking-room, taking-again, taking-end}
 use Rattle.logs.proofs.words.write_word.Statement.{statement}
@@ -50,17 +50,19 @@ event c =
     let here = c .before .before .before .before .before .before .before in
     here .before .before .before .before .pre .0 .below (here .loop .i) (omega arith)
 
-add-counts : tie.Need-add-counts Inv-loop μ-loop
-add-counts c =
-    let here = c .before .before .before .before .before .before .before in
-    omega (arith, here .loop .inv .counted .few (getD (here .before .before .before .before .args .word .now) (here .loop .i) 0))
+add-event-requires : tie.Need-add-event-requires Inv-loop μ-loop
+add-event-requires c κs =
+    let known = c .before in
+    let here = known .before .before .before .before .before .before .before in
+    let s = here .loop .inv in
+    (s .counted .twelve, event known, omega (arith, s .counted .few (getD (here .before .before .before .before .args .word .now) (here .loop .i) 0)))
 
 loop-again : tie.Need-loop-again Inv-loop μ-loop
-unfolding addEvent
 loop-again c =
-    let call = c .before .before in
+    let known = c .before .before .before in
+    let call = known .before .before in
     let l = call .before .before .before .before .before .loop in
-    taking-again _ _ _ _ _ _ _ _ (l .inv) _ _ _ (omega arith) (event c) (call .step .kept .0) (omega arith) (call .step .ensures) refl
+    taking-again _ _ _ _ _ _ _ _ (l .inv) _ _ _ (omega arith) (event known) (call .step .kept .0) (omega arith) (call .step .ensures) (c .before .add-event .ensures)
 
 cast-visit-row : tie.Need-cast-visit-row Inv-loop μ-loop
 cast-visit-row c = omega (arith, c .shared-slice-known5 .given (c .before .before .before .loop .i))
@@ -93,11 +95,8 @@ write-word-spec =
     (λ c. search needs)
     cast-step
     step-requires
-    (λ c. omega (arith, event c))
-    (λ c. omega (arith, event c))
-    add-counts
-    (λ c. omega (arith, event c))
-    (λ c. omega (arith, event c))
+    (λ c. search needs)
+    add-event-requires
     (λ c. search needs)
     (λ c. search needs)
     loop-again

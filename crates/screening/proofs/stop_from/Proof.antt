@@ -1,10 +1,11 @@
--- `screening::stop_of` meets its contract. The loop's invariant: the replay goes on behind the first i steps, with these tokens.
+-- `screening::stop_from` meets its contract. The loop's invariant: the replay goes on behind the first i steps, with these tokens.
 use mathlib.Core.Path.{_≡_, sym, ap, _∙_}
 use Prim.Native.Nat.{_-_, _≤_, _<_}
 use native.Mathlib.Omega.{arith}
 use borrow.Author.Needs.{needs}
 use borrow.Author.Tests.{not-true, not-false}
 use lib.ListN.{length, getD}
+use lib.IntN.{ℤ}
 use mir.Syntax.{w16, w64}
 use mir.Val.{Fits, toZ, ofZ}
 use mir.Facts.{toZ-ofZ}
@@ -12,18 +13,22 @@ use Rattle.laws.specs.Differences.{negativePart}
 use Rattle.limits.specs.Limits.{MAX-EVENTS}
 use Rattle.nets.specs.Machine.{placeOf}
 use Rattle.nets.specs.Markings.{left}
-use Rattle.screening.specs.Replay.{stop, Going, going-start, going-held, going-left, going-stop, going-next, going-end}
-use Rattle.screening.proofs.stop_of.Statement.{statement}
-use Rattle.screening.proofs.stop_of.Tie as tie
+use Rattle.screening.specs.Replay.{stop, replay, Going, start-bits, going-from, going-held, going-left, going-stop, going-next, going-end}
+use Rattle.screening.proofs.stop_from.Statement.{statement}
+use Rattle.screening.proofs.stop_from.Tie as tie
 
 abbrev Inv-loop : tie.InvT-loop
-Inv-loop word place tokens₀ i₀ tokens i = (i ≤ length word) × Going (placeOf place) word (toZ w64 tokens) i
+Inv-loop start word place tokens₀ i₀ tokens i = (i ≤ length word) × Going (placeOf place) word (replay (placeOf place) (toZ w64 start) word) (toZ w64 tokens) i
 
 abbrev μ-loop : tie.MeasureT-loop
-μ-loop word place tokens₀ i₀ tokens i = length word - i
+μ-loop start word place tokens₀ i₀ tokens i = length word - i
+
+-- the replay from the tokens that were given
+whole : (start : tie.Start Inv-loop μ-loop) → replay (placeOf (start .args .t1)) (toZ w64 (ofZ w64 (start .args .start))) (start .args .word .now) ≡ replay (placeOf (start .args .t1)) (start .args .start) (start .args .word .now)
+whole start = ap (λ (z : ℤ). replay (placeOf (start .args .t1)) z (start .args .word .now)) (start-bits (start .pre))
 
 loop-holds : tie.Need-loop-holds Inv-loop μ-loop
-loop-holds c = (omega arith, going-start _ _ (omega arith))
+loop-holds c = (omega arith, going-from _ (c .before .pre))
 
 -- the event of a turn is below 12
 event : (c : tie.In-loop Inv-loop μ-loop) → getD (c .before .before .before .args .word .now) (c .before .loop .i) 0 < MAX-EVENTS
@@ -57,6 +62,7 @@ returns c =
     c .stop-at .ensures
     ∙ ap (stop (turn .before .loop .i)) (c .before .shortfall .ensures ∙ ap negativePart (rest (tested .before)))
     ∙ sym (going-stop (turn .before .loop .inv .1) (turn .loop-test .taken) refused)
+    ∙ whole (turn .before .before .before)
 
 tokens-behind-requires : tie.Need-tokens-behind-requires Inv-loop μ-loop
 tokens-behind-requires c κs =
@@ -68,18 +74,17 @@ loop-again c =
     let tested = c .before .before .before in
     let turn = tested .before .before .before .before in
     let permitted = sym (tested .covers .ensures) ∙ not-false _ (c .before .before .if1 .left) in
-    (omega arith, going-next (turn .before .loop .inv .1) (turn .loop-test .taken) permitted (omega arith) (omega (arith, few turn .1 .fits)) (rest (tested .before)) (c .tokens-behind .ensures))
+    (omega arith, going-next (turn .before .loop .inv .1) (turn .loop-test .taken) permitted (omega (arith, few turn .1 .fits)) (rest (tested .before)) (c .tokens-behind .ensures))
 
 returns-2 : tie.Need-returns-2 Inv-loop μ-loop
-returns-2 c = c .stop-at2 .ensures ∙ sym (going-end (c .before .before .loop .inv .1) (c .before .loop-test .left))
+returns-2 c = c .stop-at2 .ensures ∙ sym (going-end (c .before .before .loop .inv .1) (c .before .loop-test .left)) ∙ whole (c .before .before .before .before)
 
-pub stop-of-spec : {M : Type 1} → statement M
-stop-of-spec =
+pub stop-from-spec : {M : Type 1} → statement M
+stop-from-spec =
     tie.close
     (tie.spec
     Inv-loop
     μ-loop
-    (λ c. search needs)
     loop-holds
     (λ c. search needs)
     (λ c. omega (arith, event (c .before)))
