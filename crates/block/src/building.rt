@@ -1,10 +1,11 @@
 // The blocks of a bundle, each written where it stands in the output. (Inner functions.)
 use crate::sums::sums_of;
+use slices::smaller;
 use slices::write_at;
 use slices::write_number;
 use slices::write_zeros;
 ghost use mathlib.Core.Path.{_≡_};
-ghost use Prim.Native.Nat.{_+_, _*_, min, _≤_};
+ghost use Prim.Native.Nat.{_+_, _*_, _≤_};
 ghost use lib.ListN.{length};
 ghost use Rattle.laws.specs.Parts.{front, spliced};
 ghost use Rattle.limits.specs.Limits.{MAX-BUNDLE-SIZE};
@@ -32,13 +33,6 @@ fn write_block(output: &mut [u8], at: usize, number: usize, contents: &[u8])
     let sums = sums_of(&output[at..at + 508]);
     write_number(output, at + 508, sums.plain);
     write_number(output, at + 510, sums.position);
-}
-
-// The smaller of two numbers.
-fn smaller(a: usize, b: usize) -> usize
-    ensures { λ r. ⌜ r ≡ min a b ⌝ }
-{
-    if a < b { a } else { b }
 }
 
 // The part of the bundle that block k holds.

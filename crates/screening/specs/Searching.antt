@@ -62,11 +62,15 @@ module _ (a b : Stop) where
       go true e = (omega arith, omega arith, omega (arith, leb-true (a .position) (b .position) e))
       go false e = (omega arith, omega (arith, leb-false (a .position) (b .position) e), omega arith)
 
-pub stop-means : (n : ℕ) (b : List ℕ) (at : ℕ) (w : Word) (p : declared.Place) → p ≡ machinePlace (fieldsAt n b at) → stopOf (machine.placeOf p) w ≡ stopOf (placeOn n b at) w
-stop-means n b at w p e = ap (λ (q : declared.Place). stopOf (machine.placeOf q) w) e ∙ ap (λ (q : Place). stopOf q w) (place-means (fieldsAt n b at))
+-- the place that was read from an offset is the one there: what is replayed on it, and what stops it
+place-is : (n : ℕ) (b : List ℕ) (at : ℕ) (p : declared.Place) → p ≡ machinePlace (fieldsAt n b at) → machine.placeOf p ≡ placeOn n b at
+place-is n b at p e = ap machine.placeOf e ∙ place-means (fieldsAt n b at)
 
 pub replay-means : (n : ℕ) (b : List ℕ) (at : ℕ) (t : ℤ) (w : Word) (p : declared.Place) → p ≡ machinePlace (fieldsAt n b at) → replay (machine.placeOf p) t w ≡ replay (placeOn n b at) t w
-replay-means n b at t w p e = ap (λ (q : declared.Place). replay (machine.placeOf q) t w) e ∙ ap (λ (q : Place). replay q t w) (place-means (fieldsAt n b at))
+replay-means n b at t w p e = ap (λ (q : Place). replay q t w) (place-is n b at p e)
+
+pub stop-means : (n : ℕ) (b : List ℕ) (at : ℕ) (w : Word) (p : declared.Place) → p ≡ machinePlace (fieldsAt n b at) → stopOf (machine.placeOf p) w ≡ stopOf (placeOn n b at) w
+stop-means n b at w p e = ap (λ (q : Place). stopOf q w) (place-is n b at p e)
 
 -- ---- the places of a bundle, from an offset on
 

@@ -10,9 +10,10 @@ use replays::WIDTH;
 use replays::load;
 use replays::write_column;
 use slices::number_at;
+use slices::smaller;
 ghost use mathlib.Core.Path.{_≡_};
 ghost use mathlib.Core.List.{_++_};
-ghost use Prim.Native.Nat.{_+_, _*_, min, _≤_};
+ghost use Prim.Native.Nat.{_+_, _*_, _≤_};
 ghost use lib.ListN.{length};
 ghost use Rattle.limits.specs.Limits.{MAX-EVENTS, MAX-PLACES};
 ghost use Rattle.nets.specs.Nets.{Net};
@@ -70,13 +71,6 @@ fn search_exactly(
         j += 1;
     }
     stop_at(best, lowest, missing)
-}
-
-// The smaller of two numbers.
-fn smaller(a: usize, b: usize) -> usize
-    ensures { λ r. ⌜ r ≡ min a b ⌝ }
-{
-    if a < b { a } else { b }
 }
 
 // Writes the initial tokens of `count` places from an offset on to the front of a marking.

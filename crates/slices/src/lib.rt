@@ -1,6 +1,6 @@
-// Inner functions on slices of bytes that several crates share: reading and writing bytes and numbers of two bytes at an offset.
+// Inner functions on slices of bytes that several crates share: reading and writing bytes and numbers of two bytes at an offset. And the smaller of two numbers.
 ghost use mathlib.Core.Path.{_≡_};
-ghost use Prim.Native.Nat.{_+_, _≤_, _<_};
+ghost use Prim.Native.Nat.{_+_, min, _≤_, _<_};
 ghost use lib.ListN.{length, getD, replicate};
 ghost use Rattle.laws.specs.Parts.{spliced};
 ghost use Rattle.laws.specs.Numbers.{numberAt, le16};
@@ -19,6 +19,13 @@ pub fn number_at(bytes: &[u8], at: usize) -> usize
     ensures { λ r. ⌜ (r ≡ numberAt (now (bytes .entry)) at) × (r < 65536) ⌝ }
 {
     byte_at(bytes, at) + 256 * byte_at(bytes, at + 1)
+}
+
+// The smaller of two numbers.
+pub fn smaller(a: usize, b: usize) -> usize
+    ensures { λ r. ⌜ r ≡ min a b ⌝ }
+{
+    if a < b { a } else { b }
 }
 
 // Copies `piece` into `output` from `at` on.
