@@ -13,7 +13,7 @@ use Rattle.bundles.specs.Readers.{eventsIn, netIn}
 use Rattle.screening.specs.Screening.{screened, screenedJoined}
 use Rattle.screening.specs.JoinLaws.{NoPlaces, JoinOf}
 use Rattle.screening.specs.ScalingLaws.{ScaledPlace, ScaledPlaces}
-use Rattle.screening.specs.declared.Stop.{Stop}
+use Rattle.stops.specs.declared.Stop.{Stop}
 use Rattle.screening.specs.declared.Screened.the-variants as screening
 
 -- of nets over n events and a word

@@ -16,7 +16,7 @@ use Rattle.nets.specs.Fits.{Below, Fits}
 use Rattle.nets.specs.Shortfall.{withTokens}
 use Rattle.bundles.specs.Readers.{eventsIn, netIn}
 use Rattle.screening.specs.Screening.{screened}
-use Rattle.screening.specs.declared.Stop.{Stop}
+use Rattle.stops.specs.declared.Stop.{Stop}
 use Rattle.screening.specs.declared.Screened.the-variants as screening
 
 -- of a place and a step, with whole numbers of any size

@@ -16,7 +16,7 @@ use Rattle.bundles.specs.Layout.{TwoBytes, PlaceInLimits, HeadInLimits, toPlace
 use Rattle.bundles.specs.Readers.{headOf, eventsIn, netIn}
 use Rattle.screening.specs.Screening.{screened}
 use Rattle.screening.specs.Screens.{Readable, stopped-exactly, readable-below, readable-exactly, screenable-head}
-use Rattle.screening.specs.declared.Stop.{Stop}
+use Rattle.stops.specs.declared.Stop.{Stop}
 use Rattle.screening.specs.declared.Screened.the-variants as screening
 use Rattle.demands.specs.Shortfalls.{StopLacks, Request2}
 

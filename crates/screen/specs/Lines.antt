@@ -7,7 +7,7 @@ use Rattle.lines.specs.Lines.{ascii, line, refusalLine, inWord, line-unique, wo
 use Rattle.block.specs.File.{opened}
 use Rattle.nets.specs.Nets.{Word}
 use Rattle.screen.specs.Files.{fileScreened}
-use Rattle.screening.specs.declared.Stop.{Stop}
+use Rattle.stops.specs.declared.Stop.{Stop}
 use Rattle.screening.specs.declared.Screened.{Screened}
 use Rattle.screening.specs.declared.Screened.the-variants.{Permitted, Stopped, Refused}
 

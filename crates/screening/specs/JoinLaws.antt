@@ -19,7 +19,7 @@ use Rattle.bundles.specs.ReadHead.{HeadIsRead, read-is, read-few}
 use Rattle.screening.specs.Screening.{screening, joining, replayed, screened, screenedJoined}
 use Rattle.screening.specs.Screens.{Readable, readable-read, screened-replayed, replay-stops, replayed-stopped}
 use Rattle.screening.specs.Joins.{JoinReadable, answerOn, screened-on, joined-on, answer-replayed, permitted-on, answer-same, readable-on, joined→}
-use Rattle.screening.specs.declared.Stop.{Stop}
+use Rattle.stops.specs.declared.Stop.{Stop}
 use Rattle.screening.specs.declared.Screened.{Screened}
 use Rattle.screening.specs.declared.Screened.the-variants as answers
 

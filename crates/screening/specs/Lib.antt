@@ -2,11 +2,6 @@ pub mod Screening
 pub mod Screens
 pub mod Causes
 pub mod RefusalNumbers
-pub mod Positions
-pub mod Replay
-pub mod Searching
-pub mod Parts
-pub mod Groups
 pub mod ScreenLaws
 pub mod Joins
 pub mod JoinLaws

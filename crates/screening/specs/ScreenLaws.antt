@@ -18,9 +18,9 @@ use Rattle.nets.specs.Nets.{Word, Net, join, screen}
 use Rattle.nets.specs.Events.{firstBad}
 use Rattle.bundles.specs.Readers.{readHead, headOf, eventsIn, netIn}
 use Rattle.screening.specs.Screening.{wordOn, screening, joining, replayed, screenedOf, screened, screenedJoined}
-use Rattle.screening.specs.Positions.{Best, best-stopped, best-permitted}
+use Rattle.stops.specs.Positions.{Best, best-stopped, best-permitted}
 use Rattle.screening.specs.declared.Screened.{Screened}
-use Rattle.screening.specs.declared.Stop.{Stop}
+use Rattle.stops.specs.declared.Stop.{Stop}
 use Rattle.screening.specs.declared.Screened.the-variants as answers
 
 -- ---- on a net

@@ -28,7 +28,7 @@ use Rattle.bundles.specs.LayoutLaws.{law-head}
 use Rattle.bundles.specs.Limits.{→size, head→limits, limits→head}
 use Rattle.bundles.specs.ReadHead.{HeadIsRead, read→, →read, read-head-of, read-is}
 use Rattle.screening.specs.Screening.{wordOn, screening, replayed, screenedOf, screened}
-use Rattle.screening.specs.declared.Stop.{Stop}
+use Rattle.stops.specs.declared.Stop.{Stop}
 use Rattle.screening.specs.declared.Screened.{Screened}
 use Rattle.screening.specs.declared.Screened.the-variants as answers
 

@@ -6,7 +6,9 @@
 
 use crate::bundles::{Bundle, Place};
 use crate::rng::Rng;
+use crate::run::{Outcome, Run};
 use crate::screening::{fewest_tokens, net};
+use reference::Screened;
 
 /// The events of the first part. Shorter words are not searched in parts.
 pub const FIRST: usize = 1_024;
@@ -135,6 +137,19 @@ impl LongWord {
         let event = self.n - self.marks.len() + mark;
         place.ins[event] -= tokens;
     }
+}
+
+/// Screens a word with these places on both sides, which has to be answered so.
+pub fn check(run: &mut Run, places: &[Place], word: &[u8], expected: Outcome<Screened>) {
+    let n = places[0].ins.len();
+    let outcome = run.screen(&net(n, places.to_vec()).bytes(), word);
+    assert_eq!(
+        outcome,
+        expected,
+        "{} places, {n} events, a word of {}, {run}",
+        places.len(),
+        word.len()
+    );
 }
 
 /// A place that loses a token with each event, whichever it is, and first lacks one at this

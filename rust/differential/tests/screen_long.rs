@@ -4,22 +4,18 @@
 use differential::bundles::Place;
 use differential::logs::MAX_EVENTS;
 use differential::long_words::{
-    draining, positions, LongWord, BORDERS, COUNTS, FIRST, LENGTHS, SECOND_END, THIRD_END,
+    check, draining, positions, LongWord, BORDERS, COUNTS, FIRST, LENGTHS, SECOND_END, THIRD_END,
 };
 use differential::run::{Outcome, Run};
-use differential::screening::{net, stopped};
+use differential::screening::stopped;
 use reference::Screened;
 
-/// Screens a word on both sides, which has to be answered so.
-fn check(run: &mut Run, n: usize, places: &[Place], word: &[u8], expected: Outcome<Screened>) {
-    let outcome = run.screen(&net(n, places.to_vec()).bytes(), word);
-    assert_eq!(
-        outcome,
-        expected,
-        "{} places, {n} events, a word of {}, {run}",
-        places.len(),
-        word.len()
-    );
+/// Stopped where this place lacks a token, unless the word ends there.
+fn one_lacking(position: usize, length: usize, place: usize) -> Outcome<Screened> {
+    if position == length {
+        return Ok(Screened::Permitted);
+    }
+    stopped(position, place, 1)
 }
 
 /// One step lacks a token, and no other does: whoever leaves that step out permits the word.
@@ -34,11 +30,11 @@ fn one_step_at_every_border() {
                 let count = run.rng.choose(&COUNTS);
                 let place = run.rng.below(count);
                 let mut places = word.places(count);
-                check(&mut run, n, &places, &word.events, Ok(Screened::Permitted));
+                check(&mut run, &places, &word.events, Ok(Screened::Permitted));
 
                 word.take_more(&mut places[place], 0, 1);
                 let expected = stopped(position, place, 1);
-                check(&mut run, n, &places, &word.events, expected);
+                check(&mut run, &places, &word.events, expected);
             }
         }
     }
@@ -58,11 +54,8 @@ fn tokens_put_before_every_border() {
                 let place = run.rng.below(count);
                 let mut places = word.places(count);
                 word.put_fewer(&mut places[place], 0, 1);
-                let expected = match position + 1 {
-                    end if end == length => Ok(Screened::Permitted),
-                    next => stopped(next, place, 1),
-                };
-                check(&mut run, n, &places, &word.events, expected);
+                let expected = one_lacking(position + 1, length, place);
+                check(&mut run, &places, &word.events, expected);
             }
         }
     }
@@ -82,11 +75,8 @@ fn every_event_counts() {
                 let place = run.rng.below(count);
                 let mut places = word.places(count);
                 places[place] = draining(n, position);
-                let expected = match position {
-                    end if end == length => Ok(Screened::Permitted),
-                    _ => stopped(position, place, 1),
-                };
-                check(&mut run, n, &places, &word.events, expected);
+                let expected = one_lacking(position, length, place);
+                check(&mut run, &places, &word.events, expected);
             }
         }
     }
@@ -108,7 +98,7 @@ fn every_place() {
                     let shortfall = place + 1;
                     word.take_more(&mut places[place], 0, shortfall as u16);
                     let expected = stopped(position, place, shortfall);
-                    check(&mut run, n, &places, &word.events, expected);
+                    check(&mut run, &places, &word.events, expected);
                 }
             }
         }
@@ -170,7 +160,7 @@ fn two_places() {
                     true => stopped(lower_at, lower, 5),
                     false => stopped(higher_at, higher, 9),
                 };
-                check(&mut run, n, &places, &word.events, expected);
+                check(&mut run, &places, &word.events, expected);
                 run.note(match (lower / 8 == higher / 8, lower_at.cmp(&higher_at)) {
                     (true, std::cmp::Ordering::Equal) => "one group, one position",
                     (true, _) => "one group, two positions",
@@ -210,7 +200,7 @@ fn all_places() {
                 let places: Vec<Place> = at.iter().map(|&at| draining(n, at)).collect();
                 let place = at.iter().position(|&at| at == first);
                 let expected = stopped(first, place.expect("one of them"), 1);
-                check(&mut run, n, &places, &word.events, expected);
+                check(&mut run, &places, &word.events, expected);
             }
         }
     }

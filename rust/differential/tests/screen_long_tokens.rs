@@ -2,26 +2,13 @@
 
 use differential::bundles::Place;
 use differential::logs::MAX_EVENTS;
-use differential::long_words::{draining, positions, LongWord, COUNTS, LENGTHS};
-use differential::run::{Outcome, Run};
-use differential::screening::{net, stopped, MAX_WORD_EVENTS};
+use differential::long_words::{check, draining, positions, LongWord, COUNTS, LENGTHS};
+use differential::run::Run;
+use differential::screening::{stopped, MAX_WORD_EVENTS};
 use reference::Screened;
 
 /// The largest number of two bytes.
 const LARGEST: u16 = 65_535;
-
-/// Screens a word on both sides, which has to be answered so.
-fn check(run: &mut Run, places: &[Place], word: &[u8], expected: Outcome<Screened>) {
-    let n = places[0].ins.len();
-    let outcome = run.screen(&net(n, places.to_vec()).bytes(), word);
-    assert_eq!(
-        outcome,
-        expected,
-        "{} places, {n} events, a word of {}, {run}",
-        places.len(),
-        word.len()
-    );
-}
 
 /// Each event takes 0 or 65,535 tokens, all that there are, and puts what the next one
 /// takes. One place has a token less, at first or behind a border, or a mark takes 65,535

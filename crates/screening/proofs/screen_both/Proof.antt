@@ -8,9 +8,9 @@ use denote.Ref.{now}
 use Rattle.nets.specs.Nets.{join}
 use Rattle.bundles.specs.Readers.{eventsIn, netIn}
 use Rattle.bundles.specs.HeadReading.{net-size}
-use Rattle.screening.specs.Positions.{Best, best-start}
+use Rattle.stops.specs.Positions.{Best, best-start}
 use Rattle.screening.specs.ScreenLaws.{found-means}
-use Rattle.screening.specs.declared.Stop.{Stop}
+use Rattle.stops.specs.declared.Stop.{Stop}
 use Rattle.screening.proofs.screen_both.Statement.{statement}
 use Rattle.screening.proofs.screen_both.Tie as tie
 

@@ -8,7 +8,7 @@ use Rattle.nets.specs.Events.{firstBad, none-bad}
 use Rattle.bundles.specs.Readers.{eventsIn}
 use Rattle.bundles.specs.HeadReading.{HeadAt}
 use Rattle.bundles.specs.ReadHead.{HeadIsRead, kept-read}
-use Rattle.screening.specs.Searching.{WordOver}
+use Rattle.stops.specs.Searching.{WordOver}
 use Rattle.screening.specs.ScreenLaws.{counts-differ, joined-wrong, joined-right}
 use Rattle.screening.proofs.screen_heads.Statement.{statement}
 use Rattle.screening.proofs.screen_heads.Tie as tie

@@ -5,9 +5,9 @@ use native.Mathlib.Omega.{arith}
 use borrow.Author.Needs.{needs}
 use denote.Ref.{now}
 use Rattle.bundles.specs.Readers.{eventsIn, netIn}
-use Rattle.screening.specs.Positions.{Best, best-start}
+use Rattle.stops.specs.Positions.{Best, best-start}
 use Rattle.screening.specs.ScreenLaws.{found-means}
-use Rattle.screening.specs.declared.Stop.{Stop}
+use Rattle.stops.specs.declared.Stop.{Stop}
 use Rattle.screening.proofs.screen_places.Statement.{statement}
 use Rattle.screening.proofs.screen_places.Tie as tie
 

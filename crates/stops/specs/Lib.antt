@@ -1,0 +1,5 @@
+pub mod Positions
+pub mod Replay
+pub mod Searching
+pub mod Parts
+pub mod Groups
