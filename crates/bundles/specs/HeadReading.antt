@@ -1,28 +1,41 @@
--- A bundle up to its last place, as the code reads it.
+-- A bundle up to its last place: its head as the code reads it, and the answer of a call that reads it and does not judge.
 use mathlib.Core.Path.{_≡_, refl, sym, ap, ap₂, _∙_, subst}
-use mathlib.Core.Bool.{Bool, true, false}
+use mathlib.Core.Bool.{Bool, true, false, cond}
 use mathlib.Core.List.{List, [], _∷_, _++_}
-use Prim.Native.Nat.{ℕ, zero, suc, _+_, _-_, _*_, _≤_}
+use mathlib.Core.Logic.{inl}
+use Prim.Native.Nat.{ℕ, _+_, _-_, _*_, _≤_}
 use native.Mathlib.Omega.{arith}
-use lib.ListN.{length, replicate, length-map}
+use lib.ListN.{length, drop, length-map}
 use Rattle.laws.specs.Booleans.{impossible}
+use Rattle.laws.specs.Numbers.{Bytes}
+use Rattle.laws.specs.Lists.{any}
 use Rattle.limits.specs.Limits.{MAX-EVENTS, MAX-PLACES, rightSize}
-use Rattle.refusals.specs.Table.{BUNDLE-LENGTH, ROWS}
-use Rattle.refusals.specs.Results.{value, refused, bind}
-use Rattle.nets.specs.Nets.{Word, Log, eventCount}
-use Rattle.bundles.specs.Reading.{Read, got, item, _>>_, andThen, give, require, byte, each, following, onward}
-use Rattle.bundles.specs.Layout.{PlaceFields, Head, toPlace, toNet}
-use Rattle.bundles.specs.Readers.{anything, wordAfter, word, places, headAfter, head, anyRows, bundleSize, bundleHead, headIn, headOf, netIn}
+use Rattle.refusals.specs.Table.{BUNDLE-LENGTH, BUNDLE-END, VALUE, EVENTS}
+use Rattle.refusals.specs.Results.{value, refused, bind, Result, Refuses, refuses-value, refuses-test, refuses-then}
+use Rattle.refusals.specs.Results as results
+use Rattle.refusals.specs.Exactly.{Exactly, exactly-here, exactly-later}
+use Rattle.refusals.specs.declared.Refusal.{Refusal}
+use Rattle.nets.specs.Nets.{Log}
+use Rattle.bundles.specs.Reading.{Read, got, item, _>>_, andThen, give, require, byte, following, onward, itemIn}
+use Rattle.bundles.specs.Layout.{headBytes, HeadInFront, PlaceFields, Head, toPlace, toNet}
+use Rattle.bundles.specs.Readers.{firstByte, anything, word, places, headAfter, head, anyRows, bundleSize, bundleHead, headIn, headOf, netIn, readHead, eventsIn}
 use Rattle.bundles.specs.FieldReading.{between, between-true, byte-got}
 use Rattle.bundles.specs.ReadingLaws.{andThen-got, require-got}
 use Rattle.bundles.specs.NumberReading.{itemsAt, items-length}
+use Rattle.bundles.specs.WordReading.{words-unlimited}
 use Rattle.bundles.specs.PlaceReading.{placeSize, fieldsAt, keptPlaces, placesRead, PlacesAt, places-got}
+use Rattle.bundles.specs.Limits.{got→front, front→got}
+use Rattle.bundles.specs.Refusing.{reader-head}
 use Rattle.bundles.specs.declared.Places.{Places}
 use Rattle.bundles.specs.declared.PlacesRead.{PlacesRead}
 use Rattle.bundles.specs.declared.PlacesRead.the-variants as places-read
 use Rattle.bundles.specs.declared.Head as declared
 use Rattle.bundles.specs.declared.HeadRead.{HeadRead}
 use Rattle.bundles.specs.declared.HeadRead.the-variants as head-read
+
+-- a first byte that was read is 1 to 12
+pub first-limits : (b : List ℕ) (at n next : ℕ) → firstByte b at ≡ got n next → (1 ≤ n) × (n ≤ MAX-EVENTS)
+first-limits b at n next e = between-true 1 MAX-EVENTS n (byte-got (between 1 MAX-EVENTS) b at n next e .0)
 
 -- what the code keeps of a head: the event count, and where the places are
 unfoldable pub headRead : Read Head → HeadRead
@@ -36,11 +49,11 @@ withPlaces n (places-read.Refused r) = head-read.Refused r
 -- ---- the laws
 
 module _ (rowsFit : ℕ → Log → Bool) (b : List ℕ) where
-  pub head-failed : {number spot : ℕ} → byte (between 1 MAX-EVENTS) b 0 ≡ refused number spot → head rowsFit b 0 ≡ refused number spot
+  pub head-failed : {number spot : ℕ} → firstByte b 0 ≡ refused number spot → head rowsFit b 0 ≡ refused number spot
   unfolding head bind onward
   head-failed e = rw e
 
-  pub head-got : {n at : ℕ} → byte (between 1 MAX-EVENTS) b 0 ≡ got n at → head rowsFit b 0 ≡ headAfter rowsFit n b at
+  pub head-got : {n at : ℕ} → firstByte b 0 ≡ got n at → head rowsFit b 0 ≡ headAfter rowsFit n b at
   unfolding head bind onward
   head-got {n} {at} e = rw e
 
@@ -117,38 +130,22 @@ module _ (rowsFit : ℕ → Log → Bool) (b : List ℕ) (n : ℕ) (h : Head) (n
 
 -- the event count's limits, and the places
 head-parts : (rowsFit : ℕ → Log → Bool) (b : List ℕ) (h : Head) (next : ℕ) → head rowsFit b 0 ≡ got h next → ((1 ≤ h .events) × (h .events ≤ MAX-EVENTS)) × PlacesAt (h .events) b (h .places) next
-head-parts rowsFit b h next e = go (byte (between 1 MAX-EVENTS) b 0) refl
+head-parts rowsFit b h next e = go (firstByte b 0) refl
   where
-    go : (m : Read ℕ) → byte (between 1 MAX-EVENTS) b 0 ≡ m → ((1 ≤ h .events) × (h .events ≤ MAX-EVENTS)) × PlacesAt (h .events) b (h .places) next
+    go : (m : Read ℕ) → firstByte b 0 ≡ m → ((1 ≤ h .events) × (h .events ≤ MAX-EVENTS)) × PlacesAt (h .events) b (h .places) next
     go (value (item n at)) is =
         let rest = after-got rowsFit b n h next at (sym (head-got rowsFit b is) ∙ e) in
-        let limits = between-true 1 MAX-EVENTS n (byte-got (between 1 MAX-EVENTS) b 0 n at is .0) in
+        let limits = first-limits b 0 n at is in
         ((omega (arith, limits, rest .0), omega (arith, limits, rest .0)), subst (λ (k : ℕ). PlacesAt k b (h .places) next) (sym (rest .0)) (rest .1))
     go (refused number spot) is = let never : refused number spot ≡ got h next = sym (head-failed rowsFit b is) ∙ e in impossible cc
 
 -- ---- the bundle's head
 
--- a word that was read with a limit on its rows is read the same without one
-word-unlimited : (fits : Log → Bool) (n : ℕ) (log : Log) (b : List ℕ) (at : ℕ) (w : Word) (next : ℕ) → word fits n log b at ≡ got w next → word (anyRows n) n log b at ≡ got w next
-unfolding word bind onward require
-word-unlimited fits n log b at w next e =
-    let r = andThen-got b (wordAfter n (eventCount log) b at) (λ w. require (fits (log ++ w ∷ [])) ROWS at >> give w) w next e in
-    let t = require-got (fits (log ++ r .0 ∷ [])) ROWS at (give (r .0)) b (r .1) w next (r .3) in
-    rw (r .2) (t .1)
-
-words-unlimited : (fits : Log → Bool) (n : ℕ) (b : List ℕ) (k : ℕ) (before : Log) (at : ℕ) (log : Log) (next : ℕ)
-    → each (λ (s : Unit {0}). word fits n) (replicate k tt) before b at ≡ got log next → each (λ (s : Unit {0}). word (anyRows n) n) (replicate k tt) before b at ≡ got log next
-unfolding each bind onward
-words-unlimited fits n b zero before at log next e = e
-words-unlimited fits n b (suc k) before at log next e =
-    let r = andThen-got b (word fits n before b at) (λ w. each (λ (s : Unit {0}). word fits n) (replicate k tt) (before ++ w ∷ [])) log next e in
-    rw (word-unlimited fits n before b at (r .0) (r .1) (r .2)) (words-unlimited fits n b k (before ++ r .0 ∷ []) (r .1) log next (r .3))
-
--- so is a head, and it is the bundle's
+-- a head that was read with a limit on the rows is read the same without one, and it is the bundle's
 pub head-unlimited : (rowsFit : ℕ → Log → Bool) (b : List ℕ) (h : Head) (next : ℕ) → head rowsFit b 0 ≡ got h next → head anyRows b 0 ≡ got h next
 unfolding head headAfter bind onward
 head-unlimited rowsFit b h next e =
-    let n = andThen-got b (byte (between 1 MAX-EVENTS) b 0) _ h next e in
+    let n = andThen-got b (firstByte b 0) _ h next e in
     let count = andThen-got b (byte anything b (n .1)) _ h next (n .3) in
     let log = andThen-got b (following (count .0) (word (rowsFit (n .0)) (n .0)) b (count .1)) _ h next (count .3) in
     rw (n .2, count .2, words-unlimited (rowsFit (n .0)) (n .0) b (count .0) [] (count .1) (log .0) (log .1) (log .2)) (log .3)
@@ -194,3 +191,101 @@ head-kept b kept e = go (bundleHead b 0) refl e
         let of-b = head-of b h next read in
         subst (λ (k : declared.Head). HeadAt b (k .n) (k .places) × (bundleHead b 0 ≡ got (headOf b) (k .places .next))) same (kept-of b h next read of-b, is ∙ ap (λ (x : Head). got x next) (sym of-b))
     go (refused number spot) is q = impossible cc
+
+-- ---- a call that reads a bundle's head
+
+-- the bundle is read up to its last place
+abbrev pub HeadIsRead : List ℕ → Type 0
+HeadIsRead b = readHead b ≡ value (headOf b)
+
+-- the numbers of its refusals
+abbrev pub HEAD-NUMBERS : List ℕ
+HEAD-NUMBERS = BUNDLE-LENGTH ∷ BUNDLE-END ∷ VALUE ∷ EVENTS ∷ []
+
+module _ (b : List ℕ) where
+  -- behind the bundle's length
+  abbrev rest : Result Head
+  rest = bind (head anyRows b 0) (λ i. value (itemIn i))
+
+  chain : readHead b ≡ bind (results.require (rightSize (length b)) BUNDLE-LENGTH 0) (λ u. rest)
+  unfolding readHead bundleHead bundleSize require results.require bind onward
+  chain = go (rightSize (length b))
+    where
+      go : (ok : Bool) → bind (bind (cond ok (got (tt {0}) 0) (refused BUNDLE-LENGTH 0)) (onward (λ u. head anyRows) b)) (λ i. value (itemIn i))
+          ≡ bind (cond ok (value (tt {0})) (refused BUNDLE-LENGTH 0)) (λ u. rest)
+      go true = refl
+      go false = refl
+
+  rest-refuses : Refuses (BUNDLE-END ∷ VALUE ∷ EVENTS ∷ []) rest
+  unfolding any
+  rest-refuses = refuses-then (reader-head refl refl refl anyRows (λ n log. inl refl) .only b 0) (λ i. refuses-value (itemIn i))
+
+  pub head-refuses : Refuses HEAD-NUMBERS (readHead b)
+  head-refuses = rw chain (refuses-test (rightSize (length b)) BUNDLE-LENGTH 0 rest-refuses)
+
+  -- 4, and 6, 7, 8 of the fields
+  pub head-4 : Exactly (readHead b) BUNDLE-LENGTH (λ spot. (spot ≡ 0) × (rightSize (length b) ≡ false))
+  unfolding any
+  head-4 = rw chain (exactly-here (rightSize (length b)) BUNDLE-LENGTH 0 rest rest-refuses refl)
+
+  rest-field : (number : ℕ) → Exactly rest number (λ spot. head anyRows b 0 ≡ refused number spot)
+  unfolding bind
+  rest-field number = record { line = λ spot. (to (head anyRows b 0) spot, λ e. rw e) }
+    where
+      to : (m : Read Head) (spot : ℕ) → bind m (λ i. value (itemIn i)) ≡ refused number spot → m ≡ refused number spot
+      to (value i) spot e = impossible cc
+      to (refused n s) spot e = let same : n ≡ number = cc in let at : s ≡ spot = cc in rw (same, at)
+
+  pub head-field : (number : ℕ) → (BUNDLE-LENGTH ≡ number → ⊥)
+      → Exactly (readHead b) number (λ spot. (rightSize (length b) ≡ true) × (head anyRows b 0 ≡ refused number spot))
+  head-field number other = rw chain (exactly-later (rightSize (length b)) BUNDLE-LENGTH 0 rest other (rest-field number))
+
+  -- a head that was read
+  pub read→ : (h : Head) → readHead b ≡ value h → (rightSize (length b) ≡ true) × ((next : ℕ) × (head anyRows b 0 ≡ got h next))
+  unfolding bind itemIn
+  read→ h e =
+      let p = results.passed (rightSize (length b)) BUNDLE-LENGTH 0 rest h (sym chain ∙ e) in
+      let r = results.bind-value (head anyRows b 0) (λ i. value (itemIn i)) h (p .1) in
+      (p .0, of (r .0) (r .1) (r .2))
+    where
+      of : (i : _) → head anyRows b 0 ≡ value i → value (itemIn i) ≡ value h → (next : ℕ) × (head anyRows b 0 ≡ got h next)
+      of (item x next) is same = let x≡h : x ≡ h = cc in (next, is ∙ ap (λ (x : Head). got x next) x≡h)
+
+  pub →read : (h : Head) (next : ℕ) → rightSize (length b) ≡ true → head anyRows b 0 ≡ got h next → readHead b ≡ value h
+  unfolding bind itemIn
+  →read h next size is = chain ∙ results.passes (rightSize (length b)) BUNDLE-LENGTH 0 rest size ∙ rw is
+
+  -- a head that was read stands in front of the bundle, and the other way
+  module _ (bytes : Bytes b) where
+    pub read→front : (h : Head) → readHead b ≡ value h → (rightSize (length b) ≡ true) × ((rest : List ℕ) × HeadInFront b h rest)
+    read→front h e = let r = read→ h e in (r .0, (drop (r .1 .0) b, got→front anyRows (λ n. tt) (λ n log more t. tt) b bytes h (r .1 .0) (r .1 .1) .0))
+
+    pub front→read : (h : Head) (rest : List ℕ) → rightSize (length b) ≡ true → HeadInFront b h rest → readHead b ≡ value h
+    front→read h rest size front = →read h (length (headBytes h)) size (front→got anyRows (λ n. tt) (λ n log more t. tt) b bytes h rest front tt)
+
+  -- is the bundle's
+  pub read-head-of : (h : Head) → readHead b ≡ value h → headOf b ≡ h
+  read-head-of h e = let r = read→ h e in head-of b h (r .1 .0) (r .1 .1)
+
+  pub read-is : (h : Head) → readHead b ≡ value h → HeadIsRead b
+  read-is h e = e ∙ ap value (sym (read-head-of h e))
+
+  -- has 12 events and 64 places at most
+  pub read-few : HeadIsRead b → (eventsIn b ≤ MAX-EVENTS) × (length (netIn b) ≤ MAX-PLACES)
+  read-few e =
+      let r = read→ (headOf b) e in
+      let found = head-taken anyRows b (headOf b) (r .1 .0) (r .1 .1) .1 in
+      (found .limits .1, omega (arith, found .few, net-size found))
+
+  -- what the code keeps of it
+  pub kept-refused : (r : Refusal) → headRead (bundleHead b 0) ≡ head-read.Refused r → readHead b ≡ refused (r .number) (r .spot)
+  unfolding readHead headRead bind
+  kept-refused r e = go (bundleHead b 0) e
+    where
+      go : (m : Read Head) → headRead m ≡ head-read.Refused r → bind m (λ i. value (itemIn i)) ≡ refused (r .number) (r .spot)
+      go (value (item h next)) q = impossible cc
+      go (refused number spot) q = let same : record { number = number; spot = spot } ≡ r = cc in ap (λ (r : Refusal). refused (r .number) (r .spot)) same
+
+  pub kept-read : (kept : declared.Head) → headRead (bundleHead b 0) ≡ head-read.Read kept → HeadAt b (kept .n) (kept .places) × HeadIsRead b
+  unfolding readHead bind itemIn
+  kept-read kept e = let found = head-kept b kept e in (found .0, rw (found .1))

@@ -7,7 +7,9 @@ use lib.ListN.{length, getD}
 use Rattle.laws.specs.Every.{Every}
 use Rattle.laws.specs.Numbers.{le16}
 use Rattle.limits.specs.Limits.{MAX-BUNDLE-SIZE, MAX-EVENTS, MAX-LOG-EVENTS, MAX-ROWS, MAX-PLACES, MAX-TERMS}
-use Rattle.nets.specs.Nets.{Word, Log, Counts, Step, eventCount, Place, Net, Term, Weights, Certificate, byPlace, byWeights, Bundle, at, rows, allowed, wrongContinuations, fits, solves}
+use Rattle.nets.specs.Nets.{Word, Log, Counts, Step, eventCount, Place, Net, Term, Weights, Certificate, byPlace, byWeights, Bundle, at}
+use Rattle.nets.specs.Nets.{rows, allowed, continuations, allowedSteps, wrongContinuations, fits, weightsHold, solves, solvesAll}
+use Rattle.nets.specs.Fits.{LogBelow}
 
 -- the initial tokens, and the in and out numbers of each event
 pub record PlaceFields : Type 0 where
@@ -54,21 +56,35 @@ toPlace p = record { initial = p .initial; produced = at (p .produced); consumed
 unfoldable pub toNet : Head → Net
 toNet h = map toPlace (h .places)
 
+-- the words of the log, in order
+abbrev pub wordsIn : Head → Log
+wordsIn h = h .log
+
+-- their events are below n
+abbrev pub LogBelowIn : Head → Type 0
+LogBelowIn h = LogBelow (h .events) (wordsIn h)
+
 -- the rows of the log
 abbrev pub rowsIn : Head → List Counts
-rowsIn h = rows (h .events) (h .log)
+rowsIn h = rows (h .events) (wordsIn h)
 
 -- an allowed step
 abbrev pub allowedIn : Head → Step → Bool
-allowedIn h = allowed (h .events) (h .log)
+allowedIn h = allowed (h .events) (wordsIn h)
 
--- the wrong continuations, by row, then event
+-- each row with each event, the allowed steps and the wrong continuations among them, by row, then event
+abbrev pub continuationsIn : Head → List Step
+continuationsIn h = continuations (h .events) (wordsIn h)
+
+abbrev pub allowedStepsIn : Head → List Step
+allowedStepsIn h = allowedSteps (h .events) (wordsIn h)
+
 abbrev pub wrongIn : Head → List Step
-wrongIn h = wrongContinuations (h .events) (h .log)
+wrongIn h = wrongContinuations (h .events) (wordsIn h)
 
 -- a place fits the log
 abbrev pub fitsIn : Head → Place → Bool
-fitsIn h = fits (h .events) (h .log)
+fitsIn h = fits (h .events) (wordsIn h)
 
 -- a term's step: the row of that number, and the event
 unfoldable pub toTerm : Head → TermFields → Term
@@ -83,15 +99,22 @@ unfoldable pub toCertificate : Head → CertificateFields → Certificate
 toCertificate h (kind0 j) = byPlace j
 toCertificate h (kind1 w) = byWeights (toWeights h w)
 
--- a certificate solves a step
+-- weights hold for a step
+abbrev pub weightsHoldIn : Head → Step → WeightFields → Bool
+weightsHoldIn h s w = weightsHold (h .events) (wordsIn h) s (toWeights h w)
+
+-- a certificate solves a step, and certificates solve the steps of a list, one by one
 abbrev pub solvesIn : Head → Step → CertificateFields → Bool
-solvesIn h s c = solves (h .events) (h .log) (toNet h) s (toCertificate h c)
+solvesIn h s c = solves (h .events) (wordsIn h) (toNet h) s (toCertificate h c)
+
+abbrev pub solvesAllIn : Head → List Step → List CertificateFields → Bool
+solvesAllIn h ss cs = solvesAll (h .events) (wordsIn h) (toNet h) ss (map (toCertificate h) cs)
 
 -- the bundle of the definitions
 unfoldable pub toBundle : Contents → Bundle
 toBundle c = record {
   events = c .head .events;
-  log = c .head .log;
+  log = wordsIn (c .head);
   net = toNet (c .head);
   certificates = map (toCertificate (c .head)) (c .certificates);
 }
@@ -183,3 +206,10 @@ pub record InLimits (c : Contents) : Type 0 where
   pub rowCount : length (rowsIn (c .head)) ≤ MAX-ROWS
   pub certificates : Every (CertificateInLimits (c .head)) (c .certificates)
   pub size : length (bytesOf c) ≤ MAX-BUNDLE-SIZE
+
+-- ---- a bundle's beginning
+
+-- the bundle begins with the head h, in its limits, and `rest` follows
+pub record HeadInFront (b : List ℕ) (h : Head) (rest : List ℕ) : Type 0 where
+  pub layout : b ≡ headBytes h ++ rest
+  pub limits : HeadInLimits h

@@ -13,5 +13,4 @@ pub mod NumberReading
 pub mod PlaceReading
 pub mod TermReading
 pub mod HeadReading
-pub mod ReadHead
 pub mod Scaling

@@ -9,7 +9,7 @@ use Rattle.refusals.specs.Table.{BUNDLE-LENGTH, EVENTS, ROWS}
 use Rattle.refusals.specs.Results.{Result, value, refused, bind}
 use Rattle.nets.specs.Nets.{Word, Log, Net, eventCount, rows}
 use Rattle.bundles.specs.Reading.{Read, item, itemIn, Reader, _>>=_, _>>_, give, offset, require, byte, number, following, times}
-use Rattle.bundles.specs.Layout.{PlaceFields, TermFields, CertificateFields, kind0, kind1, Head, toNet}
+use Rattle.bundles.specs.Layout.{PlaceFields, TermFields, CertificateFields, kind0, kind1, Head, toNet, wordsIn, rowsIn}
 
 -- any value
 abbrev pub anything : ℕ → Bool
@@ -53,10 +53,14 @@ headAfter rowsFit n = do
   ps ← places n
   give (record { events = n; log = log; places = ps })
 
+-- the first byte: n, the event count, 1 to 12
+abbrev pub firstByte : Reader ℕ
+firstByte = byte (λ n. leb 1 n && leb n MAX-EVENTS)
+
 -- a bundle up to its last place
 unfoldable pub head : (ℕ → Log → Bool) → Reader Head
 head rowsFit = do
-  n ← byte (λ n. leb 1 n && leb n MAX-EVENTS)
+  n ← firstByte
   headAfter rowsFit n
 
 -- a term: a row, an event, a weight
@@ -68,11 +72,11 @@ term n rowCount = do
   give (record { row = row; event = event; weight = weight })
 
 -- k, the term count and the terms
-unfoldable pub weights : ℕ → ℕ → Reader CertificateFields
-weights n rowCount = do
+unfoldable pub weights : Head → Reader CertificateFields
+weights h = do
   k ← number (leb 1)
   count ← byte (λ c. leb c MAX-TERMS)
-  ts ← times count (term n rowCount)
+  ts ← times count (term (h .events) (length (rowsIn h)))
   give (kind1 (record { k = k; terms = ts }))
 
 -- what follows the kind: a place number, or weights
@@ -80,7 +84,7 @@ unfoldable pub ofKind : Head → ℕ → Reader CertificateFields
 ofKind h zero = do
   j ← byte (λ j. ltb j (length (h .places)))
   give (kind0 j)
-ofKind h (suc _) = weights (h .events) (length (rows (h .events) (h .log)))
+ofKind h (suc _) = weights h
 
 -- a certificate: its kind, then what follows it
 unfoldable pub certificate : Head → Reader CertificateFields
@@ -126,7 +130,7 @@ abbrev pub eventsIn : List ℕ → ℕ
 eventsIn b = headOf b .events
 
 abbrev pub logIn : List ℕ → Log
-logIn b = headOf b .log
+logIn b = wordsIn (headOf b)
 
 abbrev pub netIn : List ℕ → Net
 netIn b = toNet (headOf b)

@@ -16,7 +16,8 @@ use words::read_words;
 ghost use mathlib.Core.Path.{_≡_};
 ghost use Prim.Native.Nat.{_≤_};
 ghost use Rattle.limits.specs.Limits.{MAX-EVENTS};
-ghost use Rattle.bundles.specs.Readers.{anyRows, head, bundleHead, headAfter};
+ghost use Rattle.bundles.specs.Readers.{anyRows, firstByte, head, bundleHead, headAfter};
+ghost use Rattle.bundles.specs.FieldReading.{readOf};
 ghost use Rattle.bundles.specs.HeadReading.{headRead, withPlaces};
 
 // A field's value and the offset behind it.
@@ -83,11 +84,18 @@ fn read_head_after(bundle: &[u8], at: usize, n: usize) -> HeadRead
     }
 }
 
+// The first byte of a bundle: the event count, and the offset behind it.
+pub fn read_first(bundle: &[u8]) -> Field
+    ensures { λ r. ⌜ readOf r ≡ firstByte (now (bundle .entry)) 0 ⌝ }
+{
+    byte_between(bundle, 0, 1, MAX_EVENTS)
+}
+
 // The fields of a bundle up to its last place.
 fn read_fields(bundle: &[u8]) -> HeadRead
     ensures { λ r. ⌜ r ≡ headRead (head anyRows (now (bundle .entry)) 0) ⌝ }
 {
-    match byte_between(bundle, 0, 1, MAX_EVENTS) {
+    match read_first(bundle) {
         Field::Refused(refusal) => HeadRead::Refused(refusal),
         Field::Value(n, at) => read_head_after(bundle, at, n),
     }

@@ -5,16 +5,15 @@ use crate::fields::byte_below;
 use limits::MAX_LOG_EVENTS;
 use refusals::EVENTS;
 use refusals::Refusal;
-use slices::byte_at;
 ghost use mathlib.Core.Path.{_≡_};
-ghost use Prim.Native.Nat.{_+_, _≤_};
-ghost use lib.ListN.{length, getD};
+ghost use Prim.Native.Nat.{_≤_};
+ghost use lib.ListN.{length};
 ghost use Rattle.limits.specs.Limits.{MAX-LOG-EVENTS};
 ghost use Rattle.nets.specs.Nets.{eventCount};
 ghost use Rattle.bundles.specs.Reading.{byte, times, following};
 ghost use Rattle.bundles.specs.Readers.{anyRows, word, wordAfter};
 ghost use Rattle.bundles.specs.FieldReading.{readOf, below};
-ghost use Rattle.bundles.specs.WordReading.{mapRead, eventsAt};
+ghost use Rattle.bundles.specs.WordReading.{mapRead, partBefore};
 
 // The events of a word, checked one by one: how many they are, and the offset behind them.
 fn read_events(bundle: &[u8], at: usize, size: usize, n: usize) -> Field
@@ -52,14 +51,13 @@ pub fn read_word(bundle: &[u8], at: usize, n: usize, events: usize) -> Field
     read_events(bundle, start, size, n)
 }
 
-// The events of the word whose length byte stands at an offset: the part of the bundle that they occupy.
-pub fn word_at(bundle: &[u8], at: usize) -> &[u8]
-    requires { ⌜ at + 1 + getD (now bundle) at 0 ≤ length (now bundle) ⌝ }
-    ensures { λ r. ⌜ now r ≡ eventsAt (now (bundle .entry)) at ⌝ }
+// The events of a word of so many, which ends at an offset: the part of the bundle that they occupy.
+pub fn word_before(bundle: &[u8], next: usize, size: usize) -> &[u8]
+    requires { ⌜ (size ≤ next) × (next ≤ length (now bundle)) ⌝ }
+    ensures { λ r. ⌜ now r ≡ partBefore (now (bundle .entry)) next size ⌝ }
 {
-    let start = at + 1;
-    let end = start + byte_at(bundle, at);
-    &bundle[start..end]
+    let start = next - size;
+    &bundle[start..next]
 }
 
 // The words of a log over n events: how many events they have, and the offset behind them.

@@ -15,7 +15,7 @@ use Rattle.refusals.specs.Results.{value, refused, bind}
 use Rattle.refusals.specs.declared.Refusal.{Refusal}
 use Rattle.nets.specs.Nets.{Step, Certificate, rows, allowed, continuations, allowedSteps, wrongContinuations, isByPlace, tally}
 use Rattle.bundles.specs.Reading.{Read, got, item, Reader, each, onward}
-use Rattle.bundles.specs.Layout.{WeightFields, CertificateFields, kind0, kind1, Head, rowsIn, allowedIn, wrongIn, toCertificate, toBundle}
+use Rattle.bundles.specs.Layout.{WeightFields, CertificateFields, kind0, kind1, Head, rowsIn, allowedIn, wrongIn, toCertificate, toBundle, continuationsIn, allowedStepsIn}
 use Rattle.bundles.specs.Readers.{headOf}
 use Rattle.verdicts.specs.Judging.{solved}
 use Rattle.certificates.specs.Continuations.{steps-length, steps-at}
@@ -72,11 +72,11 @@ checked-refused (refused refused′ spot′) cause spot e =
 
 -- the wrong continuations from the event e after row i on
 abbrev pub wrongFrom : Head → ℕ → ℕ → List Step
-wrongFrom h i e = keep (λ s. not (allowedIn h s)) (drop (i * h .events + e) (continuations (h .events) (h .log)))
+wrongFrom h i e = keep (λ s. not (allowedIn h s)) (drop (i * h .events + e) (continuationsIn h))
 
 -- the allowed steps from the event e after row i on
 abbrev pub allowedFrom : Head → ℕ → ℕ → List Step
-allowedFrom h i e = keep (allowedIn h) (drop (i * h .events + e) (continuations (h .events) (h .log)))
+allowedFrom h i e = keep (allowedIn h) (drop (i * h .events + e) (continuationsIn h))
 
 -- how many of the certificates are of kind 0, and of kind 1
 abbrev pub placesOf : Head → List CertificateFields → ℕ
@@ -93,7 +93,7 @@ counted s = s .allowed + s .«by_place» + s .«by_weights»
 pub record PassedTo (h : Head) (b : List ℕ) (at i e : ℕ) (s : Progress) : Type 0 where
   pub before : List CertificateFields
   pub left : Left (solved h) b (wrongIn h) at (wrongFrom h i e) before (s .next)
-  pub allowedCount : s .allowed + length (allowedFrom h i e) ≡ length (allowedSteps (h .events) (h .log))
+  pub allowedCount : s .allowed + length (allowedFrom h i e) ≡ length (allowedStepsIn h)
   pub placeCount : s .«by_place» ≡ placesOf h before
   pub weightsCount : s .«by_weights» ≡ weightsOf h before
   pub size : length before ≡ s .«by_place» + s .«by_weights»
@@ -118,8 +118,8 @@ module _ {h : Head} {b : List ℕ} {at i e : ℕ} {s : Progress} (l : PassedTo h
       let same : i * h .events + e ≡ (i + 1) * h .events + 0 = omega (arith, add-mul i 1 (h .events), one-mul (h .events)) in
       record {
         before = l .before;
-        left = subst (λ (k : ℕ). Left (solved h) b (wrongIn h) at (keep (λ s. not (allowedIn h s)) (drop k (continuations (h .events) (h .log)))) (l .before) (s .next)) same (l .left);
-        allowedCount = ap (λ (k : ℕ). s .allowed + length (keep (allowedIn h) (drop k (continuations (h .events) (h .log))))) (sym same) ∙ l .allowedCount;
+        left = subst (λ (k : ℕ). Left (solved h) b (wrongIn h) at (keep (λ s. not (allowedIn h s)) (drop k (continuationsIn h))) (l .before) (s .next)) same (l .left);
+        allowedCount = ap (λ (k : ℕ). s .allowed + length (keep (allowedIn h) (drop k (continuationsIn h)))) (sym same) ∙ l .allowedCount;
         placeCount = l .placeCount;
         weightsCount = l .weightsCount;
         size = l .size;
@@ -131,33 +131,33 @@ module _ {h : Head} {b : List ℕ} {at i e : ℕ} {s : Progress} (l : PassedTo h
       ≡ certifiedOf h (each (solved h) (wrongIn h) [] b at)
   unfolding continuations keep certifiedOf tally toBundle
   passed-done count size past =
-      let none : drop (i * h .events + e) (continuations (h .events) (h .log)) ≡ [] =
-      drop-of-length-le (continuations (h .events) (h .log)) {i = i * h .events + e} (omega (arith, steps-length (h .events) (rowsIn h), mul-le-mul-right (h .events) past, ap (λ (k : ℕ). k * h .events) size)) in
+      let none : drop (i * h .events + e) (continuationsIn h) ≡ [] =
+      drop-of-length-le (continuationsIn h) {i = i * h .events + e} (omega (arith, steps-length (h .events) (rowsIn h), mul-le-mul-right (h .events) past, ap (λ (k : ℕ). k * h .events) size)) in
       let whole : each (solved h) (wrongIn h) [] b at ≡ got (l .before) (s .next) =
       left-done (subst (λ (xs : List Step). Left (solved h) b (wrongIn h) at (keep (λ s. not (allowedIn h s)) xs) (l .before) (s .next)) none (l .left)) in
-      let all : s .allowed ≡ length (allowedSteps (h .events) (h .log)) =
+      let all : s .allowed ≡ length (allowedStepsIn h) =
       sym (add-zero (s .allowed)) ∙ ap (λ (xs : List Step). s .allowed + length (keep (allowedIn h) xs)) (sym none) ∙ l .allowedCount in
       rw (whole, size, all, l .placeCount, l .weightsCount)
 
   module _ (inside : i < length (rowsIn h)) (below : e < h .events) where
-    listed : i * h .events + e < length (continuations (h .events) (h .log))
+    listed : i * h .events + e < length (continuationsIn h)
     unfolding continuations
     listed = omega (arith, steps-length (h .events) (rowsIn h), mul-le-mul-right (h .events) inside, suc-mul i (h .events))
 
-    step-is : getD (continuations (h .events) (h .log)) (i * h .events + e) (stepOf h i e) ≡ stepOf h i e
+    step-is : getD (continuationsIn h) (i * h .events + e) (stepOf h i e) ≡ stepOf h i e
     unfolding continuations
     step-is = steps-at (h .events) (rowsIn h) i e (stepOf h i e) inside below
 
     -- the steps behind this one that pass a test
-    passing : (f : Step → Bool) → f (stepOf h i e) ≡ true → keep f (drop (i * h .events + e) (continuations (h .events) (h .log))) ≡ stepOf h i e ∷ keep f (drop (i * h .events + (e + 1)) (continuations (h .events) (h .log)))
+    passing : (f : Step → Bool) → f (stepOf h i e) ≡ true → keep f (drop (i * h .events + e) (continuationsIn h)) ≡ stepOf h i e ∷ keep f (drop (i * h .events + (e + 1)) (continuationsIn h))
     passing f t =
-        keep-passed f (continuations (h .events) (h .log)) (i * h .events + e) (stepOf h i e) listed (ap f step-is ∙ t)
-        ∙ ap₂ _∷_ step-is (ap (λ (k : ℕ). keep f (drop k (continuations (h .events) (h .log)))) (add-assoc (i * h .events) e 1))
+        keep-passed f (continuationsIn h) (i * h .events + e) (stepOf h i e) listed (ap f step-is ∙ t)
+        ∙ ap₂ _∷_ step-is (ap (λ (k : ℕ). keep f (drop k (continuationsIn h))) (add-assoc (i * h .events) e 1))
 
-    failing : (f : Step → Bool) → f (stepOf h i e) ≡ false → keep f (drop (i * h .events + e) (continuations (h .events) (h .log))) ≡ keep f (drop (i * h .events + (e + 1)) (continuations (h .events) (h .log)))
+    failing : (f : Step → Bool) → f (stepOf h i e) ≡ false → keep f (drop (i * h .events + e) (continuationsIn h)) ≡ keep f (drop (i * h .events + (e + 1)) (continuationsIn h))
     failing f t =
-        keep-failed f (continuations (h .events) (h .log)) (i * h .events + e) (stepOf h i e) listed (ap f step-is ∙ t)
-        ∙ ap (λ (k : ℕ). keep f (drop k (continuations (h .events) (h .log)))) (add-assoc (i * h .events) e 1)
+        keep-failed f (continuationsIn h) (i * h .events + e) (stepOf h i e) listed (ap f step-is ∙ t)
+        ∙ ap (λ (k : ℕ). keep f (drop k (continuationsIn h))) (add-assoc (i * h .events) e 1)
 
     -- an allowed step has no certificate
     pub passed-allowed : allowedIn h (stepOf h i e) ≡ true → PassedTo h b at i (e + 1) (record { allowed = s .allowed + 1; «by_place» = s .«by_place»; «by_weights» = s .«by_weights»; next = s .next })
@@ -174,7 +174,7 @@ module _ {h : Head} {b : List ℕ} {at i e : ℕ} {s : Progress} (l : PassedTo h
       one-more : Left (solved h) b (wrongIn h) at (stepOf h i e ∷ wrongFrom h i (e + 1)) (l .before) (s .next)
       one-more = subst (λ (ss : List Step). Left (solved h) b (wrongIn h) at ss (l .before) (s .next)) (passing (λ s. not (allowedIn h s)) (ap not t)) (l .left)
 
-      same-allowed : s .allowed + length (allowedFrom h i (e + 1)) ≡ length (allowedSteps (h .events) (h .log))
+      same-allowed : s .allowed + length (allowedFrom h i (e + 1)) ≡ length (allowedStepsIn h)
       same-allowed = ap (λ (ss : List Step). s .allowed + length ss) (sym (failing (allowedIn h) t)) ∙ l .allowedCount
 
       -- the certificates with one more, counted by a test

@@ -18,14 +18,14 @@ use Rattle.limits.specs.Limits.{MAX-EVENTS}
 use Rattle.refusals.specs.Table.{PLACE-PERMITS, WEIGHTS}
 use Rattle.refusals.specs.Answers.{refusal}
 use Rattle.refusals.specs.Results.{value, refused, bind}
-use Rattle.nets.specs.Nets.{Place, Step, Counts, rows, surplus, placePermits, refusedBy, weightsHold, solves}
+use Rattle.nets.specs.Nets.{Place, Step, Counts, rows, surplus, placePermits, refusedBy, solves}
 use Rattle.nets.specs.Surplus.{tokens-row}
 use Rattle.nets.specs.Wide.{wide}
 use Rattle.rows.specs.Rows.{ROW, Row, rowAt, rowsOf, newRow, none}
 use Rattle.rows.specs.Flat.{rows-at}
 use Rattle.logs.specs.Log.{logRows}
 use Rattle.bundles.specs.Reading.{Read, got, item, andThen, give, require, byte, number, onward}
-use Rattle.bundles.specs.Layout.{PlaceFields, CertificateFields, kind0, kind1, Head, CertificateInLimits, toPlace, toNet, toCertificate, WeightFields, WeightsInLimits, rowsIn, allowedIn, solvesIn, toWeights}
+use Rattle.bundles.specs.Layout.{PlaceFields, CertificateFields, kind0, kind1, Head, CertificateInLimits, toPlace, toNet, toCertificate, WeightFields, WeightsInLimits, rowsIn, allowedIn, solvesIn, wordsIn, weightsHoldIn}
 use Rattle.bundles.specs.LayoutLaws.{law-certificate}
 use Rattle.bundles.specs.Readers.{weights, ofKind, certificate, headOf}
 use Rattle.bundles.specs.FieldReading.{upTo, below, byte-got}
@@ -69,9 +69,9 @@ module _ (permitted : ℕ → Bool) (number : ℕ) {m : Read ℕ} where
   place-unread e = rw e
 
 -- reading weights gives weights
-weights-kind : (n count : ℕ) (b : List ℕ) (at j next : ℕ) → weights n count b at ≡ got (kind0 j) next → ⊥
+weights-kind : (h : Head) (b : List ℕ) (at j next : ℕ) → weights h b at ≡ got (kind0 j) next → ⊥
 unfolding weights
-weights-kind n count b at j next e =
+weights-kind h b at j next e =
     let k = andThen-got b _ _ _ _ e in
     let size = andThen-got b _ _ _ _ (k .3) in
     let ts = andThen-got b _ _ _ _ (size .3) in
@@ -97,11 +97,11 @@ module _ {b t : List ℕ} {head : TakenHead} (held : HeadHeld b t head) where
   width = omega (arith, held .found .events, held .found .limits)
 
   module _ (i : ℕ) (inside : i < rowCount) where
-    row-held : rowAt (drop (ROW * i) t) ≡ rowOf (logRows (h .log)) i
+    row-held : rowAt (drop (ROW * i) t) ≡ rowOf (logRows (wordsIn h)) i
     row-held = sym (rows-at rowCount t i (newRow none) inside) ∙ ap (λ (rs : List Row). rowOf rs i) (held .table)
 
     counts-held : rowAt (drop (ROW * i) t) .counts ≡ wide (MAX-EVENTS - h .events) (getD (rowsIn h) i [])
-    counts-held = ap (λ (r : Row). r .counts) row-held ∙ row-counts (h .events) (MAX-EVENTS - h .events) (h .log) width (held .below) i (omega (arith, held .size))
+    counts-held = ap (λ (r : Row). r .counts) row-held ∙ row-counts (h .events) (MAX-EVENTS - h .events) (wordsIn h) width (held .below) i (omega (arith, held .size))
 
     module _ (e : ℕ) (event : e < n) where
       -- the bit of an event says whether the step is allowed
@@ -110,7 +110,7 @@ module _ {b t : List ℕ} {head : TakenHead} (held : HeadHeld b t head) where
       mask-held =
           ap (λ (m : ℕ). bit m e) (sym (getD-drop (ROW * i) t MAX-EVENTS 0))
           ∙ ap (λ (r : Row). bit (r .mask) e) row-held
-          ∙ row-mask (h .events) (MAX-EVENTS - h .events) (h .log) width (held .below) i (omega (arith, held .size)) e (omega (arith, held .found .events))
+          ∙ row-mask (h .events) (MAX-EVENTS - h .events) (wordsIn h) width (held .below) i (omega (arith, held .size)) e (omega (arith, held .found .events))
 
       -- a place permits the step exactly when it does with twelve counts
       permits-held : (p : Place) → placePermits n p (record { row = rowAt (drop (ROW * i) t) .counts; event = e }) ≡ placePermits (h .events) p (stepOf h i e)
@@ -157,30 +157,30 @@ module _ {b t : List ℕ} {head : TakenHead} (held : HeadHeld b t head) where
         -- kind 1
         module _ (bytes : Bytes b) where
           pub weights-checked : {next : ℕ} {r : Checked} {w : Weighed} → byte (upTo 1) b at ≡ got 1 next → r ≡ weightsChecked number w
-              → w ≡ weighedBy (holdsRows (rowsOf rowCount t) (rowOf (rowsOf rowCount t) i .counts) e) (weights n rowCount b next)
+              → w ≡ weighedBy (holdsRows (rowsOf rowCount t) (rowOf (rowsOf rowCount t) i .counts) e) (weights h b next)
               → r ≡ checkedOf (solved h (stepOf h i e) before b at)
           unfolding solved certificate ofKind bind onward checkedOf weightsChecked weighedBy solves toCertificate unsolved require
           weights-checked {next} {r} {w} kind told read =
               told
               ∙ ap (weightsChecked number) read
-              ∙ ap₂ (λ (m : ℕ) (r : Read CertificateFields). weightsChecked m (weighedBy (holdsRows (rowsOf rowCount t) (rowOf (rowsOf rowCount t) i .counts) e) r)) (sym size) (ap₂ (λ (m c : ℕ). weights m c b next) (sym (held .found .events)) (held .size))
-              ∙ rw kind (go (weights (h .events) (length (rowsIn h)) b next) refl)
+              ∙ ap (λ (m : ℕ). weightsChecked m (weighedBy (holdsRows (rowsOf rowCount t) (rowOf (rowsOf rowCount t) i .counts) e) (weights h b next))) (sym size)
+              ∙ rw kind (go (weights h b next) refl)
             where
-              limits : (c : CertificateFields) (mid : ℕ) → weights (h .events) (length (rowsIn h)) b next ≡ got c mid → CertificateInLimits h c
+              limits : (c : CertificateFields) (mid : ℕ) → weights h b next ≡ got c mid → CertificateInLimits h c
               limits c mid known = law-certificate b bytes h (omega (arith, held .found .events)) (omega (arith, held .size)) (omega (arith, place-count (held .found))) .sound at c mid (rw kind known) .0
 
               test : (w : WeightFields) → WeightsInLimits h w
-                  → holdsRows (rowsOf rowCount t) (rowOf (rowsOf rowCount t) i .counts) e (w .k) (w .terms) ≡ weightsHold (h .events) (h .log) (stepOf h i e) (toWeights h w)
+                  → holdsRows (rowsOf rowCount t) (rowOf (rowsOf rowCount t) i .counts) e (w .k) (w .terms) ≡ weightsHoldIn h (stepOf h i e) w
               test w l =
                   ap₂ (λ (rs : List Row) (v : Counts). holdsRows rs v e (w .k) (w .terms)) (held .table) (ap (λ (r : Row). r .counts) (rows-at rowCount t i (newRow none) inside) ∙ counts-held)
                   ∙ holds-is h (MAX-EVENTS - h .events) width (held .below) w l i (omega (arith, held .size)) e (omega (arith, held .found .events))
 
-              go : (r : Read CertificateFields) → weights (h .events) (length (rowsIn h)) b next ≡ r
+              go : (r : Read CertificateFields) → weights h b next ≡ r
                   → weightsChecked (length before) (weighedBy (holdsRows (rowsOf rowCount t) (rowOf (rowsOf rowCount t) i .counts) e) r)
                   ≡ checkedOf (andThen r (λ c. λ b′ at′. andThen (require (solvesIn h (stepOf h i e) c) (unsolved c) (length before) b′ at′) (λ x. give c) b′) b)
               go (refused cause spot) known = refl
-              go (value (item (kind0 j) mid)) known = absurd (weights-kind _ _ b next j mid known)
-              go (value (item (kind1 w) mid)) known = rw (test w (limits (kind1 w) mid known)) (decided (weightsHold (h .events) (h .log) (stepOf h i e) (toWeights h w)))
+              go (value (item (kind0 j) mid)) known = absurd (weights-kind _ b next j mid known)
+              go (value (item (kind1 w) mid)) known = rw (test w (limits (kind1 w) mid known)) (decided (weightsHoldIn h (stepOf h i e) w))
                 where
                   decided : (p : Bool) → weightsChecked (length before) (cond p (weighed.Holds mid) (weighed.Fails mid))
                       ≡ checkedOf (andThen (cond p (got (tt {0}) mid) (refused WEIGHTS (length before))) (λ x. give (kind1 w)) b)

@@ -1,5 +1,4 @@
 pub mod Certifying
-pub mod PlaceNumbers
 pub mod CheckLaws
 pub mod Continuations
 pub mod CertificateReading

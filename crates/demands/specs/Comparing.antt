@@ -14,16 +14,16 @@ use Rattle.refusals.specs.Results.{value, refused}
 use Rattle.nets.specs.Nets as nets
 use Rattle.nets.specs.Nets.{Word, stepAfter, permits, permitted, stoppedAt, screen}
 use Rattle.nets.specs.Words.{Prefix, prefix→}
-use Rattle.nets.specs.Fits.{LogBelow, prefix-below}
+use Rattle.nets.specs.Fits.{prefix-below}
 use Rattle.nets.specs.TokenGame.{placesOf}
 use Rattle.nets.specs.SeparationProblems.{Complete, Suboptimal, accepted-complete, accepted-suboptimal}
-use Rattle.nets.specs.Comparison.{PrefixesIn, first-exactly, second-permits, nets-agree, first-screened, second-screened, tallies-agree}
+use Rattle.nets.specs.Comparison.{first-exactly, second-permits, nets-agree, first-screened, second-screened, tallies-agree}
 use Rattle.rows.specs.Rows.{withRows, cleared}
 use Rattle.logs.specs.Answers.{TABLE}
 use Rattle.logs.specs.Log.{logRows}
-use Rattle.bundles.specs.Layout.{CertificateFields, Head, Contents, WordInLimits, toNet, toBundle, certificateBytes, bytesOf}
+use Rattle.bundles.specs.Layout.{CertificateFields, Head, Contents, WordInLimits, toNet, toBundle, certificateBytes, bytesOf, wordsIn, LogBelowIn}
 use Rattle.bundles.specs.Readers.{headOf, eventsIn, logIn, netIn}
-use Rattle.bundles.specs.Limits.{words-below}
+use Rattle.bundles.specs.Limits.{log-below}
 use Rattle.bundles.specs.Reading.{Read, item}
 use Rattle.verdicts.specs.Judging.{tallyOf, judged, verdictOf, verdict, tableAfter}
 use Rattle.verdicts.specs.Acceptance.{AcceptedAs, judged-long, accepted-exactly, accepted-table}
@@ -31,7 +31,7 @@ use Rattle.verdicts.specs.declared.Tally.{Tally}
 use Rattle.verdicts.specs.declared.Verdict.the-variants.{Accepted}
 use Rattle.screening.specs.Screening.{replayed, screened}
 use Rattle.screening.specs.Screens.{Readable, Screenable, screened-replayed, permitted-exactly, readable-exactly, screenable-head}
-use Rattle.demands.specs.Demands.{ScreenedAtEnd, Compared}
+use Rattle.demands.specs.Demands.{ScreenedAtEnd, LogContained, Compared}
 use Rattle.demands.specs.Tables.{LogLeft}
 use Rattle.demands.specs.TablesProved.{log-left}
 
@@ -52,8 +52,7 @@ module _ (b : List ℕ) (bytes : Bytes b) where
   unfolding bytesOf
   screenable c d a w size events = record {
     size = subst (λ (l : List ℕ). length l ≤ MAX-BUNDLE-SIZE) (sym (a .layout)) (a .limits .size);
-    layout = a .layout;
-    limits = a .limits .head;
+    front = record { layout = a .layout; limits = a .limits .head };
     wordSize = size;
     events = events;
   }
@@ -64,16 +63,16 @@ module _ (b : List ℕ) (bytes : Bytes b) where
 
   -- the places of its net are a complete set of regions of its log
   module _ (c : Tally) (d : Contents) (a : AcceptedAs b c d) where
-    below : LogBelow (d .head .events) (d .head .log)
-    below = words-below (d .head .events) (d .head .log) (a .limits .head .words)
+    below : LogBelowIn (d .head)
+    below = log-below (d .head) (a .limits .head)
 
     pub net-complete : Complete (eventsIn b) (Prefix (logIn b)) (placesOf (netIn b))
     unfolding toBundle
-    net-complete = subst (λ (h : Head). Complete (h .events) (Prefix (h .log)) (placesOf (toNet h))) (sym (accepted-head c d a)) (accepted-complete (toBundle d) below (a .accepted))
+    net-complete = subst (λ (h : Head). Complete (h .events) (Prefix (wordsIn h)) (placesOf (toNet h))) (sym (accepted-head c d a)) (accepted-complete (toBundle d) below (a .accepted))
 
     pub net-suboptimal : Suboptimal (eventsIn b) (Prefix (logIn b)) (placesOf (netIn b))
     unfolding toBundle
-    net-suboptimal = subst (λ (h : Head). Suboptimal (h .events) (Prefix (h .log)) (placesOf (toNet h))) (sym (accepted-head c d a)) (accepted-suboptimal (toBundle d) below (a .accepted))
+    net-suboptimal = subst (λ (h : Head). Suboptimal (h .events) (Prefix (wordsIn h)) (placesOf (toNet h))) (sym (accepted-head c d a)) (accepted-suboptimal (toBundle d) below (a .accepted))
 
   module _ (tableSize : ℕ) (c : Tally) (yes′ : verdict tableSize b ≡ Accepted c) where
     -- its fields, with the head that screening reads
@@ -94,7 +93,7 @@ module _ (b : List ℕ) (bytes : Bytes b) where
     numbers-left table size =
         let l = fields .1 .limits in
         subst (LogLeft (eventsIn b) (logIn b) table) (sym (table-left table size))
-        (log-left (eventsIn b) (logIn b) (l .head .events .1) (words-below (eventsIn b) (logIn b) (l .head .words)) (l .rowCount) table (omega (arith, size, long-table tableSize b c yes′)))
+        (log-left (eventsIn b) (logIn b) (l .head .events .1) (log-below (headOf b) (l .head)) (l .rowCount) table (omega (arith, size, long-table tableSize b c yes′)))
 
     prefix-length : (u : Word) → Prefix (logIn b) u → length u ≤ 255
     prefix-length u m = ⊎-elim
@@ -105,7 +104,7 @@ module _ (b : List ℕ) (bytes : Bytes b) where
     longer-below : (w : Word) → Prefix (logIn b) w → (e : ℕ) → e < eventsIn b → Every (λ x. x < eventsIn b) (w ++ e ∷ [])
     longer-below w m e h = every-intro (λ x. x < eventsIn b) (w ++ e ∷ []) (λ x k.
         ⊎-elim
-        (prefix-below (eventsIn b) (logIn b) (words-below (eventsIn b) (logIn b) (fields .1 .limits .head .words)) w m x)
+        (prefix-below (eventsIn b) (logIn b) (log-below (headOf b) (fields .1 .limits .head)) w m x)
         (λ q. subst (λ (y : ℕ). y < eventsIn b) (sym (List·Memᴰ·eq-of-singleton q)) h)
         (List·Memᴰ·append-cases w k))
 
@@ -139,7 +138,7 @@ same-counts t₁ t₂ c₁ c₂ e₁ e₂ t =
     let same : c₁ ≡ c₂ = e₁ ∙ ap tallyOf t ∙ sym e₂ in
     (ap (λ (c : Tally). c .rows) same, ap (λ (c : Tally). c .allowed) same, ap (λ (c : Tally). c .«by_place») same, ap (λ (c : Tally). c .«by_weights») same)
 
-module _ (b₁ b₂ : List ℕ) (bytes₁ : Bytes b₁) (bytes₂ : Bytes b₂) (size₁ size₂ : ℕ) (c₁ c₂ : Tally) (yes₁ : verdict size₁ b₁ ≡ Accepted c₁) (yes₂ : verdict size₂ b₂ ≡ Accepted c₂) (same-events : eventsIn b₁ ≡ eventsIn b₂) (to : PrefixesIn (logIn b₁) (logIn b₂)) where
+module _ (b₁ b₂ : List ℕ) (bytes₁ : Bytes b₁) (bytes₂ : Bytes b₂) (size₁ size₂ : ℕ) (c₁ c₂ : Tally) (yes₁ : verdict size₁ b₁ ≡ Accepted c₁) (yes₂ : verdict size₂ b₂ ≡ Accepted c₂) (contained : LogContained b₁ b₂) where
   pub compared : Compared b₁ b₂ c₁ c₂
   unfolding toBundle
   compared =
@@ -151,11 +150,11 @@ module _ (b₁ b₂ : List ℕ) (bytes₁ : Bytes b₁) (bytes₂ : Bytes b₂) 
       let a₂ = f₂ .1 .accepted in
       record {
         longer = λ w m e h. record {
-          exactly = first-exactly (toBundle d₁) (toBundle d₂) a₁ a₂ same-events to w m e h;
-          second = second-permits (toBundle d₁) (toBundle d₂) a₁ a₂ same-events to w m e h;
-          same = nets-agree (toBundle d₁) (toBundle d₂) a₁ a₂ same-events to w m e h;
-          screened₁ = screened-at-end b₁ bytes₁ size₁ c₁ yes₁ w m e h (first-screened (toBundle d₁) (toBundle d₂) a₁ a₂ same-events to w m e h);
-          screened₂ = screened-at-end b₂ bytes₂ size₂ c₂ yes₂ w (to w m) e (subst (λ (n : ℕ). e < n) same-events h) (second-screened (toBundle d₁) (toBundle d₂) a₁ a₂ same-events to w m e h);
+          exactly = first-exactly (toBundle d₁) (toBundle d₂) a₁ a₂ contained w m e h;
+          second = second-permits (toBundle d₁) (toBundle d₂) a₁ a₂ contained w m e h;
+          same = nets-agree (toBundle d₁) (toBundle d₂) a₁ a₂ contained w m e h;
+          screened₁ = screened-at-end b₁ bytes₁ size₁ c₁ yes₁ w m e h (first-screened (toBundle d₁) (toBundle d₂) a₁ a₂ contained w m e h);
+          screened₂ = screened-at-end b₂ bytes₂ size₂ c₂ yes₂ w (contained .prefixes w m) e (subst (λ (n : ℕ). e < n) (contained .events) h) (second-screened (toBundle d₁) (toBundle d₂) a₁ a₂ contained w m e h);
         };
-        counts = λ from. same-counts _ _ c₁ c₂ (f₁ .1 .counts) (f₂ .1 .counts) (tallies-agree (toBundle d₁) (toBundle d₂) a₁ a₂ same-events to from);
+        counts = λ back. same-counts _ _ c₁ c₂ (f₁ .1 .counts) (f₂ .1 .counts) (tallies-agree (toBundle d₁) (toBundle d₂) a₁ a₂ contained back);
       }

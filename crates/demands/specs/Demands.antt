@@ -23,8 +23,8 @@ use Rattle.refusals.specs.declared.Refusal.{Refusal}
 use Rattle.refusals.specs.declared.Written.the-variants as writing
 use Rattle.block.specs.File.{opened, sealed, blocksFor}
 use Rattle.nets.specs.Nets.{Word, Log, Net, join, stepAfter, permits, firstRefusing, shortfallOf, rows, eventCount}
-use Rattle.nets.specs.Words.{Prefix, PermitsLog}
-use Rattle.nets.specs.Comparison.{PrefixesIn}
+use Rattle.nets.specs.Words.{Prefix, EveryNetPermits}
+use Rattle.nets.specs.Comparison.{Contained}
 use Rattle.nets.specs.Screening.{FirstRefused, shortfallAt}
 use Rattle.nets.specs.TokenGame.{placesOf}
 use Rattle.nets.specs.SeparationProblems.{Complete, Suboptimal}
@@ -190,16 +190,20 @@ pub record ScreenedAtEnd (s : Screened) (n : ℕ) (net : Net) (w : Word) (e : �
     shortfall = shortfallOf n net (firstRefusing n net (stepAfter n w e)) (stepAfter n w e);
   })
 
+-- '.. with the same event count and with every prefix in the first log a prefix in the second'
+abbrev pub LogContained : List ℕ → List ℕ → Type 0
+LogContained b₁ b₂ = Contained (eventsIn b₁) (logIn b₁) (eventsIn b₂) (logIn b₂)
+
 -- of the prefix w and the event e, for the bundles b₁ and b₂
 pub record Longer (b₁ b₂ : List ℕ) (w : Word) (e : ℕ) : Type 0 where
   -- 'The first net permits that longer word exactly when it is permitted by every net, of any number of places with whole numbers of any
   -- size, that permits all words of the first log.'
   pub exactly : T (permits (eventsIn b₁) (netIn b₁) (w ++ e ∷ []))
-      ↔ ((net : Net) → PermitsLog (eventsIn b₁) net (logIn b₁) → T (permits (eventsIn b₁) net (w ++ e ∷ [])))
+      ↔ EveryNetPermits (eventsIn b₁) (logIn b₁) (w ++ e ∷ [])
   -- 'When the first net permits it, so does the second.'
   pub second : T (permits (eventsIn b₁) (netIn b₁) (w ++ e ∷ [])) → T (permits (eventsIn b₂) (netIn b₂) (w ++ e ∷ []))
   -- 'Where the logs have the same prefixes, both nets permit and refuse the same longer words'
-  pub same : PrefixesIn (logIn b₂) (logIn b₁) → permits (eventsIn b₁) (netIn b₁) (w ++ e ∷ []) ≡ permits (eventsIn b₂) (netIn b₂) (w ++ e ∷ [])
+  pub same : LogContained b₂ b₁ → permits (eventsIn b₁) (netIn b₁) (w ++ e ∷ []) ≡ permits (eventsIn b₂) (netIn b₂) (w ++ e ∷ [])
   -- 'Screening the longer word with either bundle ..'
   pub screened₁ : ScreenedAtEnd (screened b₁ (w ++ e ∷ [])) (eventsIn b₁) (netIn b₁) w e
   pub screened₂ : ScreenedAtEnd (screened b₂ (w ++ e ∷ [])) (eventsIn b₂) (netIn b₂) w e
@@ -208,7 +212,7 @@ pub record Longer (b₁ b₂ : List ℕ) (w : Word) (e : ℕ) : Type 0 where
 pub record Compared (b₁ b₂ : List ℕ) (c₁ c₂ : Tally) : Type 0 where
   pub longer : (w : Word) → Prefix (logIn b₁) w → (e : ℕ) → e < eventsIn b₁ → Longer b₁ b₂ w e
   -- '.. and the four counts in the first verdict equal those in the second, one by one.'
-  pub counts : PrefixesIn (logIn b₂) (logIn b₁)
+  pub counts : LogContained b₂ b₁
       → (c₁ .rows ≡ c₂ .rows) × (c₁ .allowed ≡ c₂ .allowed) × (c₁ .«by_place» ≡ c₂ .«by_place») × (c₁ .«by_weights» ≡ c₂ .«by_weights»)
 
 -- for any two files that open and are accepted, whatever the outputs and tables held before
@@ -216,4 +220,4 @@ abbrev pub Demand3 : Type 0
 Demand3 =
     (file₁ file₂ output₁ output₂ table₁ table₂ b₁ b₂ : List ℕ) (c₁ c₂ : Tally) → Bytes file₁ → Bytes file₂
     → FileAccepted file₁ output₁ table₁ b₁ c₁ → FileAccepted file₂ output₂ table₂ b₂ c₂
-    → eventsIn b₁ ≡ eventsIn b₂ → PrefixesIn (logIn b₁) (logIn b₂) → Compared b₁ b₂ c₁ c₂
+    → LogContained b₁ b₂ → Compared b₁ b₂ c₁ c₂

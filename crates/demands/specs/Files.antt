@@ -13,14 +13,13 @@ use Rattle.refusals.specs.declared.Written.the-variants as writing
 use Rattle.block.specs.File.{opened}
 use Rattle.nets.specs.Nets.{Word}
 use Rattle.nets.specs.Words.{Prefix}
-use Rattle.nets.specs.Comparison.{PrefixesIn}
 use Rattle.bundles.specs.Readers.{eventsIn, logIn, netIn}
 use Rattle.verdicts.specs.Judging.{verdict, tableAfter}
 use Rattle.verdicts.specs.declared.Tally.{Tally}
 use Rattle.verdicts.specs.declared.Verdict.the-variants.{Accepted}
 use Rattle.screening.specs.Screening.{screened}
 use Rattle.screening.specs.declared.Screened.{Screened}
-use Rattle.demands.specs.Demands.{ScreenedAtEnd, Compared}
+use Rattle.demands.specs.Demands.{ScreenedAtEnd, LogContained, Compared}
 use Rattle.demands.specs.Proved.{demand-3}
 use Rattle.demands.specs.declared.Answers.{Answers}
 use Rattle.demands.specs.declared.Ran.{Ran}
@@ -49,7 +48,7 @@ abbrev pub AnswersCompared : Both → List ℕ → List ℕ → Word → Type 0
 AnswersCompared r output₁ output₂ word =
     (a₁ a₂ : Answers) (c₁ c₂ : Tally) → r .first ≡ Opened a₁ → r .second ≡ Opened a₂ → a₁ .verdict ≡ Accepted c₁ → a₂ .verdict ≡ Accepted c₂
     → (b₁ b₂ : List ℕ) → b₁ ≡ take (a₁ .size) output₁ → b₂ ≡ take (a₂ .size) output₂
-    → eventsIn b₁ ≡ eventsIn b₂ → PrefixesIn (logIn b₁) (logIn b₂)
+    → LogContained b₁ b₂
     → Compared b₁ b₂ c₁ c₂
     × ((w : Word) (e : ℕ) → word ≡ w ++ e ∷ [] → Prefix (logIn b₁) w → e < eventsIn b₁
     → ScreenedAtEnd (a₁ .screened) (eventsIn b₁) (netIn b₁) w e × ScreenedAtEnd (a₂ .screened) (eventsIn b₂) (netIn b₂) w e)
@@ -97,13 +96,13 @@ answers-for result output tableSize w a e = go (fitted result (length output)) r
 module _ (file₁ file₂ output₁ output₂ table : List ℕ) (w : Word) (r : Both) (small₁ : Bytes file₁) (small₂ : Bytes file₂) where
   pub both-compared : r .first ≡ ran (fitted (opened file₁) (length output₁)) (length table) w → r .second ≡ ran (fitted (opened file₂) (length output₂)) (length table) w
       → AnswersCompared r (written (opened file₁) output₁) (written (opened file₂) output₂) w
-  both-compared first second a₁ a₂ c₁ c₂ opened₁ opened₂ accepted₁ accepted₂ b₁ b₂ front₁ front₂ same-events to =
+  both-compared first second a₁ a₂ c₁ c₂ opened₁ opened₂ accepted₁ accepted₂ b₁ b₂ front₁ front₂ contained =
       let for₁ = answers-for (opened file₁) output₁ (length table) w a₁ (sym first ∙ opened₁) in
       let for₂ = answers-for (opened file₂) output₂ (length table) w a₂ (sym second ∙ opened₂) in
       let compares = demand-3 file₁ file₂ output₁ output₂ table table b₁ b₂ c₁ c₂ small₁ small₂
       (record { size = a₁ .size; opens = for₁ .opens; bundle = sym front₁; accepted = ap (verdict (length table)) front₁ ∙ sym (for₁ .judged) ∙ accepted₁ })
       (record { size = a₂ .size; opens = for₂ .opens; bundle = sym front₂; accepted = ap (verdict (length table)) front₂ ∙ sym (for₂ .judged) ∙ accepted₂ })
-      same-events to in (
+      contained in (
         compares,
         λ u e is m h.
             let longer = compares .longer u m e h in

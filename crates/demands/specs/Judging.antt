@@ -13,7 +13,7 @@ use Rattle.refusals.specs.Answers.{refusal}
 use Rattle.nets.specs.Nets.{Word, Log, Step, noPlace, eventCount}
 use Rattle.nets.specs.Fits.{Fits}
 use Rattle.bundles.specs.Reading.{got, byte, number}
-use Rattle.bundles.specs.Layout.{Head, Contents, WeightFields, kind0, kind1, wrongIn, toNet, bytesOf}
+use Rattle.bundles.specs.Layout.{Head, Contents, WeightFields, kind0, kind1, wrongIn, toNet, bytesOf, wordsIn}
 use Rattle.bundles.specs.Readers.{head, wordAfter, word, certificate, rowsInLimit}
 use Rattle.verdicts.specs.Judging.{verdict}
 use Rattle.verdicts.specs.Reached.{HeadThere, JudgedTo, CertificateDue, UnsolvedNext}
@@ -33,8 +33,8 @@ pub record Sized (tableSize : ℕ) (b : List ℕ) : Type 0 where
 -- place j of the head does not fit, and each lower one does
 pub record LowestMisfit (h : Head) (j : ℕ) : Type 0 where
   pub within : j < length (toNet h)
-  pub misfit : Fits (h .events) (h .log) (getD (toNet h) j noPlace) → ⊥
-  pub lower : (i : ℕ) → i < j → Fits (h .events) (h .log) (getD (toNet h) i noPlace)
+  pub misfit : Fits (h .events) (wordsIn h) (getD (toNet h) j noPlace) → ⊥
+  pub lower : (i : ℕ) → i < j → Fits (h .events) (wordsIn h) (getD (toNet h) i noPlace)
 
 -- ---- Judge: 4, 5, then bundle order
 

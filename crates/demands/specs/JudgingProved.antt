@@ -20,8 +20,8 @@ use Rattle.nets.specs.Fits.{Fits, LogBelow}
 use Rattle.nets.specs.Regions.{region-permits, region-fits}
 use Rattle.logs.specs.Answers.{TABLE}
 use Rattle.bundles.specs.Reading.{byte, number}
-use Rattle.bundles.specs.Layout.{CertificateFields, WeightFields, kind0, kind1, Head, Contents, fitsIn, toNet}
-use Rattle.bundles.specs.Limits.{words-below}
+use Rattle.bundles.specs.Layout.{CertificateFields, WeightFields, kind0, kind1, Head, Contents, fitsIn, toNet, wordsIn, LogBelowIn}
+use Rattle.bundles.specs.Limits.{log-below}
 use Rattle.bundles.specs.Causes.{field-refused, word-8, word-9}
 use Rattle.verdicts.specs.Judging.{unsolved, judging, verdict}
 use Rattle.verdicts.specs.Reached.{UnsolvedNext, NotSolved}
@@ -50,11 +50,11 @@ module _ (tableSize : ℕ) (b : List ℕ) (number : ℕ) (not-4 : 4 ≡ number �
 fits-exactly : (n : ℕ) (log : Log) → LogBelow n log → (p : Place) → T (fits n log p) ↔ Fits n log p
 fits-exactly n log below p = Iff·trans (Iff·symm (region-fits n log below p)) (region-permits n log below p)
 
-misfit-exactly : (h : Head) → LogBelow (h .events) (h .log) → (j : ℕ) → ((j ≡ firstFailing (fitsIn h) (toNet h)) × (all (fitsIn h) (toNet h) ≡ false))
+misfit-exactly : (h : Head) → LogBelowIn h → (j : ℕ) → ((j ≡ firstFailing (fitsIn h) (toNet h)) × (all (fitsIn h) (toNet h) ≡ false))
     ↔ LowestMisfit h j
 misfit-exactly h below j =
     let law = failing-exactly (fitsIn h) noPlace (toNet h) j in
-    let fit = fits-exactly (h .events) (h .log) below in (
+    let fit = fits-exactly (h .events) (wordsIn h) below in (
       (λ c. let r = law .0 c in record {
         within = r .0;
         misfit = λ f. T-not (fitsIn h (getD (toNet h) j noPlace)) (subst (λ (x : Bool). T (not x)) (sym (r .1)) tt)
@@ -106,8 +106,8 @@ judge-exactly tableSize b bytes = record {
   fields = λ number listed spot. in-bundle tableSize b number (not-among (6 ∷ 7 ∷ 8 ∷ 9 ∷ []) 4 number refl listed)
       (not-among (6 ∷ 7 ∷ 8 ∷ 9 ∷ []) 5 number refl listed) spot (judging-field b bytes number spot listed);
   place = λ spot. in-bundle tableSize b PLACE-MISFIT (λ e. omega (arith, e)) (λ e. omega (arith, e)) spot (Iff·trans (judging-10 b bytes spot) (
-    (λ (h, rest, t, at, fails). (h, rest, t, misfit-exactly h (words-below _ _ (t .limits .words)) spot .0 (at, fails))),
-    (λ (h, rest, t, m). let c = misfit-exactly h (words-below _ _ (t .limits .words)) spot .1 m in (h, rest, t, c .0, c .1)),
+    (λ (h, rest, t, at, fails). (h, rest, t, misfit-exactly h (log-below h (t .front .limits)) spot .0 (at, fails))),
+    (λ (h, rest, t, m). let c = misfit-exactly h (log-below h (t .front .limits)) spot .1 m in (h, rest, t, c .0, c .1)),
   ));
   listed-place = λ spot. in-bundle tableSize b PLACE-PERMITS (λ e. omega (arith, e)) (λ e. omega (arith, e)) spot
       (Iff·trans (judging-unsolved b bytes PLACE-PERMITS spot refl (λ e. omega (arith, e)) (λ e. omega (arith, e))) (place-kind b spot));

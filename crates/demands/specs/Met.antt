@@ -5,7 +5,7 @@ use mathlib.Core.Bool.{true}
 use mathlib.Core.List.{List, [], _∷_}
 use Prim.Native.Nat.{ℕ, _≤_}
 use native.Mathlib.Omega.{arith}
-use lib.Dec.{T, T-not}
+use lib.Dec.{T-not}
 use lib.ListN.{length, take, replicate, length-replicate}
 use Rattle.laws.specs.Parts.{take-front}
 use Rattle.laws.specs.Lists.{all, member, all-member, member→}
@@ -16,8 +16,8 @@ use Rattle.refusals.specs.Laws.{ends-written}
 use Rattle.block.specs.File.{opened, sealedFile}
 use Rattle.block.specs.SealLaws.{sealed-file}
 use Rattle.block.specs.RoundTrip.{opened-sealed, sealed-small}
-use Rattle.nets.specs.Nets.{Word, Log, Net, prefixes, permits}
-use Rattle.nets.specs.Words.{Prefix, PermitsLog}
+use Rattle.nets.specs.Nets.{Word, Log, prefixes, permits}
+use Rattle.nets.specs.Words.{Prefix, EveryNetPermits}
 use Rattle.nets.specs.Comparison.{PrefixesIn}
 use Rattle.logs.specs.Answers.{TABLE}
 use Rattle.bundles.specs.Readers.{eventsIn, logIn, netIn}
@@ -25,7 +25,7 @@ use Rattle.verdicts.specs.Judging.{verdictOf, verdict}
 use Rattle.verdicts.specs.Acceptance.{judged-right}
 use Rattle.verdicts.specs.declared.Tally.{Tally}
 use Rattle.verdicts.specs.declared.Verdict.the-variants as verdicts
-use Rattle.demands.specs.Demands.{FileAccepted, Compared}
+use Rattle.demands.specs.Demands.{FileAccepted, LogContained, Compared}
 use Rattle.demands.specs.Proved.{demand-3}
 use Rattle.demands.specs.Samples.{bytesA, bytesA′, countsA, computed}
 
@@ -60,11 +60,12 @@ module _ (output₁ output₂ table₁ table₂ : List ℕ) (room₁ : length by
 pub files-of-bytes : Bytes (sealedFile bytesA) × Bytes (sealedFile bytesA′)
 files-of-bytes = (sealed-small bytesA (all-bytes bytesA (computed .bytesOfA)), sealed-small bytesA′ (all-bytes bytesA′ (computed .bytesOfA′)))
 
-pub same-events : eventsIn bytesA ≡ eventsIn bytesA′
-same-events = computed .events
-
-pub same-prefixes : PrefixesIn (logIn bytesA) (logIn bytesA′) × PrefixesIn (logIn bytesA′) (logIn bytesA)
-same-prefixes = (prefixes-in (logIn bytesA) (logIn bytesA′) (computed .to), prefixes-in (logIn bytesA′) (logIn bytesA) (computed .from))
+-- their logs have the same prefixes
+pub contained : LogContained bytesA bytesA′ × LogContained bytesA′ bytesA
+contained = (
+  record { events = computed .events; prefixes = prefixes-in (logIn bytesA) (logIn bytesA′) (computed .to) },
+  record { events = sym (computed .events); prefixes = prefixes-in (logIn bytesA′) (logIn bytesA) (computed .from) },
+)
 
 pub different : bytesA ≡ bytesA′ → ⊥
 unfolding bytesA bytesA′
@@ -84,15 +85,15 @@ pub compares : Compared bytesA bytesA′ countsA countsA
 compares =
     let first = first-accepted (zeros (length bytesA)) (zeros (length bytesA′)) (zeros TABLE) (zeros TABLE) (zeros-long _) (zeros-long _) (zeros-long TABLE) (zeros-long TABLE) in
     let second = second-accepted (zeros (length bytesA)) (zeros (length bytesA′)) (zeros TABLE) (zeros TABLE) (zeros-long _) (zeros-long _) (zeros-long TABLE) (zeros-long TABLE) in
-    demand-3 (sealedFile bytesA) (sealedFile bytesA′) _ _ _ _ bytesA bytesA′ countsA countsA (files-of-bytes .0) (files-of-bytes .1) first second same-events (same-prefixes .0)
+    demand-3 (sealedFile bytesA) (sealedFile bytesA′) _ _ _ _ bytesA bytesA′ countsA countsA (files-of-bytes .0) (files-of-bytes .1) first second (contained .0)
 
 prefix-of : (w : Word) → member w (prefixes (logIn bytesA)) ≡ true → Prefix (logIn bytesA) w
 prefix-of w e = member→ w (prefixes (logIn bytesA)) (rw e tt)
 
 -- a wrong continuation that is permitted: every net that permits the log of A permits the word 0 1, which is not in the log
-pub every-net-permits : (net : Net) → PermitsLog (eventsIn bytesA) net (logIn bytesA) → T (permits (eventsIn bytesA) net (0 ∷ 1 ∷ []))
+pub every-net-permits : EveryNetPermits (eventsIn bytesA) (logIn bytesA) (0 ∷ 1 ∷ [])
 every-net-permits = compares .longer (0 ∷ []) (prefix-of (0 ∷ []) (computed .prefix0)) 1 (omega (arith, computed .two)) .exactly .0 (rw (computed .permits01) tt)
 
 -- and one that is refused: not every net that does so permits 1 0
-pub some-net-refuses : ((net : Net) → PermitsLog (eventsIn bytesA) net (logIn bytesA) → T (permits (eventsIn bytesA) net (1 ∷ 0 ∷ []))) → ⊥
+pub some-net-refuses : EveryNetPermits (eventsIn bytesA) (logIn bytesA) (1 ∷ 0 ∷ []) → ⊥
 some-net-refuses f = T-not (permits (eventsIn bytesA) (netIn bytesA) (1 ∷ 0 ∷ [])) (rw (computed .refuses10) tt) (compares .longer (1 ∷ []) (prefix-of (1 ∷ []) (computed .prefix1)) 0 (omega (arith, computed .two)) .exactly .1 f)

@@ -96,5 +96,5 @@ accepted-bundle : {file output table b : List ℕ} {c : Tally} → FileAccepted 
 accepted-bundle {file} {output} f = answer-taken (opened file) output (f .size) (f .opens) ∙ ap value (f .bundle)
 
 pub demand-3 : Demand3
-demand-3 file₁ file₂ output₁ output₂ table₁ table₂ b₁ b₂ c₁ c₂ small₁ small₂ first second same-events to =
-    compared b₁ b₂ (opened-small file₁ b₁ small₁ (accepted-bundle first)) (opened-small file₂ b₂ small₂ (accepted-bundle second)) (length table₁) (length table₂) c₁ c₂ (first .accepted) (second .accepted) same-events to
+demand-3 file₁ file₂ output₁ output₂ table₁ table₂ b₁ b₂ c₁ c₂ small₁ small₂ first second contained =
+    compared b₁ b₂ (opened-small file₁ b₁ small₁ (accepted-bundle first)) (opened-small file₂ b₂ small₂ (accepted-bundle second)) (length table₁) (length table₂) c₁ c₂ (first .accepted) (second .accepted) contained

@@ -17,7 +17,7 @@ use Rattle.refusals.specs.declared.Written.the-variants as writing
 use Rattle.nets.specs.Nets.{Word, Net, Place, Bundle, permits, accepted, tally}
 use Rattle.nets.specs.Pruning.{prune}
 use Rattle.nets.specs.Words.{Prefix}
-use Rattle.bundles.specs.Layout.{PlaceFields, CertificateFields, kind0, Contents, InLimits, bytesOf}
+use Rattle.bundles.specs.Layout.{PlaceFields, CertificateFields, kind0, Contents, InLimits, bytesOf, wordsIn}
 use Rattle.bundles.specs.Readers.{eventsIn, logIn, netIn}
 use Rattle.verdicts.specs.Judging.{verdict, tableAfter}
 use Rattle.verdicts.specs.Acceptance.{AcceptedAs}
@@ -64,7 +64,7 @@ Named d j = List·Memᴰ (kind0 j) (d .certificates)
 -- d′ is d without its idle places; `number` gives the places that stay their new numbers
 pub record WithoutIdle (d d′ : Contents) (number : ℕ → ℕ) (noPlace : PlaceFields) (none : CertificateFields) : Type 0 where
   pub events : d′ .head .events ≡ d .head .events
-  pub log : d′ .head .log ≡ d .head .log
+  pub log : wordsIn (d′ .head) ≡ wordsIn (d .head)
   -- a place that is named stays
   pub stays : (j : ℕ) → Named d j → (number j < length (d′ .head .places)) × (getD (d′ .head .places) (number j) noPlace ≡ getD (d .head .places) j noPlace)
   -- 'Nets carry places that no certificate names .. write one without them': each place that is left is one that was named, and is named

@@ -26,7 +26,7 @@ use Rattle.nets.specs.Pruning.{prune, fewer-permits, prune-accepted, prune-tall
 use Rattle.logs.specs.Answers.{TABLE}
 use Rattle.bundles.specs.Bytes.{contents-bytes}
 use Rattle.bundles.specs.Reading.{itemIn, require, field, byte, number, each, onward}
-use Rattle.bundles.specs.Layout.{PlaceFields, CertificateFields, kind0, kind1, Head, Contents, InLimits, toPlace, toNet, toTerm, toCertificate, toBundle, wordBytes, placeBytes, placesBytes, termBytes, weightBytes, certificateBytes, headBytes, bytesOf}
+use Rattle.bundles.specs.Layout.{PlaceFields, CertificateFields, kind0, kind1, Head, Contents, InLimits, toPlace, toNet, toTerm, toCertificate, toBundle, wordBytes, placeBytes, placesBytes, termBytes, weightBytes, certificateBytes, headBytes, bytesOf, wordsIn}
 use Rattle.bundles.specs.Readers as readers
 use Rattle.bundles.specs.Readers.{headOf, eventsIn, logIn, netIn, wordAfter, word, place, places, headAfter, bundleSize, bundleHead, readHead, term, weights, ofKind, certificate}
 use Rattle.verdicts.specs.Judging as verdicts
@@ -40,7 +40,7 @@ use Rattle.screening.specs.Screening.{wordOn, screening, replayed, screenedOf, 
 use Rattle.pruning.specs.Pruning.{names, named, renumbered, pruned, pruning}
 use Rattle.pruning.specs.PruneLaws.{named-member, named→, named-there, stays-named, pruned-bundle, pruned-accepted, pruned-tally, pruned-limits, pruned-shorter, pruned-twice}
 use Rattle.pruning.specs.Contents.{contentsIn, contentsOf, judge-refused, judge-accepted}
-use Rattle.demands.specs.Demands.{Compared}
+use Rattle.demands.specs.Demands.{LogContained, Compared}
 use Rattle.demands.specs.Comparing.{long-table, accepted-head, compared}
 use Rattle.demands.specs.Pruning.{PrunesTo, PruneExactly, WithoutIdle, Keeps, PermittedMore, Request7}
 
@@ -208,10 +208,13 @@ module _ (b : List ℕ) (bytes : Bytes b) (size : ℕ) (c : Tally) (d : Contents
 
   same-log : logIn b′ ≡ logIn b
   unfolding pruned
-  same-log = ap (λ (h : Head). h .log) head′ ∙ sym (ap (λ (h : Head). h .log) head)
+  same-log = ap wordsIn head′ ∙ sym (ap wordsIn head)
+
+  back : LogContained b′ b
+  back = record { events = same-events; prefixes = λ u m. rw (← same-log) m }
 
   compares : Compared b b′ c c
-  compares = compared b b′ bytes bytes′ size TABLE c c yes′ (verdict′ TABLE (omega arith)) (sym same-events) (λ u m. rw same-log m)
+  compares = compared b b′ bytes bytes′ size TABLE c c yes′ (verdict′ TABLE (omega arith)) (record { events = sym same-events; prefixes = λ u m. rw same-log m })
 
   permits-more : (w : Word) → T (permits (eventsIn b) (netIn b) w) → T (permits (eventsIn b′) (netIn b′) w)
   unfolding toBundle prune
@@ -228,16 +231,16 @@ module _ (b : List ℕ) (bytes : Bytes b) (size : ℕ) (c : Tally) (d : Contents
     table = λ table long. accepted-table b′ table bytes′ long c (pruned d) accepted′ ∙ sym (accepted-table b table bytes long c d a);
     events = same-events;
     log = same-log;
-    prefixes = λ w m e h. sym (compares .longer w m e h .same (λ u n. rw (← same-log) n));
+    prefixes = λ w m e h. sym (compares .longer w m e h .same back);
     permitted = λ w m e h.
         let longer = compares .longer w m e h in
-        let same = longer .same (λ u n. rw (← same-log) n) in (
+        let same = longer .same back in (
           (λ p. longer .screened₁ .permitted .1 (subst T (sym same) (longer .screened₂ .permitted .0 p))),
           (λ p. longer .screened₂ .permitted .1 (subst T same (longer .screened₁ .permitted .0 p))),
         );
     stopped = λ w m e h t.
         let longer = compares .longer w m e h in
-        let same = longer .same (λ u n. rw (← same-log) n) in
+        let same = longer .same back in
         ((_, _, longer .screened₁ .stopped t), (_, _, longer .screened₂ .stopped (subst (λ (p : Bool). T (not p)) same t)));
     more = permits-more;
     twice = λ tableSize long. prunes b′ bytes′ tableSize c (pruned d) (verdict′ tableSize long) accepted′ ∙ ap (λ (x : Contents). value (bytesOf x)) (pruned-twice d (a .limits));

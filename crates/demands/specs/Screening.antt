@@ -11,10 +11,9 @@ use Rattle.laws.specs.Lists.{among}
 use Rattle.refusals.specs.Results.{refused}
 use Rattle.refusals.specs.Answers.{refusal}
 use Rattle.nets.specs.Nets.{Word}
-use Rattle.bundles.specs.Layout.{Head}
+use Rattle.bundles.specs.Layout.{Head, HeadInFront}
 use Rattle.bundles.specs.Readers.{head, anyRows, eventsIn}
 use Rattle.screening.specs.Screening.{screened, screenedJoined}
-use Rattle.screening.specs.Causes.{HeadInFront}
 use Rattle.screening.specs.Screens.{Readable}
 use Rattle.screening.specs.declared.Screened.the-variants as screening
 

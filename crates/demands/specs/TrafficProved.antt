@@ -27,8 +27,8 @@ use Rattle.logs.specs.declared.Taken.the-variants as taking
 use Rattle.tables.specs.Tables.{countsIn, trafficIn, missingCounts, row-counts, taken-rows as rows-taken}
 use Rattle.tables.specs.LogNumbers.{logTable, row-passed, table-rows}
 use Rattle.tables.specs.Forgetting.{forget, maskRow, take-forget}
-use Rattle.bundles.specs.Readers.{eventsIn, logIn}
-use Rattle.bundles.specs.Limits.{words-below}
+use Rattle.bundles.specs.Readers.{headOf, eventsIn, logIn}
+use Rattle.bundles.specs.Limits.{log-below}
 use Rattle.verdicts.specs.Judging.{verdict, tableAfter}
 use Rattle.verdicts.specs.declared.Tally.{Tally}
 use Rattle.verdicts.specs.declared.Verdict.the-variants as judging
@@ -99,7 +99,7 @@ module _ (table b : List ℕ) (bytes : Bytes b) (c : Tally) (accepted : verdict 
   left =
       let l = fields b bytes (length table) c accepted .1 .limits .head in
       subst (TrafficLeft (eventsIn b) (logIn b)) (sym (table-left b bytes (length table) c accepted table refl))
-      (traffic-left (eventsIn b) (logIn b) (l .events .1) (words-below (eventsIn b) (logIn b) (l .words)) (l .logEvents) table)
+      (traffic-left (eventsIn b) (logIn b) (l .events .1) (log-below (headOf b) l) (l .logEvents) table)
 
   left-number : (r : ℕ) → r < length (rows (eventsIn b) (logIn b))
       → trafficIn (tableAfter b table) r ≡ traffic (eventsIn b) (logIn b) (getD (rows (eventsIn b) (logIn b)) r [])

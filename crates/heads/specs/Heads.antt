@@ -5,18 +5,16 @@ use Prim.Native.Nat.{ℕ, _*_, _≤_}
 use native.Mathlib.Omega.{arith}
 use lib.ListN.{length, drop}
 use Rattle.laws.specs.Booleans.{impossible}
-use Rattle.limits.specs.Limits.{MAX-ROWS, MAX-EVENTS}
+use Rattle.limits.specs.Limits.{MAX-ROWS}
 use Rattle.refusals.specs.Results.{value, refused, bind}
 use Rattle.refusals.specs.declared.Refusal.{Refusal}
 use Rattle.nets.specs.Nets.{rows}
-use Rattle.nets.specs.Fits.{LogBelow}
 use Rattle.rows.specs.Rows.{ROW, rowsOf, Holds}
 use Rattle.logs.specs.Answers.{TABLE}
 use Rattle.logs.specs.Log.{logRows}
 use Rattle.bundles.specs.Reading.{Read, got, item, byte, onward}
-use Rattle.bundles.specs.Layout.{PlaceFields, Head}
-use Rattle.bundles.specs.Readers.{anything, places, head, rowsInLimit, headOf, eventsIn, logIn, headAfter}
-use Rattle.bundles.specs.FieldReading.{between}
+use Rattle.bundles.specs.Layout.{PlaceFields, Head, wordsIn, LogBelowIn, rowsIn}
+use Rattle.bundles.specs.Readers.{firstByte, anything, places, head, rowsInLimit, headOf, logIn, headAfter}
 use Rattle.bundles.specs.PlaceReading.{keptPlaces, placesRead}
 use Rattle.bundles.specs.HeadReading.{HeadAt, head-got, after-failed, head-taken}
 use Rattle.bundles.specs.declared.Places.{Places}
@@ -30,8 +28,8 @@ use Rattle.heads.specs.declared.HeadTaken.the-variants as heads-taken
 -- `kept` is what the code keeps of the head of the bundle b, and the table t has the rows of its log in front
 pub record HeadHeld (b t : List ℕ) (kept : TakenHead) : Type 0 where
   pub found : HeadAt b (kept .n) (kept .places)
-  pub below : LogBelow (eventsIn b) (logIn b)
-  pub size : kept .rows ≡ length (rows (eventsIn b) (logIn b))
+  pub below : LogBelowIn (headOf b)
+  pub size : kept .rows ≡ length (rowsIn (headOf b))
   pub few : kept .rows ≤ MAX-ROWS
   pub room : ROW * kept .rows ≤ length t
   pub table : rowsOf (kept .rows) t ≡ logRows (logIn b)
@@ -54,7 +52,7 @@ places-refused n (value (item ps next)) r e = impossible cc
 places-refused n (refused number spot) r e = let same : record { number = number; spot = spot } ≡ r = cc in ap₂ refused (ap (λ (x : Refusal). x .number) same) (ap (λ (x : Refusal). x .spot) same)
 
 -- behind the event count
-module _ (b : List ℕ) {n at : ℕ} (events : byte (between 1 MAX-EVENTS) b 0 ≡ got n at) (t₀ t : List ℕ) where
+module _ (b : List ℕ) {n at : ℕ} (events : firstByte b 0 ≡ got n at) (t₀ t : List ℕ) where
   pub count-refused : (r : Refusal) → byte anything b at ≡ refused (r .number) (r .spot) → t ≡ t₀ → HeadIs b t₀ t (heads-taken.Refused r)
   count-refused r e same = (head-got rowsInLimit b events ∙ after-failed rowsInLimit b n at e, ap (drop TABLE) same)
 
@@ -85,11 +83,11 @@ module _ (b : List ℕ) {n at : ℕ} (events : byte (between 1 MAX-EVENTS) b 0 �
             read ∙ ap (λ (x : Head). got x (k .1)) is,
             record {
               found = found .1;
-              below = subst (λ (x : Head). LogBelow (x .events) (x .log)) is (held .below);
-              size = subst (λ (x : Head). rowCount ≡ length (rows (x .events) (x .log))) is (held .size);
+              below = subst (λ (x : Head). LogBelowIn x) is (held .below);
+              size = subst (λ (x : Head). rowCount ≡ length (rowsIn x)) is (held .size);
               few = held .few;
               room = omega (arith, held .few, held .same, fresh .long);
-              table = subst (λ (x : Head). rowsOf rowCount t ≡ logRows (x .log)) is (held .holds .front);
+              table = subst (λ (x : Head). rowsOf rowCount t ≡ logRows (wordsIn x)) is (held .holds .front);
             },
-            subst (λ (x : Head). Holds rowCount (logRows (x .log)) t₀ t) is (held .holds),
+            subst (λ (x : Head). Holds rowCount (logRows (wordsIn x)) t₀ t) is (held .holds),
           )

@@ -1,17 +1,16 @@
 -- A log whose rows are taken into a table while its words are read.
 use mathlib.Core.Path.{_≡_, refl, sym, ap, _∙_, subst}
-use mathlib.Core.Bool.{Bool, true, cond}
+use mathlib.Core.Bool.{true, cond}
 use mathlib.Core.Logic.{⊎-elim}
 use mathlib.Core.List.{List, [], _∷_, _++_, List·Memᴰ, List·Memᴰ·not-nil, List·Memᴰ·append-cases, List·Memᴰ·head, List·Memᴰ·tail}
 use Prim.Native.Nat.{ℕ, zero, suc, _+_, _-_, _*_, _≤_, _<_}
 use native.Mathlib.Nat.{not-suc-le-zero, le-of-suc-le-suc, lt-of-lt-of-le}
 use native.Mathlib.Omega.{arith}
-use lib.Dec.{leb}
-use lib.ListN.{length, getD, drop, replicate, length-replicate}
+use lib.ListN.{length, getD, drop, length-replicate}
 use borrow.Author.Tests.{le-leb, lt-leb, ltb-true}
-use Rattle.laws.specs.Every.{Every, every-last}
+use Rattle.laws.specs.Every.{Every}
 use Rattle.limits.specs.Limits.{MAX-EVENTS, MAX-LOG-EVENTS, MAX-ROWS}
-use Rattle.refusals.specs.Table.{ROWS, EVENTS}
+use Rattle.refusals.specs.Table.{ROWS}
 use Rattle.refusals.specs.Results.{refused, bind}
 use Rattle.refusals.specs.declared.Refusal.{Refusal}
 use Rattle.nets.specs.Events.{EventsBelow}
@@ -27,11 +26,10 @@ use Rattle.logs.specs.LogTable.{length-logRows, each-below}
 use Rattle.rows.specs.Growth.{length-take}
 use Rattle.logs.specs.Taking.{drop-more}
 use Rattle.rows.specs.Flat.{length-rows}
-use Rattle.bundles.specs.Reading.{got, _>>_, require, byte, each, times, following, onward}
-use Rattle.bundles.specs.Readers.{anything, wordAfter, word, rowsInLimit}
-use Rattle.bundles.specs.FieldReading.{below, byte-got}
-use Rattle.bundles.specs.ReadingLaws.{andThen-got, require-got}
-use Rattle.bundles.specs.WordReading.{mapRead, mapRead-got, mapRead-failed, rest, rest-all, rest-none, rest-more, rest-failed, eventsAt, word-limit, word-part, word-tested}
+use Rattle.bundles.specs.Reading.{got, _>>_, following, onward}
+use Rattle.bundles.specs.Readers.{wordAfter, word, rowsInLimit}
+use Rattle.bundles.specs.FieldReading.{below}
+use Rattle.bundles.specs.WordReading.{mapRead, mapRead-got, mapRead-failed, rest, rest-all, rest-none, rest-more, rest-failed, partBefore, word-got, word-tested}
 use Rattle.heads.specs.declared.LogTaken.{LogTaken}
 use Rattle.heads.specs.declared.LogTaken.the-variants as log-taken
 
@@ -78,56 +76,37 @@ reindexed t l r told i = subst (Reindexed t l) told i
 
 -- ---- a word that was read
 
--- bytes of a range are in it
-each-in : (p : ℕ → Bool) (b : List ℕ) (size : ℕ) (before : List ℕ) (at : ℕ) (ys : List ℕ) (next : ℕ) → Every (λ x. p x ≡ true) before
-    → each (λ (s : Unit {0}) items. byte p) (replicate size (tt {0})) before b at ≡ got ys next → Every (λ x. p x ≡ true) ys
-unfolding each
-each-in p b zero before at ys next v e =
-    let same : before ≡ ys = cc in
-    subst (Every (λ (x : ℕ). p x ≡ true)) same v
-each-in p b (suc size) before at ys next v e =
-    let m = andThen-got b (byte p b at) (λ x. each (λ (s : Unit {0}) items. byte p) (replicate size (tt {0})) (before ++ x ∷ [])) ys next e in
-    each-in p b size (before ++ m .0 ∷ []) (m .1) ys next (every-last (λ (x : ℕ). p x ≡ true) before (m .0) v (byte-got p b at (m .0) (m .1) (m .2) .0)) (m .3)
-
 every-below : (n c : ℕ) → n ≤ c → (w : Word) → Every (λ x. below n x ≡ true) w → EventsBelow c w
 every-below n c h [] v k l = absurd (not-suc-le-zero l)
 every-below n c h (x ∷ w) v zero l = lt-of-lt-of-le (ltb-true x n (v .0)) h
 every-below n c h (x ∷ w) v (suc k) l = every-below n c h w (v .1) k (le-of-suc-le-suc l)
-
--- the events of a word that was read are below n
-word-in : (n count : ℕ) (b : List ℕ) (at : ℕ) (w : Word) (next : ℕ) → wordAfter n count b at ≡ got w next → Every (λ x. below n x ≡ true) w
-unfolding wordAfter bind onward
-word-in n count b at w next e =
-    let m = andThen-got b (byte anything b at) (λ size. require (leb (count + size) MAX-LOG-EVENTS) EVENTS at >> times size (byte (below n))) w next e in
-    let t = require-got (leb (count + m .0) MAX-LOG-EVENTS) EVENTS at (times (m .0) (byte (below n))) b (m .1) w next (m .3) in
-    each-in (below n) b (m .0) [] (m .1) w next tt (t .1)
 
 -- the word at an offset behind so many events, where the code has read its size
 pub record WordRead (n count : ℕ) (b : List ℕ) (at k next : ℕ) : Type 0 where
   pub w : Word
   pub read : wordAfter n count b at ≡ got w next
   pub size : length w ≡ k
+  pub counted : length w ≡ getD b at 0
   pub limit : count + length w ≤ MAX-LOG-EVENTS
-  pub part : eventsAt b at ≡ w
-  pub within : at + 1 + getD b at 0 ≤ length b
+  pub part : partBefore b next k ≡ w
+  pub within : (k ≤ next) × (next ≤ length b)
   pub events : EventsBelow n w
   pub below : EventsBelow MAX-EVENTS w
 
 pub word-read : (n events : ℕ) (b : List ℕ) (at size next : ℕ) → n ≤ MAX-EVENTS → mapRead length (wordAfter n events b at) ≡ got size next → WordRead n events b at size next
-unfolding eventsAt
 word-read n events b at size next h e =
     let m = mapRead-got length (wordAfter n events b at) size next e in
-    let part = word-part n events b at (m .0) next (m .1) in
-    let all = word-in n events b at (m .0) next (m .1) in
+    let word = word-got n events b at (m .0) next (m .1) in
     record {
       w = m .0;
       read = m .1;
       size = m .2;
-      limit = word-limit n events b at (m .0) next (m .1);
-      part = sym (part .part);
-      within = omega (arith, part .end, part .within);
-      events = every-below n n (omega arith) (m .0) all;
-      below = every-below n MAX-EVENTS h (m .0) all;
+      counted = word .counted;
+      limit = word .limit;
+      part = ap (partBefore b next) (sym (m .2)) ∙ word .ends .part;
+      within = (omega (arith, m .2, word .ends .inside), word .ends .within);
+      events = every-below n n (omega arith) (m .0) (word .below);
+      below = every-below n MAX-EVENTS h (m .0) (word .below);
     }
 
 -- ---- one word more

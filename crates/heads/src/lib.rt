@@ -3,11 +3,10 @@ use bundles::Field;
 use bundles::Places;
 use bundles::PlacesRead;
 use bundles::fields::any_byte;
-use bundles::fields::byte_between;
 use bundles::net::read_places;
+use bundles::read_first;
 use bundles::words::read_word;
-use bundles::words::word_at;
-use limits::MAX_EVENTS;
+use bundles::words::word_before;
 use limits::MAX_ROWS;
 use logs::words::add_word;
 use refusals::ROWS;
@@ -22,8 +21,8 @@ ghost use Rattle.limits.specs.Limits.{MAX-EVENTS, MAX-LOG-EVENTS, MAX-ROWS};
 ghost use Rattle.nets.specs.Nets.{Log};
 ghost use Rattle.logs.specs.Answers.{TABLE};
 ghost use Rattle.rows.specs.Index.{INDEX, Index};
-ghost use Rattle.bundles.specs.Reading.{got, byte};
-ghost use Rattle.bundles.specs.FieldReading.{between};
+ghost use Rattle.bundles.specs.Reading.{got};
+ghost use Rattle.bundles.specs.Readers.{firstByte};
 ghost use Rattle.heads.specs.Taken.{Fresh, LogHeld, OneMore, AllTaken, Reindexed};
 ghost use Rattle.heads.specs.Heads.{HeadIs};
 
@@ -57,7 +56,7 @@ fn take_word(
     match read_word(bundle, at, n, events) {
         Field::Refused(refusal) => LogTaken::Refused(refusal),
         Field::Value(size, next) => {
-            let word = word_at(bundle, at);
+            let word = word_before(bundle, next, size);
             let more = add_word(table, rows, word, index, numbers);
             if MAX_ROWS < more {
                 return LogTaken::Refused(Refusal {
@@ -119,7 +118,7 @@ pub enum HeadTaken {
 
 // A head from its word count on, behind n.
 fn take_after(bundle: &[u8], at: usize, n: usize, table: &mut [u16]) -> HeadTaken
-    requires { ⌜ (byte (between 1 MAX-EVENTS) (now bundle) 0 ≡ got n at) × Fresh (now table) ⌝ }
+    requires { ⌜ (firstByte (now bundle) 0 ≡ got n at) × Fresh (now table) ⌝ }
     ensures { λ r. ⌜ HeadIs (now (bundle .entry)) (now (table .entry)) (now (table .exit)) r ⌝ }
 {
     match any_byte(bundle, at) {
@@ -139,7 +138,7 @@ pub fn take_head(bundle: &[u8], table: &mut [u16]) -> HeadTaken
     requires { ⌜ Fresh (now table) ⌝ }
     ensures { λ r. ⌜ HeadIs (now (bundle .entry)) (now (table .entry)) (now (table .exit)) r ⌝ }
 {
-    match byte_between(bundle, 0, 1, MAX_EVENTS) {
+    match read_first(bundle) {
         Field::Refused(refusal) => HeadTaken::Refused(refusal),
         Field::Value(n, at) => take_after(bundle, at, n, table),
     }

@@ -22,7 +22,7 @@ use Rattle.logs.specs.Log.{logRows}
 use Rattle.rows.specs.Flat.{holds-with}
 use Rattle.logs.specs.Taking.{drop-more}
 use Rattle.bundles.specs.Reading.{Read, got, item, Reader, andThen, _>>=_, _>>_, give, require, each, onward}
-use Rattle.bundles.specs.Layout.{CertificateFields, Head, Contents, wrongIn, fitsIn, toNet, toBundle}
+use Rattle.bundles.specs.Layout.{CertificateFields, Head, Contents, wrongIn, fitsIn, toNet, toBundle, wordsIn}
 use Rattle.bundles.specs.Readers.{head, rowsInLimit, bundleSize, headOf, logIn, netIn}
 use Rattle.bundles.specs.ReadingLaws.{andThen-got, require-got}
 use Rattle.bundles.specs.HeadReading.{net-size}
@@ -47,7 +47,7 @@ endedAs b (certified.Refused r) = verdicts.Refused r
 
 -- the table before the last step: the log's rows where the bundle is accepted; else no number from 3,584 on is changed
 abbrev pub TableLeft : Read Contents → List ℕ → List ℕ → Type 0
-TableLeft (value (item c next)) t₀ t = t ≡ withRows (logRows (c .head .log)) t₀
+TableLeft (value (item c next)) t₀ t = t ≡ withRows (logRows (wordsIn (c .head))) t₀
 TableLeft (refused number spot) t₀ t = drop TABLE t ≡ drop TABLE t₀
 
 -- ---- the places
@@ -108,7 +108,7 @@ module _ (b : List ℕ) where
   table-left {next} e {t₀} {t} {k} holds few room = rw (judging-got e) (go (afterwards (headOf b) b next) (same-head (headOf b) next))
     where
       go : (m : Read Contents) → ((c : Contents) (end : ℕ) → m ≡ got c end → c .head ≡ headOf b) → TableLeft m t₀ t
-      go (value (item c end)) same = holds-with k (logRows (logIn b)) t₀ t holds room ∙ ap (λ (d : Head). withRows (logRows (d .log)) t₀) (sym (same c end refl))
+      go (value (item c end)) same = holds-with k (logRows (logIn b)) t₀ t holds room ∙ ap (λ (d : Head). withRows (logRows (wordsIn d)) t₀) (sym (same c end refl))
       go (refused number spot) same = drop-more (ROW * k) TABLE t t₀ (omega (arith, few)) (holds .rest)
 
   pub table-refused : {number spot : ℕ} → head rowsInLimit b 0 ≡ refused number spot → (t₀ t : List ℕ) → drop TABLE t ≡ drop TABLE t₀ → TableLeft (judging b 0) t₀ t

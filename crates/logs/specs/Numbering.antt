@@ -1,8 +1,8 @@
 -- The row of each prefix of a word is known before anything is written: none of them finds a row that the same word appends.
-use mathlib.Core.Path.{_≡_, refl, sym, ap, ap₂, _∙_}
+use mathlib.Core.Path.{_≡_, refl, sym, ap, ap₂, _∙_, subst}
 use mathlib.Core.Logic.{_⊎_, inl, inr, ⊎-elim}
 use mathlib.Core.Bool.{false, not}
-use mathlib.Core.List.{List, [], _∷_, _++_}
+use mathlib.Core.List.{List, [], _∷_, _++_, append-nil, append-assoc}
 use Prim.Native.Nat.{ℕ, _+_, _<_, _≤_, zero-le, suc-le-suc}
 use native.Mathlib.Nat.{le-refl}
 use native.Mathlib.Numerals.{add-one}
@@ -15,9 +15,11 @@ use Rattle.laws.specs.Lists.{equal}
 use Rattle.laws.specs.Scans.{failing-most, failing-found, failing-past}
 use Rattle.limits.specs.Limits.{MAX-EVENTS}
 use Rattle.nets.specs.Events.{EventsBelow}
-use Rattle.nets.specs.Nets.{Counts, Word}
-use Rattle.rows.specs.Rows.{Row, findRow, newRow, visit, follow, addEvent, absent, rowOr, numbered}
-use Rattle.rows.specs.Visiting.{countsOf, length-same, find-same, visit-cases, length-visit, counts-follow, length-follow}
+use Rattle.nets.specs.Nets.{Counts, Word, counts}
+use Rattle.nets.specs.CountLaws.{counts-snoc}
+use Rattle.rows.specs.Rows.{Row, findRow, newRow, visit, follow, addEvent, takeWord, none, absent, rowOr, numbered}
+use Rattle.rows.specs.Visiting.{countsOf, length-same, find-same, visit-cases, length-visit, find-visit, counts-follow, length-follow}
+use Rattle.logs.specs.LogRows.{counts-none}
 use Rattle.rows.specs.Growth.{total, total-addEvent, differ, below-tail, length-addEvent}
 
 -- the rows that taking a word uses, from the prefix with counts v on
@@ -29,6 +31,33 @@ pub used-first : (rs : List Row) (v : Counts) (w : Word) → getD (used rs v w) 
 unfolding used
 used-first rs v [] = refl
 used-first rs v (e ∷ w) = refl
+
+-- the counts of a word with an event more
+counts-more : (u : Word) (e : ℕ) → e < MAX-EVENTS → counts MAX-EVENTS (u ++ e ∷ []) ≡ addEvent (counts MAX-EVENTS u) e
+unfolding addEvent
+counts-more u e h = counts-snoc MAX-EVENTS u e h
+
+-- the last of them is the row of the whole word
+used-last : (rs : List Row) (u w : Word) → EventsBelow MAX-EVENTS w
+    → getD (used rs (counts MAX-EVENTS u) w) (length w) 0 ≡ findRow (counts MAX-EVENTS (u ++ w)) (takeWord rs (counts MAX-EVENTS u) w)
+unfolding used takeWord
+used-last rs u [] below = rw append-nil (sym (find-visit (counts MAX-EVENTS u) rs))
+used-last rs u (e ∷ w) below =
+    let v = counts MAX-EVENTS u in
+    let next = follow v e (visit v rs) in
+    subst (λ (c : Counts). getD (used next c w) (length w) 0 ≡ findRow (counts MAX-EVENTS (u ++ e ∷ w)) (takeWord next c w))
+    (counts-more u e (below 0 (suc-le-suc zero-le)))
+    (used-last next (u ++ e ∷ []) w (below-tail MAX-EVENTS e w below)
+    ∙ ap (λ (x : Word). findRow (counts MAX-EVENTS x) (takeWord next (counts MAX-EVENTS (u ++ e ∷ [])) w)) (append-assoc u (e ∷ []) w))
+
+-- the row of a whole word, once it is taken
+unfoldable pub wholeRow : List Row → Word → ℕ
+wholeRow rs w = findRow (counts MAX-EVENTS w) (takeWord rs none w)
+
+pub used-whole : (rs : List Row) (w : Word) → EventsBelow MAX-EVENTS w → getD (used rs none w) (length w) 0 ≡ wholeRow rs w
+unfolding wholeRow
+used-whole rs w below =
+    subst (λ (c : Counts). getD (used rs c w) (length w) 0 ≡ findRow (counts MAX-EVENTS w) (takeWord rs c w)) (sym counts-none) (used-last rs [] w below)
 
 -- a loop over the prefixes of w, at the prefix of i events, whose counts are v and rows rs; v′ and rs′ are the next prefix's
 pub use-again : (rs : List Row) (v v′ w : List ℕ) (i : ℕ) (ns : List ℕ) (rs′ : List Row) → drop i ns ≡ used rs v (drop i w) → i < length w

@@ -15,7 +15,7 @@ ghost use Prim.Native.Nat.{_+_, _*_, _<_, _≤_};
 ghost use lib.ListN.{length, getD, set, take};
 ghost use Rattle.limits.specs.Limits.{MAX-EVENTS, MAX-ROWS};
 ghost use Rattle.rows.specs.Rows.{ROW, addEvent, findRow, rowsOf, visit, follow, absent, rowOr, newRows, numbered, takeWord, none, Holds, Added};
-ghost use Rattle.logs.specs.Numbering.{used};
+ghost use Rattle.logs.specs.Numbering.{used, wholeRow};
 ghost use Rattle.rows.specs.Index.{key as keyOf, Index};
 ghost use Rattle.logs.specs.Takable.{Takable};
 
@@ -125,7 +125,7 @@ fn write_word(table: &mut [u16], rows: usize, word: &[u8], numbers: &[u16]) -> u
 }
 
 // Takes a word if there is room for its rows. Returns how many rows there are with them; if they are too many, the table is as it was. `numbers`
-// is for the rows of its prefixes. (Inner function.)
+// is for the rows of its prefixes, that of the whole word behind the others. (Inner function.)
 pub fn add_word(
     table: &mut [u16],
     rows: usize,
@@ -137,6 +137,7 @@ pub fn add_word(
     requires { ⌜ Index rows (now table) (now index) ⌝ }
     requires { ⌜ length (now word) < length (now numbers) ⌝ }
     ensures { λ r. ⌜ Added MAX-ROWS rows (now (word .entry)) (now (table .entry)) (now (table .exit)) r ⌝ }
+    ensures { λ r. ⌜ (r ≤ MAX-ROWS → getD (now (numbers .exit)) (length (now (word .entry))) 0 ≡ wholeRow (rowsOf rows (now (table .entry))) (now (word .entry))) ⌝ }
 {
     let more = number_rows(table, rows, word, index, numbers);
     if MAX_ROWS < more {

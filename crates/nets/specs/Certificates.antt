@@ -9,7 +9,7 @@ use lib.Dec.{T, leb→le, T-not}
 use lib.ListN.{length}
 use lib.Ieee.Fits.{and-l, and-r}
 use Rattle.laws.specs.Lists.{all-member, all-intro, keep, tabulate, tabulate-member}
-use Rattle.nets.specs.Nets.{Log, Net, Place, Step, Term, Weights, Certificate, byPlace, byWeights, weighed, placePermits, netPermits, allowed, refusedBy, weighsBefore, weighsAfter, weightsHold, solves, solvesAll, isByPlace}
+use Rattle.nets.specs.Nets.{Log, Net, Place, Step, Term, Weights, Certificate, byPlace, byWeights, weightOf, weighed, placePermits, netPermits, allowed, refusedBy, weighsBefore, weighsAfter, weightsHold, solves, solvesAll, isByPlace}
 use Rattle.nets.specs.Fits.{Fits}
 use Rattle.nets.specs.Weights.{Weighs, weighed-permits}
 
@@ -22,7 +22,7 @@ module _ (n : ℕ) (log : Log) (s : Step) (w : Weights) (h : T (weightsHold n lo
   unfolding weightsHold weighsBefore weighsAfter
   weighs = record {
     positive = leb→le 1 (w .k) (search (and-l, and-r));
-    total = leb→le (weighed (λ t. 1) (w .terms)) (w .k) (search (and-l, and-r));
+    total = leb→le (weighed weightOf (λ t. 1) (w .terms)) (w .k) (search (and-l, and-r));
     before = λ i b. leb→le _ _ (all-member (weighsBefore n s w) (tabulate n (λ j. j)) (search (and-l, and-r)) (tabulate-member n (λ j. j) i b));
     after = λ i b. leb→le _ _ (all-member (weighsAfter n s w) (tabulate n (λ j. j)) (search (and-l, and-r)) (tabulate-member n (λ j. j) i b));
   }

@@ -6,12 +6,13 @@ use mathlib.Core.List.{List, [], _∷_, _++_, List·Memᴰ, Memᴰ·cast}
 use Prim.Native.Nat.{ℕ, _<_}
 use lib.Dec.{T, T-not, not-T}
 use lib.ListN.{length}
-use lib.Ieee.Fits.{and-i, and-l, and-r}
+use lib.Ieee.Fits.{and-i, and-r}
 use Rattle.laws.specs.Lists.{all-intro, keep, keep-in}
 use Rattle.laws.specs.Booleans.{decide, same-test}
 use Rattle.laws.specs.Distinct.{distinct-same-length, distinct-keep}
 use Rattle.nets.specs.Nets.{Word, Log, Net, Step, Counts, Certificate, byPlace, byWeights, Bundle, stepAfter, placePermits, netPermits, permits, permitted, stoppedAt, screen, rows, allowed, continuations, allowedSteps, wrongContinuations, solves, solvesAll, accepted, isByPlace, tally}
-use Rattle.nets.specs.Words.{PermitsLog, →permitsLog, Prefix, word-prefix, permits-snoc, permits-prefix, permits-allowed, allowed-more}
+use Rattle.nets.specs.Acceptance.{accepted-parts}
+use Rattle.nets.specs.Words.{PermitsLog, EveryNetPermits, →permitsLog, Prefix, word-prefix, permits-snoc, permits-prefix, permits-allowed, allowed-more}
 use Rattle.nets.specs.Rows.{row→, →row, rows-distinct, continuation→, →continuation, allowedStep→, →allowedStep, allowedSteps-distinct, wrong→, →wrong, wrong-distinct}
 use Rattle.nets.specs.Screening.{screen-snoc}
 use Rattle.nets.specs.Fits.{net-fits}
@@ -20,6 +21,14 @@ use Rattle.nets.specs.Certificates.{weights-permit, refused→, kinds, c
 -- each prefix of the first log is one of the second
 abbrev pub PrefixesIn : Log → Log → Type 0
 PrefixesIn log₁ log₂ = (u : Word) → Prefix log₁ u → Prefix log₂ u
+
+-- the premise of the comparison: two logs over as many events, each prefix of the first one of the second
+pub record Contained (n₁ : ℕ) (log₁ : Log) (n₂ : ℕ) (log₂ : Log) : Type 0 where
+  pub events : n₁ ≡ n₂
+  pub prefixes : PrefixesIn log₁ log₂
+
+pub contained-same : (n : ℕ) (log : Log) → Contained n log n log
+contained-same n log = record { events = refl; prefixes = λ u m. m }
 
 -- ---- one accepted bundle
 
@@ -135,16 +144,21 @@ module _ (n : ℕ) (a b : Judged n) (to : PrefixesIn (a .log) (b .log)) (from : 
 -- ---- the comparison, for bundles
 
 unfoldable pub judged : (b : Bundle) (n : ℕ) → n ≡ b .events → T (accepted b) → Judged n
-unfolding accepted
 judged b n q t = record {
   log = b .log;
   net = b .net;
   certificates = b .certificates;
-  permitted = rw q (search and-l);
-  solved = rw q (search and-r);
+  permitted = rw q (accepted-parts b .0 t .permitted);
+  solved = rw q (accepted-parts b .0 t .solved);
 }
 
-module _ (b₁ b₂ : Bundle) (acc₁ : T (accepted b₁)) (acc₂ : T (accepted b₂)) (same-events : b₁ .events ≡ b₂ .events) (to : PrefixesIn (b₁ .log) (b₂ .log)) where
+module _ (b₁ b₂ : Bundle) (acc₁ : T (accepted b₁)) (acc₂ : T (accepted b₂)) (in-second : Contained (b₁ .events) (b₁ .log) (b₂ .events) (b₂ .log)) where
+  same-events : b₁ .events ≡ b₂ .events
+  same-events = in-second .events
+
+  to : PrefixesIn (b₁ .log) (b₂ .log)
+  to = in-second .prefixes
+
   first : Judged (b₁ .events)
   first = judged b₁ (b₁ .events) refl acc₁
 
@@ -154,7 +168,7 @@ module _ (b₁ b₂ : Bundle) (acc₁ : T (accepted b₁)) (acc₂ : T (accepted
   -- a prefix of the first log with one event more
   module _ (w : Word) (pre : Prefix (b₁ .log) w) (e : ℕ) (below : e < b₁ .events) where
     -- the first net permits it exactly when every net that permits the first log does
-    pub first-exactly : T (permits (b₁ .events) (b₁ .net) (w ++ e ∷ [])) ↔ ((net : Net) → PermitsLog (b₁ .events) net (b₁ .log) → T (permits (b₁ .events) net (w ++ e ∷ [])))
+    pub first-exactly : T (permits (b₁ .events) (b₁ .net) (w ++ e ∷ [])) ↔ EveryNetPermits (b₁ .events) (b₁ .log) (w ++ e ∷ [])
     unfolding first judged
     first-exactly = (word-permitted (b₁ .events) first w pre e below, λ f. f (b₁ .net) (first .permitted))
 
@@ -164,9 +178,9 @@ module _ (b₁ b₂ : Bundle) (acc₁ : T (accepted b₁)) (acc₂ : T (accepted
     second-permits t = rw (← same-events) (permits-more (b₁ .events) first second to w pre e below t)
 
     -- where the logs have the same prefixes, both nets permit and refuse the same
-    pub nets-agree : PrefixesIn (b₂ .log) (b₁ .log) → permits (b₁ .events) (b₁ .net) (w ++ e ∷ []) ≡ permits (b₂ .events) (b₂ .net) (w ++ e ∷ [])
+    pub nets-agree : Contained (b₂ .events) (b₂ .log) (b₁ .events) (b₁ .log) → permits (b₁ .events) (b₁ .net) (w ++ e ∷ []) ≡ permits (b₂ .events) (b₂ .net) (w ++ e ∷ [])
     unfolding first second judged
-    nets-agree from = rw (← same-events) (permits-same (b₁ .events) first second to from w pre e below)
+    nets-agree back = rw (← same-events) (permits-same (b₁ .events) first second to (back .prefixes) w pre e below)
 
     -- screening answers permitted exactly when the net permits, and otherwise stops at the added event
     pub first-screened : screen (b₁ .events) (b₁ .net) (w ++ e ∷ [])
@@ -180,9 +194,9 @@ module _ (b₁ b₂ : Bundle) (acc₁ : T (accepted b₁)) (acc₂ : T (accepted
     second-screened = rw (← same-events) (screen-snoc (b₁ .events) (b₂ .net) w e (permits-prefix (b₁ .events) (b₂ .net) (b₂ .log) (second .permitted) w (to w pre)))
 
   -- where the logs have the same prefixes, the four counts are equal
-  pub tallies-agree : PrefixesIn (b₂ .log) (b₁ .log) → tally b₁ ≡ tally b₂
+  pub tallies-agree : Contained (b₂ .events) (b₂ .log) (b₁ .events) (b₁ .log) → tally b₁ ≡ tally b₂
   unfolding tally first second judged
-  tallies-agree from = rw (← same-events) (λ i. record {
+  tallies-agree back = let from = back .prefixes in rw (← same-events) (λ i. record {
     rowCount = rows-same (b₁ .events) first second to from i;
     allowedCount = steps-same (b₁ .events) first second to from i;
     byPlaceCount = kinds-same (b₁ .events) first second to from (λ x. x) i;

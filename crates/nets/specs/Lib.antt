@@ -10,6 +10,7 @@ pub mod Screening
 pub mod Shortfall
 pub mod Joining
 pub mod Scaling
+pub mod Acceptance
 pub mod Comparison
 pub mod CountLaws
 pub mod Events

@@ -107,10 +107,14 @@ emptyWords log = length (keep (λ w. equal w []) log)
 abbrev pub at : Counts → ℕ → ℕ
 at v i = getD v i 0
 
--- the sum of g × h(u, f) over the terms
-unfoldable pub weighed : (Step → ℕ) → List Term → ℕ
-weighed h [] = 0
-weighed h (t ∷ ts) = t .weight * h (t .step) + weighed h ts
+-- the sum of g(x) × h(x) over the members of a list
+unfoldable pub weighed : {A : Type 0} → (A → ℕ) → (A → ℕ) → List A → ℕ
+weighed g h [] = 0
+weighed g h (x ∷ xs) = g x * h x + weighed g h xs
+
+-- the weight g of a term
+abbrev pub weightOf : Term → ℕ
+weightOf t = t .weight
 
 -- ---- Prefixes
 
@@ -223,18 +227,19 @@ module _ (n : ℕ) where
 
   -- the second inequality at event i: the sum of g × u(i) is at most k × v(i)
   unfoldable pub weighsBefore : Step → Weights → ℕ → Bool
-  weighsBefore s w i = leb (weighed (λ t. at (t .row) i) (w .terms)) (w .k * at (s .row) i)
+  weighsBefore s w i = leb (weighed weightOf (λ t. at (t .step .row) i) (w .terms)) (w .k * at (s .row) i)
 
   -- the third: the sum of g × (u(i) + [f = i]) is at least k × (v(i) + [e = i])
   unfoldable pub weighsAfter : Step → Weights → ℕ → Bool
-  weighsAfter s w i = leb (w .k * (at (s .row) i + same (s .event) i)) (weighed (λ t. at (t .row) i + same (t .event) i) (w .terms))
+  weighsAfter s w i =
+      leb (w .k * (at (s .row) i + same (s .event) i)) (weighed weightOf (λ t. at (t .step .row) i + same (t .step .event) i) (w .terms))
 
   -- a kind 1 certificate holds: k is at least 1, the terms' steps are allowed, the sum of g is at most k, and the other two at each event
   unfoldable pub weightsHold : Log → Step → Weights → Bool
   weightsHold log s w =
       leb 1 (w .k)
       && all (λ t. allowed log (t .step)) (w .terms)
-      && leb (weighed (λ t. 1) (w .terms)) (w .k)
+      && leb (weighed weightOf (λ t. 1) (w .terms)) (w .k)
       && all (weighsBefore s w) (tabulate n (λ i. i))
       && all (weighsAfter s w) (tabulate n (λ i. i))
 

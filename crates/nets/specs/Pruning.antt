@@ -12,7 +12,8 @@ use Rattle.laws.specs.Lists.{any, all-member, all-intro, any-intro}
 use Rattle.laws.specs.Ranks.{keepAt, rank, keepAt-member}
 use Rattle.nets.specs.Nets.{Word, Log, Net, Place, Step, Certificate, byPlace, byWeights, Bundle, stepAfter, placePermits, netPermits, permitsAfter, permits, permitsLog, refusedBy, solves, solvesAll, wrongContinuations, accepted, tally}
 use Rattle.nets.specs.Words.{Prefix, PermitsLog, permits-word, →permitsLog}
-use Rattle.nets.specs.Comparison.{nets-agree, tallies-agree}
+use Rattle.nets.specs.Acceptance.{accepted-parts}
+use Rattle.nets.specs.Comparison.{contained-same, nets-agree, tallies-agree}
 
 -- ---- the definition
 
@@ -120,26 +121,24 @@ module _ (b : Bundle) where
 
   -- accepted, it is accepted without its idle places
   pub prune-accepted : T (accepted b) → T (accepted (prune b))
-  unfolding accepted prune
+  unfolding prune
   prune-accepted t =
-      let permitted = permitsLog (b .events) (b .net) (b .log) in
-      let solved = solvesAll (b .events) (b .log) (b .net) (wrongContinuations (b .events) (b .log)) (b .certificates) in
-      and-i
-      (permitsLog (b .events) (keepAt f (b .net)) (b .log))
-      (solvesAll (b .events) (b .log) (keepAt f (b .net)) (wrongContinuations (b .events) (b .log)) (map (renumbered f) (b .certificates)))
-      (fewer-log (b .events) (b .net) (keepAt f (b .net)) (λ p m. keepAt-member f (b .net) m) (b .log) (and-l permitted solved t))
-      (subst T (sym (solvesAll-kept (b .events) (b .log) f (b .net) (wrongContinuations (b .events) (b .log)) (b .certificates) all-kept)) (and-r permitted solved t))
+      let a = accepted-parts b .0 t in
+      accepted-parts (prune b) .1 (record {
+        permitted = fewer-log (b .events) (b .net) (keepAt f (b .net)) (λ p m. keepAt-member f (b .net) m) (b .log) (a .permitted);
+        solved = subst T (sym (solvesAll-kept (b .events) (b .log) f (b .net) (wrongContinuations (b .events) (b .log)) (b .certificates) all-kept)) (a .solved);
+      })
 
   -- with the same four counts
   pub prune-tally : T (accepted b) → tally (prune b) ≡ tally b
   unfolding prune
-  prune-tally t = sym (tallies-agree b (prune b) t (prune-accepted t) refl (λ u m. m) (λ u m. m))
+  prune-tally t = sym (tallies-agree b (prune b) t (prune-accepted t) (contained-same (b .events) (b .log)) (contained-same (b .events) (b .log)))
 
   -- every log prefix with one event added gets the same yes or no
   pub prune-permits : T (accepted b) → (w : Word) → Prefix (b .log) w → (e : ℕ) → e < b .events
       → permits (b .events) (prune b .net) (w ++ e ∷ []) ≡ permits (b .events) (b .net) (w ++ e ∷ [])
   unfolding prune
-  prune-permits t w m e below = sym (nets-agree b (prune b) t (prune-accepted t) refl (λ u m. m) w m e below (λ u m. m))
+  prune-permits t w m e below = sym (nets-agree b (prune b) t (prune-accepted t) (contained-same (b .events) (b .log)) w m e below (contained-same (b .events) (b .log)))
 
   -- any word that was permitted still is
   pub prune-more : (w : Word) → T (permits (b .events) (b .net) w) → T (permits (b .events) (prune b .net) w)

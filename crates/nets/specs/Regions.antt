@@ -11,7 +11,7 @@ use Rattle.laws.specs.Differences.{difference, nonNeg-le, sumℤ, sumℤ-same, 
 use Rattle.laws.specs.Every.{each-shorter, each-last}
 use Rattle.laws.specs.Lists.{all-member, all-intro}
 use Rattle.nets.specs.Nets.{Word, Log, Counts, Place, Net, Step, at, same, counts, stepAfter, surplus, placePermits, permits, allowed, allowedSteps, fits}
-use Rattle.nets.specs.Words.{Prefix, empty-prefix, word-prefix, prefix-shorter, PermitsLog, →permitsLog, permits-prefix, allowed→, →allowed}
+use Rattle.nets.specs.Words.{Prefix, empty-prefix, word-prefix, prefix-shorter, PermitsLog, EveryNetPermits, →permitsLog, permits-prefix, allowed→, →allowed}
 use Rattle.nets.specs.Rows.{allowedStep→}
 use Rattle.nets.specs.Fits.{Below, below-empty, below-shorter, below-snoc, LogBelow, prefix-below, Fits, allowed-listed}
 use Rattle.nets.specs.Surplus.{given, surplus-is}
@@ -180,10 +180,6 @@ module _ (n : ℕ) (log : Log) where
     λ t. let f = allowed→ n log s t in (f .0, prefix-shorter log (f .0) (s .event ∷ []) (f .2), f .1, f .2),
   )
 
-  -- every net that permits the log permits the word: every finite list of places
-  abbrev pub EveryNetPermits : Word → Type 0
-  EveryNetPermits w = (net : Net) → PermitsLog n net log → T (permits n net w)
-
   module _ (below : LogBelow n log) where
     closed : PrefixClosed n (Prefix log)
     closed = prefixes-closed n log below
@@ -217,7 +213,7 @@ module _ (n : ℕ) (log : Log) where
     log-regions net = Iff·trans (log-language net) (equation-4 n (Prefix log) closed (placesOf net))
 
     -- L(N(L)) has the words that every net permits which permits the log
-    pub every-net : (w : Word) → Below n w → languageOf n (Region n (Prefix log)) w ↔ EveryNetPermits w
+    pub every-net : (w : Word) → Below n w → languageOf n (Region n (Prefix log)) w ↔ EveryNetPermits n log w
     every-net w ok = (
       (λ h net k. language-permits n net w ok .0 (synthesized-least n (Prefix log) closed (placesOf net) (log-language net .0 k) w h)),
       λ h. language-places n (Region n (Prefix log)) w .1 (ok, λ p r. language-permits n (p ∷ []) w ok .1 (h (p ∷ []) (one p r))),

@@ -11,13 +11,13 @@ use lib.IntN.{pos}
 use lib.Signed.{ltZ, _≤ℤ_, _<ℤ_, ltZ-yes, ltZ-no, clashℤ}
 use Rattle.laws.specs.Booleans.{decide}
 use Rattle.nets.specs.Nets.{Word, Log, Net, Place, Step, Certificate, byPlace, byWeights, Bundle, counts, stepAfter, placePermits, permits, allowed, wrongContinuations, solves, accepted}
-use Rattle.nets.specs.Words.{Prefix}
+use Rattle.nets.specs.Words.{Prefix, EveryNetPermits}
 use Rattle.nets.specs.Rows.{row→, →row, continuation→, →continuation, wrong→, →wrong}
 use Rattle.nets.specs.Fits.{Below, LogBelow, below-snoc, prefix-below}
 use Rattle.nets.specs.Certificates.{weights-permit, refusing, certificate-for}
 use Rattle.nets.specs.Comparison.{Judged, judged}
 use Rattle.nets.specs.TokenGame.{Places, placesOf, Language, languageOf, language-permits}
-use Rattle.nets.specs.Regions.{_⊆_, PrefixClosed, prefixes-closed, product, product-permits, language-product, Constraint, Region, constraint-allowed, language-fewer, synthesized-contains, region-permits, log-regions, EveryNetPermits, every-net}
+use Rattle.nets.specs.Regions.{_⊆_, PrefixClosed, prefixes-closed, product, product-permits, language-product, Constraint, Region, constraint-allowed, language-fewer, synthesized-contains, region-permits, log-regions, every-net}
 
 -- a place witnesses the separation problem ⟨v, e⟩, or solves it; if v = Ψ(w) for a word w that it permits, it inhibits e after reading w
 abbrev pub Witnesses : ℕ → Place → Step → Type 0

@@ -84,6 +84,10 @@ prefix-shorter log u s m = ⊎-elim (nil u) longer (prefix→ log (u ++ s) m)
 abbrev pub PermitsLog : ℕ → Net → Log → Type 0
 PermitsLog n net log = T (permitsLog n net log)
 
+-- every net that permits the log permits the word: every finite list of places, with numbers of any size
+abbrev pub EveryNetPermits : ℕ → Log → Word → Type 0
+EveryNetPermits n log w = (net : Net) → PermitsLog n net log → T (permits n net w)
+
 module _ (n : ℕ) (net : Net) (log : Log) where
   pub permits-word : PermitsLog n net log → (w : Word) → List·Memᴰ w log → T (permits n net w)
   unfolding permitsLog

@@ -17,7 +17,7 @@ use Rattle.nets.specs.Nets as nets
 use Rattle.nets.specs.Events.{firstBad}
 use Rattle.bundles.specs.Layout.{Head, toNet}
 use Rattle.bundles.specs.Readers.{readHead}
-use Rattle.bundles.specs.ReadHead.{read-head-of, read-is, read-few}
+use Rattle.bundles.specs.HeadReading.{read-head-of, read-is, read-few}
 use Rattle.screening.specs.Screening.{wordOn, screening, screenedOf, screened}
 use Rattle.screen.specs.Events.{capped}
 

@@ -6,7 +6,7 @@ use mathlib.Core.List.{List, [], _∷_, _++_}
 use Prim.Native.Nat.{ℕ}
 use native.Mathlib.Omega.{arith}
 use lib.Dec.{leb, ltb}
-use lib.ListN.{length, drop}
+use lib.ListN.{length}
 use Rattle.laws.specs.Booleans.{impossible, no-false}
 use Rattle.laws.specs.Lists.{all, any, among, not-among, among-all}
 use Rattle.laws.specs.Numbers.{Bytes}
@@ -19,19 +19,11 @@ use Rattle.refusals.specs.declared.Refusal.{Refusal}
 use Rattle.nets.specs.Nets as nets
 use Rattle.nets.specs.Nets.{Word, Net, permitted, stopped, screen}
 use Rattle.nets.specs.Events.{firstBad}
-use Rattle.bundles.specs.Layout.{Head, HeadInLimits, headBytes, toNet}
+use Rattle.bundles.specs.Layout.{Head, toNet, HeadInFront}
 use Rattle.bundles.specs.Readers.{anyRows, head, readHead}
-use Rattle.bundles.specs.ReadingLaws.{part-front}
-use Rattle.bundles.specs.LayoutLaws.{law-head}
-use Rattle.bundles.specs.Limits.{head→limits, limits→head}
-use Rattle.bundles.specs.ReadHead.{head-refuses, head-4, head-field, read→, →read}
+use Rattle.bundles.specs.HeadReading.{head-refuses, head-4, head-field, read→front, front→read}
 use Rattle.screening.specs.Screening.{wordOn, screening, replayed, screenedOf, screened}
 use Rattle.screening.specs.declared.Screened.the-variants as answers
-
--- the bundle begins with the head h, in its limits, and `rest` follows
-pub record HeadInFront (b : List ℕ) (h : Head) (rest : List ℕ) : Type 0 where
-  pub layout : b ≡ headBytes h ++ rest
-  pub limits : HeadInLimits h
 
 -- the answer refuses where the chain does
 pub refused-exactly : {m : Result nets.Answer} {number : ℕ} {C : ℕ → Type 0} → Exactly m number C
@@ -103,16 +95,8 @@ module _ (b : List ℕ) (w : Word) where
         × ((h : Head) × (rest : List ℕ) × HeadInFront b h rest × (spot ≡ firstBad (h .events) w) × (all (λ e. ltb e (h .events)) w ≡ false)))
     unfolding any
     exactly-15 = exactly-same (exactly-behind (head-refuses b) refl (λ h. word-15 w (h .events) (toNet h))) (λ spot. (
-      (λ (h, is, (at, fails)).
-          let (right, (next, read)) = read→ b h is in
-          let s = law-head b bytes anyRows .sound 0 h next read in
-          (right, (h, drop next b, record { layout = s .1 .bytes; limits = head→limits anyRows (λ n. tt) (λ n log more t. tt) h (s .0) .0 }, at, fails))),
-      (λ (right, (h, rest, f, at, fails)). (
-        h,
-        →read b h (length (headBytes h)) right (law-head b bytes anyRows .complete 0 h (length (headBytes h))
-            (limits→head anyRows (λ n. tt) (λ n log more t. tt) h (f .limits) tt) (part-front b (headBytes h) rest (f .layout))),
-        (at, fails),
-      )),
+      (λ (h, is, (at, fails)). let (right, (rest, front)) = read→front b bytes h is in (right, (h, rest, front, at, fails))),
+      (λ (right, (h, rest, front, at, fails)). (h, front→read b bytes h rest right front, (at, fails))),
     ))
 
     pub screen-15 : (spot : ℕ) → (screened b w ≡ answers.Refused (refusal WORD-EVENT spot))

@@ -19,7 +19,7 @@ use Rattle.nets.specs.Nets.{Word, join, screen}
 use Rattle.nets.specs.Events.{firstBad}
 use Rattle.bundles.specs.Layout.{Head, toNet}
 use Rattle.bundles.specs.Readers.{readHead, headOf, eventsIn}
-use Rattle.bundles.specs.ReadHead.{HeadIsRead, HEAD-NUMBERS, head-refuses, read-head-of, read-is}
+use Rattle.bundles.specs.HeadReading.{HeadIsRead, HEAD-NUMBERS, head-refuses, read-head-of, read-is}
 use Rattle.screening.specs.Screening.{wordOn, joining, screened, screenedJoined}
 use Rattle.screening.specs.Causes.{refused-exactly, word-refuses, word-15}
 use Rattle.screening.specs.Joins.{empty-word}

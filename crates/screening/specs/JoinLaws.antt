@@ -15,7 +15,7 @@ use Rattle.nets.specs.Shortfall.{refused-there}
 use Rattle.nets.specs.Joining.{permits-join, join-grouped, screen-itself, stops-first, stops-second}
 use Rattle.bundles.specs.Layout.{Head}
 use Rattle.bundles.specs.Readers.{readHead, eventsIn, netIn}
-use Rattle.bundles.specs.ReadHead.{HeadIsRead, read-is, read-few}
+use Rattle.bundles.specs.HeadReading.{HeadIsRead, read-is, read-few}
 use Rattle.screening.specs.Screening.{screening, joining, replayed, screened, screenedJoined}
 use Rattle.screening.specs.Screens.{Readable, readable-read, screened-replayed, replay-stops, replayed-stopped}
 use Rattle.screening.specs.Joins.{JoinReadable, answerOn, screened-on, joined-on, answer-replayed, permitted-on, answer-same, readable-on, joined→}

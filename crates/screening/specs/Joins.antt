@@ -19,7 +19,7 @@ use Rattle.nets.specs.Nets.{Word, Net, join, permits, screen, permitted}
 use Rattle.nets.specs.Events.{firstBad}
 use Rattle.bundles.specs.Layout.{Head, toNet}
 use Rattle.bundles.specs.Readers.{readHead, eventsIn, netIn}
-use Rattle.bundles.specs.ReadHead.{HeadIsRead, read-head-of, read-is}
+use Rattle.bundles.specs.HeadReading.{HeadIsRead, read-head-of, read-is}
 use Rattle.screening.specs.Screening.{wordOn, screening, joining, replayed, screenedOf, screened, screenedJoined}
 use Rattle.screening.specs.Screens.{Readable, replayed-never, replay-permits}
 use Rattle.screening.specs.declared.Screened.{Screened}

@@ -12,7 +12,7 @@ use Rattle.refusals.specs.Results.{Result, value, refused, Refuses, refuses-tes
 use Rattle.nets.specs.Nets as nets
 use Rattle.nets.specs.Nets.{Word, join, permitted, stopped}
 use Rattle.bundles.specs.Layout.{toNet}
-use Rattle.bundles.specs.ReadHead.{head-refuses}
+use Rattle.bundles.specs.HeadReading.{head-refuses}
 use Rattle.screening.specs.Screening.{STOPPED, screening, joining, replayed, screenedOf, screened, screenedJoined, screenedNumber}
 use Rattle.screening.specs.Causes.{word-refuses}
 

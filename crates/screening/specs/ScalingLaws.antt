@@ -7,7 +7,7 @@ use Rattle.nets.specs.Nets.{Word, Net, permits}
 use Rattle.nets.specs.Scaling.{permits-scaled-place, permits-scaled}
 use Rattle.bundles.specs.Layout.{PlaceFields, toPlace, toNet}
 use Rattle.bundles.specs.Readers.{headOf, eventsIn, netIn}
-use Rattle.bundles.specs.ReadHead.{HeadIsRead}
+use Rattle.bundles.specs.HeadReading.{HeadIsRead}
 use Rattle.bundles.specs.Scaling.{scaledFields, one-scaled, all-scaled}
 use Rattle.screening.specs.Screening.{screened, screenedJoined}
 use Rattle.screening.specs.Joins.{answerOn, screened-on, permitted-alike}

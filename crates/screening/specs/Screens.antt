@@ -6,7 +6,7 @@ use mathlib.Core.List.{List, _++_}
 use Prim.Native.Nat.{ℕ, _≤_, _<_}
 use borrow.Author.Tests.{le-leb, leb-true}
 use lib.Dec.{T, leb, ltb, ltb→lt, lt→ltb}
-use lib.ListN.{length, drop}
+use lib.ListN.{length}
 use Rattle.laws.specs.Booleans.{impossible, yes-true}
 use Rattle.laws.specs.Lists.{all, all-member, all-intro}
 use Rattle.laws.specs.Every.{Every, every-member, every-intro}
@@ -21,12 +21,10 @@ use Rattle.nets.specs.Nets.{Word, Net, permitted, stopped, permits, screen}
 use Rattle.nets.specs.Events.{firstBad}
 use Rattle.nets.specs.Fits.{Below}
 use Rattle.nets.specs.Screening.{FirstRefused, shortfallAt, screen-permitted, screen-stopped-exactly}
-use Rattle.bundles.specs.Layout.{Head, HeadInLimits, toNet, headBytes}
-use Rattle.bundles.specs.Readers.{anyRows, readHead, headOf, eventsIn, netIn}
-use Rattle.bundles.specs.ReadingLaws.{part-front}
-use Rattle.bundles.specs.LayoutLaws.{law-head}
-use Rattle.bundles.specs.Limits.{→size, head→limits, limits→head}
-use Rattle.bundles.specs.ReadHead.{HeadIsRead, read→, →read, read-head-of, read-is}
+use Rattle.bundles.specs.Layout.{Head, toNet, HeadInFront}
+use Rattle.bundles.specs.Readers.{readHead, headOf, eventsIn, netIn}
+use Rattle.bundles.specs.Limits.{→size}
+use Rattle.bundles.specs.HeadReading.{HeadIsRead, read→front, front→read, read-head-of, read-is}
 use Rattle.screening.specs.Screening.{wordOn, screening, replayed, screenedOf, screened}
 use Rattle.stops.specs.declared.Stop.{Stop}
 use Rattle.screening.specs.declared.Screened.{Screened}
@@ -39,8 +37,7 @@ Readable b w = (r : Refusal) → screened b w ≡ answers.Refused r → ⊥
 -- the bundle begins with the head h, in its limits, and w is a word over its events
 pub record Screenable (b : List ℕ) (w : Word) (h : Head) (rest : List ℕ) : Type 0 where
   pub size : length b ≤ MAX-BUNDLE-SIZE
-  pub layout : b ≡ headBytes h ++ rest
-  pub limits : HeadInLimits h
+  pub front : HeadInFront b h rest
   pub wordSize : length w ≤ MAX-WORD-EVENTS
   pub events : Every (λ e. e < h .events) w
 
@@ -145,13 +142,11 @@ readable-below b w readable e m =
 module _ (b : List ℕ) (bytes : Bytes b) (w : Word) where
   passed→ : (h : Head) → Passed b w h → (rest : List ℕ) × Screenable b w h rest
   passed→ h p =
-      let (right, (next, read)) = read→ b h (p .head) in
-      let s = law-head b bytes anyRows .sound 0 h next read in (
-        drop next b,
+      let (right, (rest, front)) = read→front b bytes h (p .head) in (
+        rest,
         record {
           size = rightSize-bounds (length b) right .1;
-          layout = s .1 .bytes;
-          limits = head→limits anyRows (λ n. tt) (λ n log more t. tt) h (s .0) .0;
+          front = front;
           wordSize = leb-true (length w) MAX-WORD-EVENTS (p .wordSize);
           events = all→every (h .events) w (rw (p .events) tt);
         },
@@ -160,8 +155,7 @@ module _ (b : List ℕ) (bytes : Bytes b) (w : Word) where
   →passed : (h : Head) (rest : List ℕ) → Screenable b w h rest → Passed b w h
   →passed h rest s = record {
     wordSize = le-leb (length w) MAX-WORD-EVENTS (s .wordSize);
-    head = →read b h (length (headBytes h)) (→size b h rest (s .layout) (s .size))
-        (law-head b bytes anyRows .complete 0 h (length (headBytes h)) (limits→head anyRows (λ n. tt) (λ n log more t. tt) h (s .limits) tt) (part-front b (headBytes h) rest (s .layout)));
+    head = front→read b bytes h rest (→size b h rest (s .front .layout) (s .size)) (s .front);
     events = yes-true (all (λ e. ltb e (h .events)) w) (every→all (h .events) w (s .events));
   }
 

@@ -3,7 +3,7 @@
 use mathlib.Core.Path.{_≡_, refl, sym, ap, ap₂, _∙_, subst}
 use mathlib.Core.Bool.{Bool, true}
 use mathlib.Core.Logic.{_↔_}
-use mathlib.Core.List.{List, [], _∷_, _++_, map, flatMap, append-nil}
+use mathlib.Core.List.{List, [], _∷_, _++_, flatMap, append-nil}
 use Prim.Native.Nat.{ℕ, _≤_}
 use native.Mathlib.Nat.{le-trans}
 use native.Mathlib.Omega.{arith}
@@ -20,16 +20,17 @@ use Rattle.refusals.specs.Table.{BUNDLE-LENGTH, NUMBERS-SHORT, BYTES-FOLLOW}
 use Rattle.refusals.specs.Results.{value, refused, bind}
 use Rattle.nets.specs.Nets.{Log, Step, prefixes, addRow, permitsLog, rows, solvesAll, accepted, tally}
 use Rattle.nets.specs.LogLaws.{rows-longer}
-use Rattle.nets.specs.Fits.{LogBelow, permits-fits}
+use Rattle.nets.specs.Fits.{permits-fits}
+use Rattle.nets.specs.Acceptance.{accepted-parts}
 use Rattle.rows.specs.Rows.{withRows, cleared}
 use Rattle.logs.specs.Answers.{TABLE}
 use Rattle.logs.specs.Log.{logRows}
 use Rattle.bundles.specs.Reading.{Read, got, item, _>>_, give, require, onward}
-use Rattle.bundles.specs.Layout.{CertificateFields, Head, Contents, HeadInLimits, CertificateInLimits, InLimits, rowsIn, wrongIn, fitsIn, solvesIn, toNet, toCertificate, toBundle, certificateBytes, bytesOf}
+use Rattle.bundles.specs.Layout.{CertificateFields, Head, Contents, HeadInLimits, CertificateInLimits, InLimits, rowsIn, wrongIn, fitsIn, solvesIn, toNet, toBundle, certificateBytes, bytesOf, wordsIn, LogBelowIn, solvesAllIn}
 use Rattle.bundles.specs.Readers.{certificate, rowsInLimit, bundleSize}
 use Rattle.bundles.specs.ReadingLaws.{Law, part-front, EachValid, andThen-got, require-got, law-then, law-give, law-same, law-require, law-tested, law-each}
 use Rattle.bundles.specs.LayoutLaws.{HeadValid, law-head, law-certificate}
-use Rattle.bundles.specs.Limits.{→size, words-below, head→limits, limits→head}
+use Rattle.bundles.specs.Limits.{→size, log-below, head→limits, limits→head}
 use Rattle.verdicts.specs.Judging.{solved, atEnd, afterHead, contents, judging, judged, tallyOf, verdictOf, verdict, tableOn, tableAfter}
 use Rattle.verdicts.specs.declared.Tally.{Tally}
 use Rattle.verdicts.specs.declared.Verdict.the-variants as verdicts
@@ -44,14 +45,14 @@ one-row n = tt
 -- ---- the net permits every word exactly when its places fit
 
 unfoldable pub permitted : Head → Bool
-permitted h = permitsLog (h .events) (toNet h) (h .log)
+permitted h = permitsLog (h .events) (toNet h) (wordsIn h)
 
 unfoldable pub fitting : Head → Bool
 fitting h = all (fitsIn h) (toNet h)
 
-pub permitted-fitting : (h : Head) → LogBelow (h .events) (h .log) → T (fitting h) ↔ T (permitted h)
+pub permitted-fitting : (h : Head) → LogBelowIn h → T (fitting h) ↔ T (permitted h)
 unfolding fitting permitted
-permitted-fitting h below = permits-fits (h .events) (toNet h) (h .log) below
+permitted-fitting h below = permits-fits (h .events) (toNet h) (wordsIn h) below
 
 -- ---- certificates
 
@@ -61,22 +62,22 @@ module _ (h : Head) where
   Solving s before c = CertificateInLimits h c × T (solvesIn h s c)
 
   pub each→all : (ss : List Step) (before cs : List CertificateFields) → EachValid Solving ss before cs
-      → Every (CertificateInLimits h) cs × T (solvesAll (h .events) (h .log) (toNet h) ss (map (toCertificate h) cs))
+      → Every (CertificateInLimits h) cs × T (solvesAllIn h ss cs)
   unfolding solvesAll
   each→all [] before [] v = (tt, tt)
   each→all [] before (c ∷ cs) v = absurd v
   each→all (s ∷ ss) before [] v = absurd v
   each→all (s ∷ ss) before (c ∷ cs) v = let r = each→all ss (before ++ c ∷ []) cs (v .1) in
-      ((v .0 .0, r .0), and-i (solvesIn h s c) (solvesAll (h .events) (h .log) (toNet h) ss (map (toCertificate h) cs)) (v .0 .1) (r .1))
+      ((v .0 .0, r .0), and-i (solvesIn h s c) (solvesAllIn h ss cs) (v .0 .1) (r .1))
 
-  pub all→each : (ss : List Step) (before cs : List CertificateFields) → Every (CertificateInLimits h) cs → T (solvesAll (h .events) (h .log) (toNet h) ss (map (toCertificate h) cs)) → EachValid Solving ss before cs
+  pub all→each : (ss : List Step) (before cs : List CertificateFields) → Every (CertificateInLimits h) cs → T (solvesAllIn h ss cs) → EachValid Solving ss before cs
   unfolding solvesAll
   all→each [] before [] v t = tt
   all→each [] before (c ∷ cs) v t = absurd t
   all→each (s ∷ ss) before [] v t = absurd t
   all→each (s ∷ ss) before (c ∷ cs) v t =
       let first = solvesIn h s c in
-      let rest = solvesAll (h .events) (h .log) (toNet h) ss (map (toCertificate h) cs) in
+      let rest = solvesAllIn h ss cs in
       ((v .0, and-l first rest t), all→each ss (before ++ c ∷ []) cs (v .1) (and-r first rest t))
 
 -- ---- the fields of a bundle
@@ -88,12 +89,9 @@ pub record Acceptable (c : Contents) : Type 0 where
   pub certificates : Every (CertificateInLimits (c .head)) (c .certificates)
   pub accepted : T (accepted (toBundle c))
 
-certified : Contents → Bool
-certified c = solvesAll (c .head .events) (c .head .log) (toNet (c .head)) (wrongIn (c .head)) (map (toCertificate (c .head)) (c .certificates))
-
 module _ (b : List ℕ) (bytes : Bytes b) where
   pub law-contents : Law b contents bytesOf Acceptable
-  unfolding contents afterHead solved bytesOf toBundle accepted permitted fitting certified
+  unfolding contents afterHead solved bytesOf toBundle permitted fitting
   law-contents =
       law-same b
       (law-then b (law-head b bytes rowsInLimit) (λ (c : Contents). c .head)
@@ -110,13 +108,13 @@ module _ (b : List ℕ) (bytes : Bytes b) where
         head = s .0;
         rowCount = leb→le _ MAX-ROWS (s .1);
         certificates = t .0;
-        accepted = and-i (permitted (c .head)) (certified c) (permitted-fitting (c .head) (words-below _ _ (s .0 .words)) .0 (v .1 .0)) (t .1);
+        accepted = accepted-parts (toBundle c) .1 (record { permitted = permitted-fitting (c .head) (log-below (c .head) (s .0)) .0 (v .1 .0); solved = t .1 });
       })
       (λ c v. (
         limits→head rowsInLimit one-row few-rows (c .head) (v .head) (le→leb _ MAX-ROWS (v .rowCount)),
         (
-          permitted-fitting (c .head) (words-below _ _ (v .head .words)) .1 (and-l (permitted (c .head)) (certified c) (v .accepted)),
-          (all→each (c .head) (wrongIn (c .head)) [] (c .certificates) (v .certificates) (and-r (permitted (c .head)) (certified c) (v .accepted)), refl),
+          permitted-fitting (c .head) (log-below (c .head) (v .head)) .1 (accepted-parts (toBundle c) .0 (v .accepted) .permitted),
+          (all→each (c .head) (wrongIn (c .head)) [] (c .certificates) (v .certificates) (accepted-parts (toBundle c) .0 (v .accepted) .solved), refl),
         ),
       ))
     where
@@ -206,7 +204,7 @@ module _ (tableSize : ℕ) (long : TABLE ≤ tableSize) (b : List ℕ) (bytes : 
   accepted-exactly = (verdict→, λ r. →verdict (r .0) (r .1))
 
 -- an accepted bundle leaves its log's rows in the table, zeros up to number 3,583, and the rest as it was
-pub accepted-table : (b t : List ℕ) → Bytes b → TABLE ≤ length t → (c : Tally) (d : Contents) → AcceptedAs b c d → tableAfter b t ≡ withRows (logRows (d .head .log)) (cleared TABLE t)
+pub accepted-table : (b t : List ℕ) → Bytes b → TABLE ≤ length t → (c : Tally) (d : Contents) → AcceptedAs b c d → tableAfter b t ≡ withRows (logRows (wordsIn (d .head))) (cleared TABLE t)
 unfolding tableAfter tableOn
 accepted-table b t bytes long c d a = rw (accepted-size a, le-leb TABLE (length t) long, →judging b bytes d (acceptable a) (a .layout))
 

@@ -16,7 +16,7 @@ use Rattle.rows.specs.Rows.{withRows, cleared}
 use Rattle.logs.specs.Answers.{TABLE}
 use Rattle.logs.specs.Log.{logRows}
 use Rattle.bundles.specs.Reading.{Read, item, Reader, _>>=_, _>>_, give, require, each}
-use Rattle.bundles.specs.Layout.{CertificateFields, kind0, kind1, Head, Contents, wrongIn, fitsIn, solvesIn, toNet, toBundle}
+use Rattle.bundles.specs.Layout.{CertificateFields, kind0, kind1, Head, Contents, wrongIn, fitsIn, solvesIn, toNet, toBundle, wordsIn}
 use Rattle.bundles.specs.Readers.{head, certificate, rowsInLimit, bundleSize}
 use Rattle.verdicts.specs.declared.Tally.{Tally}
 use Rattle.verdicts.specs.declared.Verdict.{Verdict}
@@ -89,7 +89,7 @@ verdictNumber (Refused r) = r .number
 
 -- after acceptance the log's rows and zeros, after a refusal zeros; from number 3,584 on as it was
 unfoldable pub tableOn : Read Contents → List ℕ → List ℕ
-tableOn (value (item c next)) t = withRows (logRows (c .head .log)) (cleared TABLE t)
+tableOn (value (item c next)) t = withRows (logRows (wordsIn (c .head))) (cleared TABLE t)
 tableOn (refused number spot) t = cleared TABLE t
 
 -- after 4 and 5 as it was

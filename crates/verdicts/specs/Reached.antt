@@ -2,12 +2,11 @@
 use mathlib.Core.Path.{_≡_, sym, ap, _∙_}
 use mathlib.Core.Bool.{false, false≢true}
 use mathlib.Core.Logic.{_↔_, _⊎_, inl, inr, ⊎-elim}
-use mathlib.Core.List.{List, [], _∷_, _++_, map, flatMap, append-assoc}
+use mathlib.Core.List.{List, [], _∷_, _++_, flatMap, append-assoc}
 use Prim.Native.Nat.{ℕ, _≤_}
 use native.Mathlib.Nat.{zero-add}
 use lib.Dec.{T, leb→le, le→leb}
 use lib.ListN.{length, drop}
-use lib.Ieee.Fits.{and-i, and-l, and-r}
 use Rattle.laws.specs.Booleans.{yes-true}
 use Rattle.laws.specs.Every.{Every}
 use Rattle.laws.specs.Lists.{all, any, among}
@@ -15,14 +14,15 @@ use Rattle.laws.specs.Numbers.{Bytes}
 use Rattle.limits.specs.Limits.{MAX-ROWS}
 use Rattle.refusals.specs.Table.{PLACE-PERMITS, WEIGHTS}
 use Rattle.refusals.specs.Results.{refused, refuses-wider}
-use Rattle.nets.specs.Nets.{Step, permitsLog, solvesAll, accepted}
+use Rattle.nets.specs.Nets.{Step, accepted}
 use Rattle.nets.specs.Words.{PermitsLog}
+use Rattle.nets.specs.Acceptance.{accepted-parts}
 use Rattle.bundles.specs.Reading.{got, each}
-use Rattle.bundles.specs.Layout.{CertificateFields, kind0, kind1, Head, Contents, HeadInLimits, CertificateInLimits, rowsIn, wrongIn, fitsIn, solvesIn, toNet, toCertificate, certificateBytes, headBytes, bytesOf, toBundle}
+use Rattle.bundles.specs.Layout.{CertificateFields, kind0, kind1, Head, Contents, HeadInLimits, CertificateInLimits, rowsIn, wrongIn, fitsIn, solvesIn, toNet, certificateBytes, headBytes, bytesOf, toBundle, wordsIn, solvesAllIn, HeadInFront}
 use Rattle.bundles.specs.Readers.{head, certificate, rowsInLimit}
 use Rattle.bundles.specs.ReadingLaws.{Law, Part, part-front, part-append, part-right, EachValid, law-tested, law-each}
-use Rattle.bundles.specs.LayoutLaws.{law-head, law-certificate}
-use Rattle.bundles.specs.Limits.{words-below, head→limits, limits→head}
+use Rattle.bundles.specs.LayoutLaws.{law-certificate}
+use Rattle.bundles.specs.Limits.{log-below, got→front, front→got}
 use Rattle.bundles.specs.Causes.{each-refused}
 use Rattle.verdicts.specs.Judging.{unsolved, solved, judged}
 use Rattle.verdicts.specs.Acceptance.{few-rows, one-row, permitted, fitting, permitted-fitting, Solving, each→all, all→each, Acceptable}
@@ -32,8 +32,7 @@ use Rattle.verdicts.specs.Stopping.{InHead, InCertificate, headNumbers, 
 
 -- the bundle begins with the head h, in its limits and with at most 256 rows, and `rest` follows
 pub record HeadThere (b : List ℕ) (h : Head) (rest : List ℕ) : Type 0 where
-  pub layout : b ≡ headBytes h ++ rest
-  pub limits : HeadInLimits h
+  pub front : HeadInFront b h rest
   pub rowCount : length (rowsIn h) ≤ MAX-ROWS
 
 -- the bundle begins with the contents d, in their limits; its net permits the log, and its certificates solve the steps `done`; `rest` follows
@@ -42,8 +41,8 @@ pub record JudgedTo (b : List ℕ) (d : Contents) (done : List Step) (rest : Lis
   pub limits : HeadInLimits (d .head)
   pub rowCount : length (rowsIn (d .head)) ≤ MAX-ROWS
   pub certificates : Every (CertificateInLimits (d .head)) (d .certificates)
-  pub permits : PermitsLog (d .head .events) (toNet (d .head)) (d .head .log)
-  pub solves : T (solvesAll (d .head .events) (d .head .log) (toNet (d .head)) done (map (toCertificate (d .head)) (d .certificates)))
+  pub permits : PermitsLog (d .head .events) (toNet (d .head)) (wordsIn (d .head))
+  pub solves : T (solvesAllIn (d .head) done (d .certificates))
 
 -- behind them the certificate of the next wrong continuation, s, is due
 pub record CertificateDue (b : List ℕ) (d : Contents) (s : Step) (rest : List ℕ) : Type 0 where
@@ -73,12 +72,8 @@ judged-head : {b : List ℕ} {d : Contents} {done : List Step} {rest : List ℕ}
     → HeadThere b (d .head) (flatMap certificateBytes (d .certificates) ++ rest)
 unfolding bytesOf
 judged-head {b} {d} {done} {rest} j =
-    record {
-      layout = j .layout ∙ append-assoc (headBytes (d .head))
-          (flatMap certificateBytes (d .certificates)) rest;
-      limits = j .limits;
-      rowCount = j .rowCount;
-    }
+    let layout = j .layout ∙ append-assoc (headBytes (d .head)) (flatMap certificateBytes (d .certificates)) rest in
+    record { front = record { layout = layout; limits = j .limits }; rowCount = j .rowCount }
 
 -- contents that solve all their wrong continuations are acceptable, and the other way
 pub acceptable-judged : {b rest : List ℕ} (d : Contents) → Acceptable d → b ≡ bytesOf d ++ rest → JudgedTo b d (wrongIn (d .head)) rest
@@ -88,8 +83,8 @@ acceptable-judged d a layout = record {
   limits = a .head;
   rowCount = a .rowCount;
   certificates = a .certificates;
-  permits = and-l (permitsLog _ _ _) (solvesAll _ _ _ _ _) (a .accepted);
-  solves = and-r (permitsLog _ _ _) (solvesAll _ _ _ _ _) (a .accepted);
+  permits = accepted-parts (toBundle d) .0 (a .accepted) .permitted;
+  solves = accepted-parts (toBundle d) .0 (a .accepted) .solved;
 }
 
 pub judged-acceptable : {b rest : List ℕ} (d : Contents) → JudgedTo b d (wrongIn (d .head)) rest → Acceptable d
@@ -98,7 +93,7 @@ judged-acceptable d j = record {
   head = j .limits;
   rowCount = j .rowCount;
   certificates = j .certificates;
-  accepted = and-i (permitsLog _ _ _) (solvesAll _ _ _ _ _) (j .permits) (j .solves);
+  accepted = accepted-parts (toBundle d) .1 (record { permitted = j .permits; solved = j .solves });
 }
 
 -- a certificate that does not solve its step is refused with 11 or 12
@@ -112,18 +107,15 @@ not-unsolved number (kind1 w) other n = false≢true (sym other ∙ ap (λ (k : 
 module _ (b : List ℕ) (bytes : Bytes b) where
   pub head-there : (h : Head) (next : ℕ) → head rowsInLimit b 0 ≡ got h next → HeadThere b h (drop next b) × Part b 0 (headBytes h) next
   head-there h next e =
-      let s = law-head b bytes rowsInLimit .sound 0 h next e in
-      let l = head→limits rowsInLimit one-row few-rows h (s .0) in
-      (record { layout = s .1 .bytes; limits = l .0; rowCount = leb→le _ MAX-ROWS (l .1) }, s .1)
+      let f = got→front rowsInLimit one-row few-rows b bytes h next e in
+      (record { front = f .0; rowCount = leb→le _ MAX-ROWS (f .1) }, f .2)
 
   pub there-head : (h : Head) (rest : List ℕ) → HeadThere b h rest → head rowsInLimit b 0 ≡ got h (length (headBytes h))
-  there-head h rest t =
-      law-head b bytes rowsInLimit .complete 0 h (length (headBytes h))
-      (limits→head rowsInLimit one-row few-rows h (t .limits) (le→leb _ MAX-ROWS (t .rowCount))) (part-front b (headBytes h) rest (t .layout))
+  there-head h rest t = front→got rowsInLimit one-row few-rows b bytes h rest (t .front) (le→leb _ MAX-ROWS (t .rowCount))
 
   module _ (h : Head) (rest : List ℕ) (t : HeadThere b h rest) where
     law-this : Law b (certificate h) certificateBytes (CertificateInLimits h)
-    law-this = law-certificate b bytes h (t .limits .events .1) (t .rowCount) (t .limits .placesSize)
+    law-this = law-certificate b bytes h (t .front .limits .events .1) (t .rowCount) (t .front .limits .placesSize)
 
     law-all : (ss : List Step) → Law b (each (solved h) ss []) (flatMap certificateBytes) (EachValid (Solving h) ss [])
     unfolding solved
@@ -153,10 +145,10 @@ module _ (b : List ℕ) (bytes : Bytes b) where
               steps = w .split;
               judged = record {
                 layout = whole .bytes;
-                limits = t .0 .limits;
+                limits = t .0 .front .limits;
                 rowCount = t .0 .rowCount;
                 certificates = v .0;
-                permits = permitted-fitting h (words-below _ _ (t .0 .limits .words)) .0 (rw fit tt);
+                permits = permitted-fitting h (log-below h (t .0 .front .limits)) .0 (rw fit tt);
                 solves = v .1;
               };
             },
@@ -176,7 +168,7 @@ module _ (b : List ℕ) (bytes : Bytes b) where
             h,
             length (headBytes h),
             there-head h _ t,
-            yes-true (all (fitsIn h) (toNet h)) (permitted-fitting h (words-below _ _ (j .limits .words)) .1 (j .permits)),
+            yes-true (all (fitsIn h) (toNet h)) (permitted-fitting h (log-below h (j .limits)) .1 (j .permits)),
             each-refused (solved h) b number spot (wrongIn h) [] (length (headBytes h)) .1
                 (record {
                   first = due .done;

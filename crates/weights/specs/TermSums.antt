@@ -24,7 +24,7 @@ use Rattle.bundles.specs.Readers.{anything, term, weights}
 use Rattle.bundles.specs.ReadingLaws.{andThen-got, law-number, ranged}
 use Rattle.bundles.specs.FieldReading.{below, upTo, byte-there, number-there, byte-got}
 use Rattle.bundles.specs.WordReading.{rest, rest-all, rest-none, rest-more, rest-failed}
-use Rattle.bundles.specs.Layout.{TermFields, kind1}
+use Rattle.bundles.specs.Layout.{TermFields, kind1, Head, rowsIn}
 use Rattle.weights.specs.Terms.{rowOf, holdsRows, weighedBy}
 use Rattle.weights.specs.Totals.{NUMBER, SmallRows, added, addedWeight, sumsHold, Summed, summed-none, summed-next, summed-holds, room-before, room-event}
 use Rattle.weights.specs.declared.Weighed.{Weighed}
@@ -145,22 +145,22 @@ module _ (n rowCount : ℕ) (t b : List ℕ) (from count : ℕ) where
 
 -- ---- the answer
 
-module _ (n rowCount : ℕ) (b : List ℕ) (from : ℕ) where
+module _ (h : Head) (b : List ℕ) (from : ℕ) where
   pub weights-no-factor : (test : ℕ → List TermFields → Bool) {cause spot : ℕ} → number (leb 1) b from ≡ refused cause spot
-      → weighedBy test (weights n rowCount b from) ≡ Weighing.Refused (refusal cause spot)
+      → weighedBy test (weights h b from) ≡ Weighing.Refused (refusal cause spot)
   unfolding weights bind onward weighedBy
   weights-no-factor test e = rw e
 
   module _ {k second : ℕ} (factor : number (leb 1) b from ≡ got k second) where
     pub weights-no-count : (test : ℕ → List TermFields → Bool) {cause spot : ℕ} → byte (upTo MAX-TERMS) b second ≡ refused cause spot
-        → weighedBy test (weights n rowCount b from) ≡ Weighing.Refused (refusal cause spot)
+        → weighedBy test (weights h b from) ≡ Weighing.Refused (refusal cause spot)
     unfolding weights bind onward weighedBy
     weights-no-count test e = rw (factor, e)
 
     pub weights-judged : {count third : ℕ} → byte (upTo MAX-TERMS) b second ≡ got count third → (test : ℕ → List TermFields → Bool)
-        → weighedBy test (weights n rowCount b from) ≡ weighedTerms (test k) (times count (term n rowCount) b third)
+        → weighedBy test (weights h b from) ≡ weighedTerms (test k) (times count (term (h .events) (length (rowsIn h))) b third)
     unfolding weights bind onward weighedBy weighedTerms
-    weights-judged {count} {third} size test = rw (factor, size) (go (times count (term n rowCount) b third))
+    weights-judged {count} {third} size test = rw (factor, size) (go (times count (term (h .events) (length (rowsIn h))) b third))
       where
         go : (m : Read (List TermFields)) → weighedBy test (andThen m (λ ts. give (kind1 (record { k = k; terms = ts }))) b) ≡ weighedTerms (test k) m
         go (value (item ts next)) = refl

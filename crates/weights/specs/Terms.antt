@@ -1,6 +1,6 @@
 -- Whether the weights of a certificate hold, from the rows of a table.
 use mathlib.Core.Bool.{Bool, _&&_, cond}
-use mathlib.Core.List.{List, [], _∷_}
+use mathlib.Core.List.{List}
 use Prim.Native.Nat.{ℕ, _+_, _*_}
 use lib.Dec.{leb}
 use lib.ListN.{getD}
@@ -9,7 +9,7 @@ use Rattle.laws.specs.Bits.{bit}
 use Rattle.limits.specs.Limits.{MAX-EVENTS}
 use Rattle.refusals.specs.Answers.{refusal}
 use Rattle.refusals.specs.Results.{value, refused}
-use Rattle.nets.specs.Nets.{Counts, at, same}
+use Rattle.nets.specs.Nets.{Counts, at, same, weighed}
 use Rattle.rows.specs.Rows.{Row, newRow, none}
 use Rattle.bundles.specs.Reading.{Read, item}
 use Rattle.bundles.specs.Layout.{TermFields, CertificateFields, kind0, kind1}
@@ -20,10 +20,16 @@ use Rattle.weights.specs.declared.Weighed.the-variants.{Holds, Fails, Re
 abbrev pub rowOf : List Row → ℕ → Row
 rowOf rs r = getD rs r (newRow none)
 
+-- the weight g of a term, and h of its row's counts u and its event f
+abbrev pub weightIn : TermFields → ℕ
+weightIn t = t .weight
+
+abbrev pub stepIn : List Row → (Counts → ℕ → ℕ) → TermFields → ℕ
+stepIn rs h t = h (rowOf rs (t .row) .counts) (t .event)
+
 -- the sum of g × h(u, f) over the terms
-unfoldable pub weighedRows : List Row → (Counts → ℕ → ℕ) → List TermFields → ℕ
-weighedRows rs h [] = 0
-weighedRows rs h (t ∷ ts) = t .weight * h (rowOf rs (t .row) .counts) (t .event) + weighedRows rs h ts
+abbrev pub weighedRows : List Row → (Counts → ℕ → ℕ) → List TermFields → ℕ
+weighedRows rs h ts = weighed weightIn (stepIn rs h) ts
 
 -- the weights hold for the event e after the counts v: the terms' steps are allowed, the sum of g is at most k, and the other two
 -- inequalities at each event

@@ -4,7 +4,7 @@ use mathlib.Core.Bool.{Bool, true, false, cond, _&&_, and-true}
 use mathlib.Core.Logic.{⊎-elim}
 use mathlib.Core.List.{List, [], _∷_, _++_, append-nil}
 use Prim.Native.Nat.{ℕ, _+_, _*_, _≤_, _<_}
-use native.Mathlib.Nat.{le-refl, zero-add, zero-mul, add-mul, mul-add, mul-one, mul-zero, mul-le-mul}
+use native.Mathlib.Nat.{le-refl, zero-add, zero-mul, mul-one, mul-zero, mul-le-mul}
 use native.Mathlib.Decide.{ℕ-discrete}
 use native.Mathlib.Omega.{arith}
 use native.Mathlib.Numerals.{add-one}
@@ -16,11 +16,11 @@ use Rattle.laws.specs.Booleans.{lt-or-le}
 use Rattle.laws.specs.Lists.{all, all-append, allBelow, allBelow-same, tabulate, tabulate-same, length-tabulate, getD-tabulate, getD-copies}
 use Rattle.laws.specs.Bits.{bit}
 use Rattle.limits.specs.Limits.{MAX-EVENTS}
-use Rattle.nets.specs.Nets.{Counts, at, same}
-use Rattle.nets.specs.Weights.{same-refl, same-ne}
+use Rattle.nets.specs.Nets.{Counts, at, same, weighed}
+use Rattle.nets.specs.Weights.{same-refl, same-ne, weighed-add, weighed-most, weighed-last}
 use Rattle.rows.specs.Rows.{Row}
 use Rattle.bundles.specs.Layout.{TermFields}
-use Rattle.weights.specs.Terms.{rowOf, weighedRows, holdsRows}
+use Rattle.weights.specs.Terms.{rowOf, weightIn, stepIn, weighedRows, holdsRows}
 
 -- the largest two-byte number
 abbrev pub NUMBER : ℕ
@@ -134,38 +134,18 @@ module _ (rs : List Row) where
   abbrev sumsOf : (ℕ → Counts → ℕ → ℕ) → List TermFields → List ℕ
   sumsOf h ts = tabulate MAX-EVENTS (λ i. weighedRows rs (h i) ts)
 
-  -- a term more adds its weight × h
-  weighed-last : (h : Counts → ℕ → ℕ) (ts : List TermFields) (t : TermFields)
-      → weighedRows rs h (ts ++ t ∷ []) ≡ weighedRows rs h ts + t .weight * h (rowOf rs (t .row) .counts) (t .event)
-  unfolding weighedRows
-  weighed-last h [] t = omega arith
-  weighed-last h (x ∷ ts) t = omega (arith, weighed-last h ts t)
-
   added-last : (h : ℕ → Counts → ℕ → ℕ) (ts : List TermFields) (t : TermFields)
       → added (t .weight) (λ i. h i (rowOf rs (t .row) .counts) (t .event)) (sumsOf h ts) ≡ sumsOf h (ts ++ t ∷ [])
   unfolding added
   added-last h ts t = tabulate-same MAX-EVENTS _ _ (λ i b.
       ap (λ (x : ℕ). x + t .weight * h i (rowOf rs (t .row) .counts) (t .event)) (getD-tabulate MAX-EVENTS (λ j. weighedRows rs (h j) ts) i 0 b)
-      ∙ sym (weighed-last (h i) ts t))
-
-  -- a sum of g × h is at most the sum of g, times what h is at most
-  weighed-most : (most : ℕ) (h : Counts → ℕ → ℕ) → ((r f : ℕ) → h (rowOf rs r .counts) f ≤ most) → (ts : List TermFields) → weighedRows rs h ts ≤ weighedRows rs (λ u f. 1) ts * most
-  unfolding weighedRows
-  weighed-most most h bound [] = omega arith
-  weighed-most most h bound (t ∷ ts) =
-      omega (arith, mul-le-mul (le-refl (t .weight)) (bound (t .row) (t .event)), weighed-most most h bound ts, add-mul (t .weight * 1) (weighedRows rs (λ u f. 1) ts) most, ap (λ (x : ℕ). x * most) (mul-one (t .weight)))
+      ∙ sym (weighed-last weightIn (stepIn rs (h i)) ts t))
 
   at-most : (most : ℕ) (h : ℕ → Counts → ℕ → ℕ) → ((i r f : ℕ) → h i (rowOf rs r .counts) f ≤ most) → (ts : List TermFields) (i : ℕ) → at (sumsOf h ts) i ≤ weighedRows rs (λ u f. 1) ts * most
   at-most most h bound ts i = ⊎-elim
-      (λ b. omega (arith, getD-tabulate MAX-EVENTS (λ j. weighedRows rs (h j) ts) i 0 b, weighed-most most (h i) (bound i) ts))
+      (λ b. omega (arith, getD-tabulate MAX-EVENTS (λ j. weighedRows rs (h j) ts) i 0 b, weighed-most weightIn most (stepIn rs (h i)) (λ t. bound i (t .row) (t .event)) ts))
       (λ b. omega (arith, List·getD-eq-default (sumsOf h ts) 0 {n = i} (omega (arith, length-tabulate MAX-EVENTS (λ j. weighedRows rs (h j) ts)))))
       (lt-or-le i MAX-EVENTS)
-
-  -- g × (u(i) + [f = i]) in two sums
-  weighed-apart : (i : ℕ) (ts : List TermFields) → weighedRows rs (λ u f. at u i) ts + weighedRows rs (λ u f. same f i) ts ≡ weighedRows rs (λ u f. at u i + same f i) ts
-  unfolding weighedRows
-  weighed-apart i [] = refl
-  weighed-apart i (t ∷ ts) = omega (arith, weighed-apart i ts, mul-add (t .weight) (at (rowOf rs (t .row) .counts) i) (same (t .event) i))
 
   -- the sums of the terms ts, as the code has them: of the weights; for each event i, of g × u(i) and of g × [f = i]; and whether each
   -- step (u, f) is allowed. Where the weights sum up to more than two bytes, the sums for the events are only small.
@@ -179,7 +159,7 @@ module _ (rs : List Row) where
     pub exact : total ≤ NUMBER → (before ≡ sumsOf (λ i u f. at u i) ts) × (ofEvent ≡ sumsOf (λ i u f. same f i) ts)
 
   pub summed-none : Summed [] 0 (replicate MAX-EVENTS 0) (replicate MAX-EVENTS 0) true
-  unfolding tabulate weighedRows all
+  unfolding tabulate weighed all
   summed-none = record {
     weights = refl;
     steps = refl;
@@ -218,7 +198,7 @@ module _ (rs : List Row) where
           (set ofEvent (t .event) (at ofEvent (t .event) + addedWeight (total + t .weight) (t .weight))) (allowed && bit (rowOf rs (t .row) .mask) (t .event))
       unfolding all
       summed-next event = rw (added-event (addedWeight (total + t .weight) (t .weight)) (t .event) ofEvent (s .eventSize) event) (record {
-        weights = omega (arith, s .weights, weighed-last (λ u f. 1) ts t);
+        weights = omega (arith, s .weights, weighed-last weightIn (stepIn rs (λ u f. 1)) ts t);
         steps = ap (λ (b : Bool). b && bit (rowOf rs (t .row) .mask) (t .event)) (s .steps) ∙ sym (all-append _ ts (t ∷ []) ∙ ap (λ (b : Bool). all (λ t. bit (rowOf rs (t .row) .mask) (t .event)) ts && b) (and-true _));
         beforeSmall = added-most (NUMBER * NUMBER) _ _ before room-before;
         eventSmall = added-most NUMBER _ (same (t .event)) ofEvent (λ i. omega (arith, room-event i, mul-le-mul (le-refl (addedWeight (total + t .weight) (t .weight))) (same-le (t .event) i), mul-one (addedWeight (total + t .weight) (t .weight))));
@@ -248,4 +228,4 @@ module _ (rs : List Row) where
           all-both _ _ (tabulate MAX-EVENTS (λ i. i))
           ∙ ap₂ (λ (x y : Bool). x && y)
           (allBelow-same MAX-EVENTS _ _ (λ i b. ap (λ (x : ℕ). leb x (k * at v i)) (first i b)))
-          (allBelow-same MAX-EVENTS _ _ (λ i b. ap (λ (x : ℕ). leb (k * (at v i + same e i)) x) (ap₂ _+_ (first i b) (second i b) ∙ weighed-apart i ts)))
+          (allBelow-same MAX-EVENTS _ _ (λ i b. ap (λ (x : ℕ). leb (k * (at v i + same e i)) x) (ap₂ _+_ (first i b) (second i b) ∙ sym (weighed-add weightIn (stepIn rs (λ u f. at u i)) (stepIn rs (λ u f. same f i)) ts))))

@@ -22,7 +22,7 @@ ghost use Rattle.limits.specs.Limits.{MAX-EVENTS, MAX-TERMS};
 ghost use Rattle.nets.specs.Nets.{at, same};
 ghost use Rattle.rows.specs.Rows.{rowsOf};
 ghost use Rattle.bundles.specs.Reading.{times};
-ghost use Rattle.bundles.specs.Readers.{term, weights};
+ghost use Rattle.bundles.specs.Readers.{headOf, term, weights};
 ghost use Rattle.bundles.specs.TermReading.{termReadOf};
 ghost use Rattle.heads.specs.Heads.{HeadHeld};
 ghost use Rattle.weights.specs.Terms.{rowOf, holdsRows, weighedBy};
@@ -185,7 +185,7 @@ pub fn read_weights(
 ) -> Weighed
     requires { ⌜ HeadHeld (now bundle) (now table) head ⌝ }
     requires { ⌜ (row < head .rows) × (event < head .n) ⌝ }
-    ensures { λ r. ⌜ r ≡ weighedBy (holdsRows (rowsOf (head .rows) (now (table .entry))) (rowOf (rowsOf (head .rows) (now (table .entry))) row .counts) event) (weights (head .n) (head .rows) (now (bundle .entry)) at) ⌝ }
+    ensures { λ r. ⌜ r ≡ weighedBy (holdsRows (rowsOf (head .rows) (now (table .entry))) (rowOf (rowsOf (head .rows) (now (table .entry))) row .counts) event) (weights (headOf (now (bundle .entry))) (now (bundle .entry)) at) ⌝ }
 {
     match number_from(bundle, at, 1) {
         Field::Refused(refusal) => Weighed::Refused(refusal),

@@ -13,8 +13,7 @@ use Rattle.nets.specs.Surplus.{tokens-first}
 use Rattle.nets.specs.Machine.{Held}
 use Rattle.nets.proofs.Bounds.{Small, tokens-held, tokens-fits, tokens-back, tokens-gain}
 use Rattle.bundles.specs.Layout.{toPlace}
-use Rattle.bundles.specs.PlaceReading.{placeOn}
-use Rattle.certificates.specs.PlaceNumbers.{place-produced, place-consumed, number-small, numbers-small}
+use Rattle.bundles.specs.PlaceReading.{placeOn, place-small, place-produced, place-consumed}
 use Rattle.certificates.proofs.place_permits.Statement.{statement}
 use Rattle.certificates.proofs.place_permits.Tie as tie
 
@@ -31,10 +30,11 @@ unfolding toPlace
 small c =
     let a = c .before .before .args in
     let bytes : Bytes (a .bundle .now) = λ i. omega (arith, c .before .shared-slice-known .given i) in
+    let place = place-small (a .bundle .now) bytes (a .n) (a .at) in
     record {
-      initial = number-small (a .bundle .now) (a .at) bytes;
-      produced = λ i. numbers-small (a .n) (a .bundle .now) (a .at + 2) i bytes;
-      consumed = λ i. numbers-small (a .n) (a .bundle .now) (a .at + 2 + 2 * a .n) i bytes;
+      initial = place .0;
+      produced = place .1;
+      consumed = place .2;
       counts = λ i. omega (arith, c .shared-slice-known2 .given i);
     }
 

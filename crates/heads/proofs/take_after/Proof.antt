@@ -6,7 +6,8 @@ use denote.Ref.{now}
 use Rattle.limits.specs.Limits.{MAX-EVENTS}
 use Rattle.bundles.specs.Reading.{got, byte}
 use Rattle.bundles.specs.Readers.{anything}
-use Rattle.bundles.specs.FieldReading.{readOf, between, between-true, byte-got}
+use Rattle.bundles.specs.FieldReading.{readOf}
+use Rattle.bundles.specs.HeadReading.{first-limits}
 use Rattle.heads.specs.Taken.{AllTaken}
 use Rattle.heads.specs.Heads.{count-refused, log-refused, places-missing, places-taken}
 use Rattle.heads.proofs.take_after.Statement.{statement}
@@ -19,7 +20,7 @@ counted c = sym (c .before .before .any-byte .ensures) ∙ ap readOf (c .count .
 
 -- the event count that is behind it is at most 12
 few : (c : tie.Start) → c .args .n ≤ MAX-EVENTS
-few c = between-true 1 MAX-EVENTS (c .args .n) (byte-got (between 1 MAX-EVENTS) _ _ _ _ (c .pre .0) .0) .1
+few c = first-limits _ _ _ _ (c .pre .0) .1
 
 returns : tie.Need-returns
 unfolding readOf

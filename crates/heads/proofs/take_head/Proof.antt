@@ -2,18 +2,17 @@
 use mathlib.Core.Path.{_≡_, refl, sym, ap, _∙_}
 use borrow.Author.Needs.{needs}
 use denote.Ref.{now}
-use Rattle.limits.specs.Limits.{MAX-EVENTS}
-use Rattle.bundles.specs.Readers.{rowsInLimit}
-use Rattle.bundles.specs.Reading.{got, byte}
-use Rattle.bundles.specs.FieldReading.{readOf, between}
+use Rattle.bundles.specs.Readers.{firstByte, rowsInLimit}
+use Rattle.bundles.specs.Reading.{got}
+use Rattle.bundles.specs.FieldReading.{readOf}
 use Rattle.bundles.specs.HeadReading.{head-failed}
 use Rattle.heads.proofs.take_head.Statement.{statement}
 use Rattle.heads.proofs.take_head.Tie as tie
 
 -- the event count
-counted : (c : tie.After-n) → byte (between 1 MAX-EVENTS) (now (c .before .before .before .before .before .args .bundle)) 0 ≡ got (c .n .given .0 .0) (c .n .given .0 .1 .0)
+counted : (c : tie.After-n) → firstByte (now (c .before .before .before .before .before .args .bundle)) 0 ≡ got (c .n .given .0 .0) (c .n .given .0 .1 .0)
 unfolding readOf
-counted c = sym (c .before .before .byte-between .ensures) ∙ ap readOf (c .n .given .1)
+counted c = sym (c .before .before .read-first .ensures) ∙ ap readOf (c .n .given .1)
 
 take-after-requires : tie.Need-take-after-requires
 take-after-requires c κs =
@@ -23,7 +22,7 @@ take-after-requires c κs =
 
 returns : tie.Need-returns
 unfolding readOf
-returns c = (head-failed rowsInLimit _ (sym (c .before .before .before .byte-between .ensures) ∙ ap readOf (c .before .refusal .given .1)), refl)
+returns c = (head-failed rowsInLimit _ (sym (c .before .before .before .read-first .ensures) ∙ ap readOf (c .before .refusal .given .1)), refl)
 
 returns-2 : tie.Need-returns-2
 returns-2 c = c .before .before .take-after .ensures

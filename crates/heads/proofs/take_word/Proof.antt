@@ -4,12 +4,11 @@ use Prim.Native.Nat.{_≤_}
 use native.Mathlib.Omega.{arith}
 use borrow.Author.Needs.{needs}
 use denote.Ref.{now}
-use lib.ListN.{length, length-take}
+use lib.ListN.{length}
 use Rattle.limits.specs.Limits.{MAX-EVENTS, MAX-LOG-EVENTS}
 use Rattle.nets.specs.Events.{EventsBelow}
 use Rattle.rows.specs.IndexLaws.{index-taken}
 use Rattle.bundles.specs.FieldReading.{readOf}
-use Rattle.bundles.specs.WordReading.{eventsAt}
 use Rattle.heads.specs.Taken.{WordRead, word-read, word-refused, no-room, word-taken}
 use Rattle.heads.proofs.take_word.Statement.{statement}
 use Rattle.heads.proofs.take_word.Tie as tie
@@ -20,24 +19,23 @@ unfolding readOf
 read c = word-read _ _ _ _ _ _ (c .before .before .before .before .before .before .before .pre .0 .0) (sym (c .before .before .read-word .ensures) ∙ ap readOf (c .size .given .1))
 
 -- it is the part of the bundle that was taken out
-word : (c : tie.After-word-at) → now (c .word-at .result) ≡ read (c .before .before) .w
-word c = c .word-at .ensures ∙ read (c .before .before) .part
+word : (c : tie.After-word-before) → now (c .word-before .result) ≡ read (c .before .before) .w
+word c = c .word-before .ensures ∙ read (c .before .before) .part
 
-word-at-requires : tie.Need-word-at-requires
-word-at-requires c κs = read (c .before) .within
+word-before-requires : tie.Need-word-before-requires
+word-before-requires c κs = read (c .before) .within
 
-short : (c : tie.After-word-at) → length (now (c .word-at .result)) ≤ MAX-LOG-EVENTS
+short : (c : tie.After-word-before) → length (now (c .word-before .result)) ≤ MAX-LOG-EVENTS
 short c = omega (arith, ap length (word c), read (c .before .before) .limit)
 
 -- its length is a byte
-byte : (c : tie.After-word-at) → length (now (c .word-at .result)) ≤ 255
-unfolding eventsAt
+byte : (c : tie.After-word-before) → length (now (c .word-before .result)) ≤ 255
 byte c =
     let first = c .before .before .before .before .before .before .before .before in
     let start = first .before in
-    rw (c .word-at .ensures, length-take) (omega (arith, first .shared-slice-known .given (start .args .at)))
+    omega (arith, ap length (word c), read (c .before .before) .counted, first .shared-slice-known .given (start .args .at))
 
-below : (c : tie.After-word-at) → EventsBelow MAX-EVENTS (now (c .word-at .result))
+below : (c : tie.After-word-before) → EventsBelow MAX-EVENTS (now (c .word-before .result))
 below c = rw (word c) (read (c .before .before) .below)
 
 add-word-requires : tie.Need-add-word-requires
@@ -50,14 +48,14 @@ returns : tie.Need-returns
 returns c =
     let call = c .before .before .before .before .before in
     let d = call .before .before .before .before in
-    (λ log t₀ h. no-room h (d .before .before .before .before .before .before .before .before .before .pre .0 .0) _ _ (read (d .before .before)) _ _ (rw (word d) at (call .add-word .ensures)) (c .if1 .taken), tt)
+    (λ log t₀ h. no-room h (d .before .before .before .before .before .before .before .before .before .pre .0 .0) _ _ (read (d .before .before)) _ _ (rw (word d) at (call .add-word .ensures .0)) (c .if1 .taken), tt)
 
 index-rows-requires : tie.Need-index-rows-requires
 index-rows-requires c κs =
     let e = c .before .before in
     let call = e .before .before .before .before .before in
     let p = call .before .before .before .before .before .before .before .before .before .before .before .before .before .pre in
-    let a = call .add-word .ensures in
+    let a = call .add-word .ensures .0 in
     (omega (arith, a .size), e .if1 .left, p .1 .1, omega (arith, e .if1 .left, call .add-word .kept .0, p .0 .3), index-taken _ _ _ _ _ _ (a .fits (e .if1 .left)) (p .1 .0))
 
 add-t29 : tie.Need-add-t29
@@ -74,7 +72,7 @@ returns-3 c =
     let e = c .before .before .before .before .before in
     let call = e .before .before .before .before .before in
     let d = call .before .before .before .before in
-    (λ log t₀ h. word-taken h (d .before .before .before .before .before .before .before .before .before .pre .0 .0) _ _ (read (d .before .before)) _ _ (rw (word d) at (call .add-word .ensures)) (e .if1 .left) (call .add-word .kept .0), c .before .before .index-rows .ensures)
+    (λ log t₀ h. word-taken h (d .before .before .before .before .before .before .before .before .before .pre .0 .0) _ _ (read (d .before .before)) _ _ (rw (word d) at (call .add-word .ensures .0)) (e .if1 .left) (call .add-word .kept .0), c .before .before .index-rows .ensures)
 
 pub take-word-spec : {M : Type 1} → statement M
 take-word-spec =
@@ -83,7 +81,7 @@ take-word-spec =
     (λ c κs. search needs)
     (λ c. search needs)
     (λ c. search needs)
-    word-at-requires
+    word-before-requires
     add-word-requires
     (λ c. search needs)
     (λ c. search needs)

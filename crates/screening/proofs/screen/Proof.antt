@@ -1,7 +1,7 @@
 -- `screening::screen` meets its contract: its tests are those of `screened`, in the same order.
 use mathlib.Core.Path.{sym, _∙_}
 use borrow.Author.Needs.{needs}
-use Rattle.bundles.specs.ReadHead.{kept-refused}
+use Rattle.bundles.specs.HeadReading.{kept-refused}
 use Rattle.screening.specs.ScreenLaws.{word-long, head-wrong}
 use Rattle.screening.proofs.screen.Statement.{statement}
 use Rattle.screening.proofs.screen.Tie as tie

@@ -6,8 +6,7 @@ use denote.Ref.{now}
 use lib.ListN.{length}
 use Rattle.nets.specs.Events.{firstBad, none-bad}
 use Rattle.bundles.specs.Readers.{eventsIn}
-use Rattle.bundles.specs.HeadReading.{HeadAt}
-use Rattle.bundles.specs.ReadHead.{HeadIsRead, kept-read}
+use Rattle.bundles.specs.HeadReading.{HeadAt, HeadIsRead, kept-read}
 use Rattle.stops.specs.Searching.{WordOver}
 use Rattle.screening.specs.ScreenLaws.{counts-differ, joined-wrong, joined-right}
 use Rattle.screening.proofs.screen_heads.Statement.{statement}

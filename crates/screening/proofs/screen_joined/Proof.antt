@@ -1,7 +1,7 @@
 -- `screening::screen_joined` meets its contract: its tests are those of `screenedJoined`, in the same order.
 use mathlib.Core.Path.{sym, _∙_}
 use borrow.Author.Needs.{needs}
-use Rattle.bundles.specs.ReadHead.{kept-refused}
+use Rattle.bundles.specs.HeadReading.{kept-refused}
 use Rattle.screening.specs.ScreenLaws.{joined-long, first-wrong}
 use Rattle.screening.proofs.screen_joined.Statement.{statement}
 use Rattle.screening.proofs.screen_joined.Tie as tie

@@ -1,7 +1,7 @@
 -- `screening::screen_second` meets its contract.
 use mathlib.Core.Path.{sym, _∙_}
 use borrow.Author.Needs.{needs}
-use Rattle.bundles.specs.ReadHead.{kept-read, kept-refused}
+use Rattle.bundles.specs.HeadReading.{kept-read, kept-refused}
 use Rattle.screening.specs.ScreenLaws.{second-wrong}
 use Rattle.screening.proofs.screen_second.Statement.{statement}
 use Rattle.screening.proofs.screen_second.Tie as tie

@@ -5,8 +5,7 @@ use borrow.Author.Needs.{needs}
 use denote.Ref.{now}
 use lib.ListN.{length}
 use Rattle.nets.specs.Events.{firstBad, none-bad}
-use Rattle.bundles.specs.HeadReading.{HeadAt}
-use Rattle.bundles.specs.ReadHead.{HeadIsRead, kept-read}
+use Rattle.bundles.specs.HeadReading.{HeadAt, HeadIsRead, kept-read}
 use Rattle.screening.specs.ScreenLaws.{word-wrong, word-right}
 use Rattle.screening.proofs.screen_word.Statement.{statement}
 use Rattle.screening.proofs.screen_word.Tie as tie

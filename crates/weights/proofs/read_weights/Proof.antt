@@ -42,19 +42,20 @@ weigh-terms-requires c κs =
 
 returns : tie.Need-returns
 unfolding readOf
-returns c = sym (weights-no-factor _ _ _ _ _ (sym (c .before .before .before .number-from .ensures) ∙ ap readOf (c .before .refusal .given .1)))
+returns c = sym (weights-no-factor _ _ _ _ (sym (c .before .before .before .number-from .ensures) ∙ ap readOf (c .before .refusal .given .1)))
 
 returns-2 : tie.Need-returns-2
 unfolding readOf
 returns-2 c =
     let call = c .before .before .before in
-    sym (weights-no-count _ _ _ _ (factor (call .before .before)) _ (sym (call .byte-up-to .ensures) ∙ ap readOf (c .before .refusal2 .given .1)))
+    sym (weights-no-count _ _ _ (factor (call .before .before)) _ (sym (call .byte-up-to .ensures) ∙ ap readOf (c .before .refusal2 .given .1)))
 
 returns-3 : tie.Need-returns-3
 returns-3 c =
     let count = c .before .before in
     let k = count .before .before .before .before in
-    c .weigh-terms .ensures ∙ sym (weights-judged _ _ _ _ (factor k) (size count) (holdsRows _ _ _))
+    let held = k .before .before .before .before .before .pre .0 in
+    c .weigh-terms .ensures ∙ rw (← held .found .events, held .size) (sym (weights-judged _ _ _ (factor k) (size count) (holdsRows _ _ _)))
 
 pub read-weights-spec : {M : Type 1} → statement M
 read-weights-spec =
