@@ -1,11 +1,13 @@
 -- The contents of a bundle that are in their limits are written in bytes.
-use mathlib.Core.List.{List, [], _∷_, _++_, flatMap}
+use mathlib.Core.Path.{refl}
+use mathlib.Core.List.{List, [], _∷_, _++_, flatMap, List·Memᴰ·head, List·Memᴰ·tail}
 use Prim.Native.Nat.{ℕ, zero, suc, _≤_, _<_}
 use native.Mathlib.Omega.{arith}
 use lib.ListN.{length}
 use Rattle.laws.specs.Every.{Every}
 use Rattle.laws.specs.Numbers.{Bytes, bytes-append, le16, bytes-le16}
 use Rattle.nets.specs.Nets.{Word}
+use Rattle.nets.specs.Fits.{Below}
 use Rattle.bundles.specs.Layout.{PlaceFields, TermFields, CertificateFields, kind0, kind1, Head, Contents, wordBytes, placeBytes, placesBytes, termBytes, weightBytes, certificateBytes, headBytes, bytesOf, WordInLimits, TermInLimits, HeadInLimits, CertificateInLimits, InLimits}
 
 bytes-cons : (x : ℕ) (l : List ℕ) → x < 256 → Bytes l → Bytes (x ∷ l)
@@ -23,9 +25,9 @@ unfolding flatMap
 bytes-numbers [] = λ i. omega arith
 bytes-numbers (x ∷ xs) = bytes-append (le16 x) (flatMap le16 xs) (bytes-le16 x) (bytes-numbers xs)
 
-bytes-below : (n : ℕ) → n ≤ 256 → (w : List ℕ) → Every (λ e. e < n) w → Bytes w
-bytes-below n most [] v = λ i. omega arith
-bytes-below n most (e ∷ w) v = bytes-cons e w (omega (arith, v .0, most)) (bytes-below n most w (v .1))
+bytes-below : (n : ℕ) → n ≤ 256 → (w : Word) → Below n w → Bytes w
+bytes-below n most [] below = λ i. omega arith
+bytes-below n most (e ∷ w) below = bytes-cons e w (omega (arith, below e (List·Memᴰ·head refl), most)) (bytes-below n most w (λ x m. below x (List·Memᴰ·tail m)))
 
 bytes-place : (p : PlaceFields) → Bytes (placeBytes p)
 unfolding placeBytes

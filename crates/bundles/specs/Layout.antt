@@ -9,7 +9,7 @@ use Rattle.laws.specs.Numbers.{le16}
 use Rattle.limits.specs.Limits.{MAX-BUNDLE-SIZE, MAX-EVENTS, MAX-LOG-EVENTS, MAX-ROWS, MAX-PLACES, MAX-TERMS}
 use Rattle.nets.specs.Nets.{Word, Log, Counts, Step, eventCount, Place, Net, Term, Weights, Certificate, byPlace, byWeights, Bundle, at}
 use Rattle.nets.specs.Nets.{rows, allowed, continuations, allowedSteps, wrongContinuations, fits, weightsHold, solves, solvesAll}
-use Rattle.nets.specs.Fits.{LogBelow}
+use Rattle.nets.specs.Fits.{Below, LogBelow}
 
 -- the initial tokens, and the in and out numbers of each event
 pub record PlaceFields : Type 0 where
@@ -163,7 +163,7 @@ TwoBytes x = x < 65536
 -- a word has at most 255 events, all below n
 pub record WordInLimits (n : ℕ) (w : Word) : Type 0 where
   pub size : length w ≤ 255
-  pub events : Every (λ e. e < n) w
+  pub events : Below n w
 
 -- a place has n numbers in(i) and n numbers out(i), all of two bytes
 pub record PlaceInLimits (n : ℕ) (p : PlaceFields) : Type 0 where

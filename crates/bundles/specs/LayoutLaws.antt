@@ -8,7 +8,7 @@ use lib.Dec.{T, leb, ltb, leb→le, le→leb, ltb→lt, lt→ltb}
 use lib.Ieee.Fits.{and-i, and-l, and-r}
 use lib.ListN.{length}
 use Rattle.laws.specs.Booleans.{impossible}
-use Rattle.laws.specs.Every.{Every}
+use Rattle.laws.specs.Every.{Every, every-member, every-intro}
 use Rattle.laws.specs.Numbers.{le16, Bytes}
 use Rattle.limits.specs.Limits.{MAX-EVENTS, MAX-LOG-EVENTS, MAX-ROWS, MAX-PLACES, MAX-TERMS}
 use Rattle.nets.specs.Nets.{Word, Log, rows, eventCount}
@@ -84,8 +84,8 @@ module _ (b : List ℕ) (bytes : Bytes b) where
       (λ size v. law-require b (law-times b (law-below n small) size) _ _ _)
       (λ size w v. v .1 .0)))
       (λ w v. ap (λ (l : List ℕ). length w ∷ l) (flatMap-bytes w))
-      (λ w v. (record { size = omega (arith, v .0 .1); events = v .1 .1 .1 }, leb→le _ _ (v .1 .0)))
-      (λ w v. ((tt, omega (arith, v .0 .size)), (le→leb _ _ (v .1), (refl, v .0 .events))))
+      (λ w v. (record { size = omega (arith, v .0 .1); events = λ e m. every-member (λ e. e < n) w (v .1 .1 .1) m }, leb→le _ _ (v .1 .0)))
+      (λ w v. ((tt, omega (arith, v .0 .size)), (le→leb _ _ (v .1), (refl, every-intro (λ e. e < n) w (v .0 .events)))))
 
   law-word : (rowsFit : Log → Bool) (n : ℕ) → n ≤ 256 → (log : Log) → Law b (word rowsFit n log) wordBytes (WordValid rowsFit n log)
   unfolding word

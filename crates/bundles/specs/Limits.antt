@@ -20,7 +20,7 @@ use Rattle.bundles.specs.LayoutLaws.{WordValid, HeadValid, law-head}
 
 -- the events of words in their limits are below n
 words-below : (n : ℕ) (log : Log) → Every (WordInLimits n) log → LogBelow n log
-words-below n log words w m e k = every-member (λ x. x < n) w (every-member (WordInLimits n) log words m .events) k
+words-below n log words w m = every-member (WordInLimits n) log words m .events
 
 pub log-below : (h : Head) → HeadInLimits h → LogBelowIn h
 log-below h limits = words-below (h .events) (wordsIn h) (limits .words)

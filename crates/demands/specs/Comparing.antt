@@ -2,19 +2,19 @@
 use mathlib.Core.Path.{_≡_, refl, sym, ap, _∙_, subst}
 use mathlib.Core.Bool.{Bool, cond}
 use mathlib.Core.Logic.{⊎-elim}
-use mathlib.Core.List.{List, [], _∷_, _++_, flatMap, List·Memᴰ·append-cases, List·Memᴰ·eq-of-singleton}
+use mathlib.Core.List.{List, [], _∷_, _++_, flatMap}
 use Prim.Native.Nat.{ℕ, _≤_, _<_}
 use native.Mathlib.Omega.{arith}
 use lib.ListN.{length, length-append}
 use Rattle.laws.specs.Booleans.{impossible, no-false}
-use Rattle.laws.specs.Every.{Every, every-member, every-intro}
+use Rattle.laws.specs.Every.{every-member}
 use Rattle.laws.specs.Numbers.{Bytes}
 use Rattle.limits.specs.Limits.{MAX-BUNDLE-SIZE, MAX-WORD-EVENTS}
 use Rattle.refusals.specs.Results.{value, refused}
 use Rattle.nets.specs.Nets as nets
 use Rattle.nets.specs.Nets.{Word, stepAfter, permits, permitted, stoppedAt, screen}
 use Rattle.nets.specs.Words.{Prefix, prefix→}
-use Rattle.nets.specs.Fits.{prefix-below}
+use Rattle.nets.specs.Fits.{Below, below-empty, below-snoc, prefix-below}
 use Rattle.nets.specs.TokenGame.{placesOf}
 use Rattle.nets.specs.SeparationProblems.{Complete, Suboptimal, accepted-complete, accepted-suboptimal}
 use Rattle.nets.specs.Comparison.{first-exactly, second-permits, nets-agree, first-screened, second-screened, tallies-agree}
@@ -47,7 +47,7 @@ long-table tableSize b c e = go (judged tableSize b 0) refl e
     go (refused number spot) is e = impossible cc
 
 module _ (b : List ℕ) (bytes : Bytes b) where
-  screenable : (c : Tally) (d : Contents) → AcceptedAs b c d → (w : Word) → length w ≤ MAX-WORD-EVENTS → Every (λ e. e < d .head .events) w
+  screenable : (c : Tally) (d : Contents) → AcceptedAs b c d → (w : Word) → length w ≤ MAX-WORD-EVENTS → Below (d .head .events) w
       → Screenable b w (d .head) (flatMap certificateBytes (d .certificates))
   unfolding bytesOf
   screenable c d a w size events = record {
@@ -59,7 +59,7 @@ module _ (b : List ℕ) (bytes : Bytes b) where
 
   -- screening reads the head that was judged
   pub accepted-head : (c : Tally) (d : Contents) → AcceptedAs b c d → headOf b ≡ d .head
-  accepted-head c d a = screenable-head b bytes [] (d .head) _ (screenable c d a [] (omega arith) tt)
+  accepted-head c d a = screenable-head b bytes [] (d .head) _ (screenable c d a [] (omega arith) (below-empty (d .head .events)))
 
   -- the places of its net are a complete set of regions of its log
   module _ (c : Tally) (d : Contents) (a : AcceptedAs b c d) where
@@ -101,12 +101,8 @@ module _ (b : List ℕ) (bytes : Bytes b) where
         (λ r. omega (arith, every-member (WordInLimits (eventsIn b)) (logIn b) (fields .1 .limits .head .words) (r .1) .size, length-append u (r .2 .0), ap length (r .2 .1)))
         (prefix→ (logIn b) u m)
 
-    longer-below : (w : Word) → Prefix (logIn b) w → (e : ℕ) → e < eventsIn b → Every (λ x. x < eventsIn b) (w ++ e ∷ [])
-    longer-below w m e h = every-intro (λ x. x < eventsIn b) (w ++ e ∷ []) (λ x k.
-        ⊎-elim
-        (prefix-below (eventsIn b) (logIn b) (log-below (headOf b) (fields .1 .limits .head)) w m x)
-        (λ q. subst (λ (y : ℕ). y < eventsIn b) (sym (List·Memᴰ·eq-of-singleton q)) h)
-        (List·Memᴰ·append-cases w k))
+    longer-below : (w : Word) → Prefix (logIn b) w → (e : ℕ) → e < eventsIn b → Below (eventsIn b) (w ++ e ∷ [])
+    longer-below w m e h = below-snoc (eventsIn b) w e .1 (prefix-below (eventsIn b) (logIn b) (log-below (headOf b) (fields .1 .limits .head)) w m, h)
 
     -- a prefix of its log with one event more is readable
     longer-readable : (w : Word) → Prefix (logIn b) w → (e : ℕ) → e < eventsIn b → Readable b (w ++ e ∷ [])

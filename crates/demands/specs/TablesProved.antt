@@ -11,12 +11,12 @@ use lib.ListN.{length}
 use Rattle.laws.specs.Booleans.{at-least, less, true-or-false}
 use Rattle.limits.specs.Limits.{MAX-EVENTS, MAX-ROWS}
 use Rattle.nets.specs.Nets.{Word, Log, rows}
-use Rattle.nets.specs.Events.{EventsBelow, below-exactly, bad-exactly}
+use Rattle.nets.specs.Events.{EventsBelow, below-exactly, bad-exactly, each-below}
 use Rattle.nets.specs.Fits.{LogBelow}
 use Rattle.rows.specs.Rows.{withRows, cleared}
 use Rattle.logs.specs.Answers.{TABLE, rightSummary, freshAnswer, freshTable, rowsAfter, takenAnswer, takenTable}
 use Rattle.logs.specs.Log.{logRows, Takes}
-use Rattle.logs.specs.LogTable.{each-below, taken-below, taken-rows, fresh-passed, log-table}
+use Rattle.logs.specs.LogTable.{taken-below, taken-rows, fresh-passed, log-table}
 use Rattle.tables.specs.Causes.{eventCount-right, eventCount-wrong, summary-right, fresh-refused, fresh-next, fresh-5, fresh-16, fresh-gives, take-refused, take-next, take-5, take-16, take-8, take-7, take-9, take-gives}
 use Rattle.tables.specs.Tables.{rows-after, taken-kept, taken-appended, taken-bits, taken-used, taken-unused, taken-new, taken-rest, taken-length}
 use Rattle.tables.specs.LogNumbers.{row-number, row-zero, row-passed, row-bit, row-clear, table-zero, table-rest, table-length}

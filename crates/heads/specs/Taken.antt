@@ -13,7 +13,7 @@ use Rattle.limits.specs.Limits.{MAX-EVENTS, MAX-LOG-EVENTS, MAX-ROWS}
 use Rattle.refusals.specs.Table.{ROWS}
 use Rattle.refusals.specs.Results.{refused, bind}
 use Rattle.refusals.specs.declared.Refusal.{Refusal}
-use Rattle.nets.specs.Events.{EventsBelow}
+use Rattle.nets.specs.Events.{EventsBelow, each-below}
 use Rattle.nets.specs.Nets.{Word, Log, eventCount, rows}
 use Rattle.nets.specs.LogLaws.{eventCount-snoc}
 use Rattle.nets.specs.Fits.{Below, LogBelow}
@@ -22,7 +22,7 @@ use Rattle.logs.specs.Answers.{TABLE}
 use Rattle.rows.specs.Index.{Index}
 use Rattle.logs.specs.Log.{logRows}
 use Rattle.logs.specs.LogRows.{take-word, first-row}
-use Rattle.logs.specs.LogTable.{length-logRows, each-below}
+use Rattle.logs.specs.LogTable.{length-logRows}
 use Rattle.rows.specs.Growth.{length-take}
 use Rattle.logs.specs.Taking.{drop-more}
 use Rattle.rows.specs.Flat.{length-rows}

@@ -3,7 +3,7 @@ use mathlib.Core.Path.{_≡_, refl, sym, ap, _∙_, subst}
 use mathlib.Core.Bool.{true}
 use mathlib.Core.Logic.{⊎-elim}
 use mathlib.Core.List.{List, [], _∷_, _++_, map, map-map, append-assoc, List·Memᴰ·head, List·Memᴰ·tail, List·Memᴰ·not-nil}
-use Prim.Native.Nat.{ℕ, zero, suc, _+_, _*_, _-_, _<_, _≤_, min, suc-le-suc}
+use Prim.Native.Nat.{ℕ, zero, suc, _+_, _*_, _-_, _<_, _≤_, min}
 use native.Mathlib.Nat.{le-refl, le-trans, add-zero, zero-add, add-assoc, lt-of-lt-of-le}
 use native.Mathlib.Omega.{arith}
 use lib.ListN.{length, drop, length-append, length-drop, length-map, length-replicate, replicate-append-replicate}
@@ -15,7 +15,7 @@ use Rattle.laws.specs.Bits.{bit, maskOf, maskOf-same, maskOf-bit}
 use Rattle.laws.specs.Scans.{all-failing}
 use Rattle.limits.specs.Limits.{MAX-EVENTS, MAX-LOG-EVENTS, MAX-ROWS}
 use Rattle.refusals.specs.Results.{passed}
-use Rattle.nets.specs.Events.{firstBad, EventsBelow, none-bad}
+use Rattle.nets.specs.Events.{firstBad, EventsBelow, none-bad, each-below}
 use Rattle.nets.specs.Nets.{Word, Log, Counts, eventCount, rows, allowed, traffic}
 use Rattle.nets.specs.Fits.{Below, LogBelow}
 use Rattle.nets.specs.Wide.{wide, rows-wide, allowed-wide}
@@ -176,10 +176,6 @@ fresh-passed n t s e =
     (rightEventCount-most n (b .0), cc (b .1))
 
 -- the words that were taken have events below n only
-pub each-below : (n : ℕ) (w : Word) → EventsBelow n w → Below n w
-each-below n (a ∷ w) h e (List·Memᴰ·head q) = subst (λ (x : ℕ). x < n) (sym q) (h 0 (omega arith))
-each-below n (a ∷ w) h e (List·Memᴰ·tail m) = each-below n w (λ k l. h (suc k) (suc-le-suc l)) e m
-
 pub taken-below : (s : Summary) (t : List ℕ) (ws : Log) (s′ : Summary) (t′ : List ℕ) → Takes s t ws s′ t′ → LogBelow (s .n) ws
 unfolding Takes
 taken-below s t [] s′ t′ takes x m = absurd (List·Memᴰ·not-nil m)

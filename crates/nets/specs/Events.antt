@@ -1,22 +1,29 @@
 -- Words over n events, by position: the first event that is not below n.
-use mathlib.Core.Path.{_≡_}
+use mathlib.Core.Path.{_≡_, sym, subst}
 use mathlib.Core.Bool.{true, false}
 use mathlib.Core.Logic.{_↔_}
-use Prim.Native.Nat.{ℕ, _≤_, _<_}
+use mathlib.Core.List.{_∷_, List·Memᴰ·head, List·Memᴰ·tail}
+use Prim.Native.Nat.{ℕ, suc, _≤_, _<_, suc-le-suc}
+use native.Mathlib.Omega.{arith}
 use borrow.Author.Tests.{ltb-true, ltb-false, lt-ltb, le-ltb}
 use lib.Dec.{ltb}
 use lib.ListN.{length, getD}
 use Rattle.laws.specs.Lists.{all}
 use Rattle.laws.specs.Scans.{firstFailing, failing-none, failing-exactly, all-exactly}
 use Rattle.nets.specs.Nets.{Word}
+use Rattle.nets.specs.Fits.{Below}
 
 -- the position of the first event that is not below n, or the word's length
 unfoldable pub firstBad : ℕ → Word → ℕ
 firstBad n w = firstFailing (λ e. ltb e n) w
 
--- every event of a word is below n
+-- every event of a word is below n: `Below`, said by position
 abbrev pub EventsBelow : ℕ → Word → Type 0
 EventsBelow n w = (k : ℕ) → k < length w → getD w k 0 < n
+
+pub each-below : (n : ℕ) (w : Word) → EventsBelow n w → Below n w
+each-below n (a ∷ w) h e (List·Memᴰ·head q) = subst (λ (x : ℕ). x < n) (sym q) (h 0 (omega arith))
+each-below n (a ∷ w) h e (List·Memᴰ·tail m) = each-below n w (λ k l. h (suc k) (suc-le-suc l)) e m
 
 -- where no event is bad, all are below n
 pub none-bad : (n : ℕ) (w : Word) → length w ≤ firstBad n w → EventsBelow n w

@@ -9,7 +9,6 @@ use lib.Dec.{T, leb, ltb, ltb→lt, lt→ltb}
 use lib.ListN.{length}
 use Rattle.laws.specs.Booleans.{impossible, yes-true}
 use Rattle.laws.specs.Lists.{all, all-member, all-intro}
-use Rattle.laws.specs.Every.{Every, every-member, every-intro}
 use Rattle.laws.specs.Numbers.{Bytes}
 use Rattle.limits.specs.Limits.{MAX-BUNDLE-SIZE, MAX-WORD-EVENTS, rightSize-bounds}
 use Rattle.refusals.specs.Table.{WORD-LENGTH, WORD-EVENT}
@@ -39,7 +38,7 @@ pub record Screenable (b : List ℕ) (w : Word) (h : Head) (rest : List ℕ) : T
   pub size : length b ≤ MAX-BUNDLE-SIZE
   pub front : HeadInFront b h rest
   pub wordSize : length w ≤ MAX-WORD-EVENTS
-  pub events : Every (λ e. e < h .events) w
+  pub events : Below (h .events) w
 
 -- ---- what a readable word has passed
 
@@ -126,18 +125,17 @@ module _ (b : List ℕ) (w : Word) (readable : Readable b w) where
 -- ---- which words are readable
 
 module _ (n : ℕ) (w : Word) where
-  all→every : T (all (λ e. ltb e n) w) → Every (λ e. e < n) w
-  all→every t = every-intro (λ e. e < n) w (λ e m. ltb→lt e n (all-member (λ e. ltb e n) w t m))
+  all→below : T (all (λ e. ltb e n) w) → Below n w
+  all→below t e m = ltb→lt e n (all-member (λ e. ltb e n) w t m)
 
-  every→all : Every (λ e. e < n) w → T (all (λ e. ltb e n) w)
-  every→all v = all-intro (λ e. ltb e n) w (λ e m. lt→ltb e n (every-member (λ e. e < n) w v m))
+  below→all : Below n w → T (all (λ e. ltb e n) w)
+  below→all below = all-intro (λ e. ltb e n) w (λ e m. lt→ltb e n (below e m))
 
 -- its events are those of the bundle
 pub readable-below : (b : List ℕ) (w : Word) → Readable b w → Below (eventsIn b) w
-readable-below b w readable e m =
+readable-below b w readable =
     let a = readable→ b w readable in
-    subst (λ (h : Head). e < h .events) (sym (read-head-of b (a .0) (a .1 .head)))
-    (ltb→lt e (a .0 .events) (all-member (λ e. ltb e (a .0 .events)) w (rw (a .1 .events) tt) m))
+    subst (λ (h : Head). Below (h .events) w) (sym (read-head-of b (a .0) (a .1 .head))) (all→below (a .0 .events) w (rw (a .1 .events) tt))
 
 module _ (b : List ℕ) (bytes : Bytes b) (w : Word) where
   passed→ : (h : Head) → Passed b w h → (rest : List ℕ) × Screenable b w h rest
@@ -148,7 +146,7 @@ module _ (b : List ℕ) (bytes : Bytes b) (w : Word) where
           size = rightSize-bounds (length b) right .1;
           front = front;
           wordSize = leb-true (length w) MAX-WORD-EVENTS (p .wordSize);
-          events = all→every (h .events) w (rw (p .events) tt);
+          events = all→below (h .events) w (rw (p .events) tt);
         },
       )
 
@@ -156,7 +154,7 @@ module _ (b : List ℕ) (bytes : Bytes b) (w : Word) where
   →passed h rest s = record {
     wordSize = le-leb (length w) MAX-WORD-EVENTS (s .wordSize);
     head = front→read b bytes h rest (→size b h rest (s .front .layout) (s .size)) (s .front);
-    events = yes-true (all (λ e. ltb e (h .events)) w) (every→all (h .events) w (s .events));
+    events = yes-true (all (λ e. ltb e (h .events)) w) (below→all (h .events) w (s .events));
   }
 
   -- a word is readable exactly when the bundle begins with a head in its limits, and the word's events are that head's

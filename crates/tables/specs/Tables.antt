@@ -14,6 +14,7 @@ use Rattle.laws.specs.Lists.{all, keep, tabulate, tabulate-same, equal, eq→eq
 use Rattle.laws.specs.Scans.{firstFailing, failing-exactly, failing-some}
 use Rattle.laws.specs.Bits.{bit, bit-of-zero}
 use Rattle.limits.specs.Limits.{MAX-EVENTS}
+use Rattle.nets.specs.Events.{each-below}
 use Rattle.nets.specs.Nets.{Word, Counts, counts, beginnings}
 use Rattle.nets.specs.Words.{Begins}
 use Rattle.nets.specs.Fits.{Below}
@@ -25,7 +26,7 @@ use Rattle.rows.specs.Visiting.{countsOf}
 use Rattle.logs.specs.LogRows.{after, counts-none}
 use Rattle.tables.specs.Leaving.{missing, take-counts, onRow, maskOn, take-bits, Follows}
 use Rattle.tables.specs.Passing.{trafficOn, Passed, take-passed}
-use Rattle.logs.specs.LogTable.{Twelve, rows-twelve, take-twelve, read-with, rest-with, length-with, Took, took, each-below}
+use Rattle.logs.specs.LogTable.{Twelve, rows-twelve, take-twelve, read-with, rest-with, length-with, Took, took}
 use Rattle.logs.specs.declared.Summary.{Summary}
 use Rattle.logs.specs.declared.Taken.the-variants.{Next}
 
