@@ -39,7 +39,7 @@ module _ (b : List ℕ) (w : Word) (s : Stop) (is : screened b w ≡ screening.S
       let found = readable-exactly b bytes w .0 readable in
       let same = screenable-head b bytes w (found .0) (found .1) (found .2) in
       let m = Memᴰ·of-map toPlace (headOf b .places) (getD-member (netIn b) (s .place) noPlace there) in
-      let limits = every-member (PlaceInLimits (headOf b .events)) (headOf b .places) (subst HeadInLimits (sym same) (found .2 .limits) .places) (m .1) in
+      let limits = every-member (PlaceInLimits (headOf b .events)) (headOf b .places) (subst HeadInLimits (sym same) (found .2 .front .limits) .places) (m .1) in
       subst (λ (p : Place). p .consumed (getD w (s .position) 0) ≤ 65535) (m .2) (two-bytes (m .0 .consumed) (limits .consumed) (getD w (s .position) 0))
 
   stop-lacks : StopLacks b s place (take (s .position) w) (getD w (s .position) 0)
