@@ -1,7 +1,6 @@
-//! What the documents show is what the programs do.
+//! What the documents say is what the library and the files have.
 
-use differential::programs::run;
-use differential::samples::{all, directory};
+use differential::samples::directory;
 use hovmekhar::Kind;
 use std::fs;
 use std::path::{Path, PathBuf};
@@ -72,34 +71,4 @@ fn changes_begin_with_the_version() {
     let heading = changes.lines().find(|line| line.starts_with("## "));
     let version = heading.and_then(|line| line.strip_prefix("## ")?.split(':').next());
     assert_eq!(version, Some(env!("CARGO_PKG_VERSION")));
-}
-
-/// What samples/README.md says that the programs do with each file.
-#[test]
-fn sample_files() {
-    let table = document("samples/README.md");
-    for sample in all() {
-        let file = directory().join(sample.name);
-        let row = table
-            .lines()
-            .find(|line| line.starts_with(&format!("| `{}` |", sample.name)))
-            .unwrap_or_else(|| panic!("{} is not described", sample.name));
-        let cells: Vec<&str> = row.split('|').map(str::trim).collect();
-        let [_, _, _, judged, unsealed, screened, _] = cells[..] else {
-            panic!("{row}");
-        };
-        let line = |cell: &str| format!("{}\n", between_ticks(cell).expect("a line"));
-        let judge = run("judge", &[] as &[&str], &sample.file);
-        assert_eq!(judge.output, line(judged).into_bytes(), "{row}");
-        let unseal = run("unseal", &[] as &[&str], &sample.file);
-        let length = unsealed.split(',').next().map(str::parse);
-        assert_eq!(length, Some(Ok(unseal.output.len())), "{row}");
-        assert_eq!(
-            unsealed.contains("refusal"),
-            !unseal.errors.is_empty(),
-            "{row}"
-        );
-        let screen = run("screen", &[file.as_os_str(), "0".as_ref()], &[]);
-        assert_eq!(screen.output, line(screened).into_bytes(), "{row}");
-    }
 }
