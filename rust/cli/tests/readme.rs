@@ -80,7 +80,9 @@ fn commands() {
 
 /// What stands between ticks in a cell of a table.
 fn between_ticks(cell: &str) -> &str {
-    let inner = cell.strip_prefix('`').and_then(|cell| cell.strip_suffix('`'));
+    let inner = cell
+        .strip_prefix('`')
+        .and_then(|cell| cell.strip_suffix('`'));
     inner.unwrap_or_else(|| panic!("no ticks: {cell}"))
 }
 

@@ -56,13 +56,7 @@ pub fn run_with(arguments: &[&OsStr], input: Stdio, output: Stdio) -> Done {
 
 /// Runs the program, and writes these bytes to its standard input, where that is a
 /// pipe, in pieces of this many bytes.
-fn run_to(
-    arguments: &[&OsStr],
-    input: Stdio,
-    output: Stdio,
-    bytes: &[u8],
-    piece: usize,
-) -> Done {
+fn run_to(arguments: &[&OsStr], input: Stdio, output: Stdio, bytes: &[u8], piece: usize) -> Done {
     let mut running = Command::new(path())
         .args(arguments)
         .stdin(input)

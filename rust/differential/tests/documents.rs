@@ -2,6 +2,7 @@
 
 use differential::samples::directory;
 use hovmekhar::Kind;
+use std::collections::HashSet;
 use std::fs;
 use std::path::{Path, PathBuf};
 
@@ -146,7 +147,7 @@ fn named_files_are_there() {
                 continue;
             };
             let is_name = |byte: u8| byte.is_ascii_alphanumeric() || b"_.-/".contains(&byte);
-            if !word.bytes().all(is_name) || word.contains("NAME") {
+            if !word.bytes().all(is_name) || word.contains("NAME") || word.contains("/target/") {
                 continue;
             }
             let edit = format!("crates/{first}/must-fail/{rest}.edit");
@@ -165,6 +166,41 @@ fn named_files_are_there() {
     assert!(missing.is_empty(), "{missing:#?}");
 }
 
+/// All words of the definitions, laws and functions.
+fn words_of_crates() -> HashSet<String> {
+    let mut words = HashSet::new();
+    let mut folders = vec![root().join("crates")];
+    while let Some(folder) = folders.pop() {
+        for entry in fs::read_dir(&folder).expect("a folder") {
+            let path = entry.expect("an entry").path();
+            let extension = path.extension().and_then(|extension| extension.to_str());
+            if path.is_dir() {
+                folders.push(path);
+            } else if matches!(extension, Some("antt" | "rt")) {
+                let text = fs::read_to_string(&path).expect("text");
+                let ends = |c: char| c.is_whitespace() || "(){}[];:,.&<>\"`⌜⌝".contains(c);
+                words.extend(text.split(ends).map(str::to_string));
+            }
+        }
+    }
+    words
+}
+
+/// Each theorem, definition and function that docs/ASSURANCE.md names is one.
+#[test]
+fn named_theorems_are_there() {
+    let words = words_of_crates();
+    let page = document("docs/ASSURANCE.md");
+    let is_crate = |name: &str| root().join("crates").join(name).exists();
+    let is_name = |c: char| c.is_alphanumeric() || "-_₁₂".contains(c);
+    let unknown: Vec<&str> = quoted(&page)
+        .into_iter()
+        .filter(|quoted| quoted.chars().all(is_name) && !is_crate(quoted))
+        .filter(|quoted| *quoted != "hov" && !words.contains(*quoted))
+        .collect();
+    assert!(unknown.is_empty(), "{unknown:?}");
+}
+
 /// Each page that another one links to is there, and has the heading.
 #[test]
 fn links_lead_somewhere() {
@@ -181,7 +217,9 @@ fn links_lead_somewhere() {
             assert!(file.exists(), "{name}: {target}");
             if !heading.is_empty() {
                 let text = fs::read_to_string(&file).expect("a page");
-                let is_there = text.lines().any(|line| anchor(line) == Some(heading.into()));
+                let is_there = text
+                    .lines()
+                    .any(|line| anchor(line) == Some(heading.into()));
                 assert!(is_there, "{name}: {target}");
             }
         }

@@ -33,7 +33,9 @@ const CALLS: [(&str, &str, &str); 21] = [
 /// The paths in a directory, or none where there is no such directory.
 fn paths_in(directory: &Path) -> Vec<PathBuf> {
     let entries = fs::read_dir(directory).into_iter().flatten();
-    entries.map(|entry| entry.expect("an entry").path()).collect()
+    entries
+        .map(|entry| entry.expect("an entry").path())
+        .collect()
 }
 
 fn text(path: &Path) -> String {
