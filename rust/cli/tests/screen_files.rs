@@ -52,46 +52,59 @@ fn owed(answer: Outcome<Screened>, word: &[u8]) -> Done {
     }
 }
 
-/// A refusal of each number that screening a file can have, and their order.
-#[test]
-fn refusals() {
-    let place = Place::new("screen_refusals");
+/// A file and a word, and the number and spot of the refusal that they get.
+type Case = (Vec<u8>, Vec<u8>, u8, usize);
+
+/// Files that do not open: the lowest faulty block, and of one block 17, 18 and 2 in order.
+fn files_that_do_not_open() -> Vec<Case> {
     let longest = build(&Rng::new(5).bytes(MAX_BUNDLE_SIZE));
-    let longer = [longest.as_slice(), &[0]].concat();
     let mut second = build(&[1; 505]);
     second[512 + 4] ^= 1;
     let mut second_18 = second.clone();
     second_18[512 + 5] ^= 1;
     let mut second_17 = second_18.clone();
     second_17[512] ^= 1;
+    vec![
+        (vec![], vec![], 1, 0),
+        (vec![0; 513], vec![0], 1, 0),
+        ([longest.as_slice(), &[0]].concat(), vec![0], 1, 0),
+        (vec![0; 512], vec![0], 18, 0),
+        (second.clone(), vec![0], 2, 1),
+        (second_18, vec![0], 18, 1),
+        (second_17, vec![0], 17, 1),
+        // Opening comes before the word.
+        (second, vec![9; MAX_WORD_EVENTS + 1], 2, 1),
+    ]
+}
+
+/// Bundles and words that are refused.
+fn words_that_are_refused() -> Vec<Case> {
     let word = [[255].as_slice(), &[0; 255]].concat();
     let five = [[1, 5].as_slice(), &word.repeat(5)].concat();
     let a = build(&SAMPLE_A);
     let long = vec![9; MAX_WORD_EVENTS + 1];
-    let cases: [(&[u8], &[u8], (u8, usize)); 18] = [
-        (&[], &[], (1, 0)),
-        (&[0; 513], &[0], (1, 0)),
-        (&longer, &[0], (1, 0)),
-        (&[0; 512], &[0], (18, 0)),
-        (&second, &[0], (2, 1)),
-        (&second_18, &[0], (18, 1)),
-        (&second_17, &[0], (17, 1)),
-        (&build(&SAMPLE_A[..10]), &[0], (6, 9)),
-        (&build(&[0]), &[0], (7, 0)),
-        (&build(&[13]), &[0], (7, 0)),
-        (&build(&five), &[], (8, 1_026)),
-        (&a, &[0, 1, 2], (15, 2)),
-        (&a, &[0, 255, 2], (15, 1)),
-        // The bundle's refusals come before that of an event.
-        (&build(&SAMPLE_A[..10]), &[9], (6, 9)),
-        // 14 comes before 15 and before the bundle's; opening comes before all.
-        (&a, &long, (14, 65_535)),
-        (&a, &long[1..], (15, 0)),
-        (&build(&[0]), &long, (14, 65_535)),
-        (&second, &long, (2, 1)),
-    ];
-    for (file, word, (number, spot)) in cases {
-        let done = place.screen(file, word);
+    vec![
+        (build(&SAMPLE_A[..10]), vec![0], 6, 9),
+        (build(&[0]), vec![0], 7, 0),
+        (build(&[13]), vec![0], 7, 0),
+        (build(&five), vec![], 8, 1_026),
+        (a.clone(), vec![0, 1, 2], 15, 2),
+        (a.clone(), vec![0, 255, 2], 15, 1),
+        // The bundle's refusals come before that of an event, and 14 before both.
+        (build(&SAMPLE_A[..10]), vec![9], 6, 9),
+        (a.clone(), long.clone(), 14, 65_535),
+        (a, long[1..].to_vec(), 15, 0),
+        (build(&[0]), long, 14, 65_535),
+    ]
+}
+
+/// A refusal of each number that screening a file can have, and their order.
+#[test]
+fn refusals() {
+    let place = Place::new("screen_refusals");
+    let cases = [files_that_do_not_open(), words_that_are_refused()];
+    for (file, word, number, spot) in cases.concat() {
+        let done = place.screen(&file, &word);
         assert_eq!(done, Done::new(1, &refused(number, spot, "file"), ""));
     }
     // What follows the places is not read.
