@@ -88,10 +88,10 @@ extern "C" {
 #endif
 
 /** The version, as text and in its three numbers. */
-#define HOV_VERSION "0.8.1"
+#define HOV_VERSION "0.8.2"
 #define HOV_VERSION_MAJOR 0
 #define HOV_VERSION_MINOR 8
-#define HOV_VERSION_PATCH 1
+#define HOV_VERSION_PATCH 2
 
 /** Bytes of a block. */
 #define HOV_BLOCK_SIZE 512

@@ -1,3 +1,1 @@
 pub mod Inputs
-pub mod Answers
-pub mod Names

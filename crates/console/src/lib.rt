@@ -1,17 +1,10 @@
-// What the programs share: reading an input whole, writing bytes, and saying what went wrong. All are inner functions: no contract can say what a
-// program reads or writes, so the work of each program, and the line that it prints, is a function on slices.
-pub mod names; // a file's name in a message
-
+// Reading an input whole, writing bytes, and saying what went wrong. All are inner functions: no contract can say what a program reads or writes,
+// so the work of a program, and the line that it prints, is a function on slices.
 use libc::STDERR_FILENO;
-use libc::STDIN_FILENO;
 use libc::STDOUT_FILENO;
-use lines::write_line;
-use refusals::Written;
-ghost use mathlib.Core.Path.{_≡_};
 ghost use Prim.Native.Nat.{_-_, _≤_};
-ghost use lib.ListN.{length, take};
+ghost use lib.ListN.{length};
 ghost use Rattle.console.specs.Inputs.{Within};
-ghost use Rattle.console.specs.Answers.{Printable, printed};
 
 // What was read: so many bytes, or a read that failed.
 pub enum Input {
@@ -61,48 +54,9 @@ pub fn has_arguments(usage: &[u8]) -> bool {
     true
 }
 
-// Reads standard input for a program that takes no arguments. What is wrong goes to standard error.
-pub fn read_standard_input(usage: &[u8], buffer: &mut [u8]) -> Input
-    ensures { λ r. ⌜ Within r (length (now (buffer .exit))) ⌝ }
-{
-    if has_arguments(usage) {
-        return Input::Failed;
-    }
-    let input = read_input(STDIN_FILENO, buffer);
-    if let Input::Failed = input {
-        os::fail(b"standard input");
-    }
-    input
-}
-
 // Writes bytes to standard output. Says on standard error where it did not take all of them.
 pub fn print(bytes: &[u8]) {
     if !io::write_all(STDOUT_FILENO, bytes) {
         os::fail(b"standard output");
-    }
-}
-
-// Puts what `seal` and `unseal` print of an answer in front of the output: the result, which stands there, or the line of the refusal. Its length.
-pub fn put_answer(answer: Written, output: &mut [u8]) -> usize
-    requires { ⌜ Printable answer (length (now output)) ⌝ }
-    ensures { λ r. ⌜ r ≤ length (now (output .exit)) ⌝ }
-    ensures { λ r. ⌜ take r (now (output .exit)) ≡ printed answer (now (output .entry)) ⌝ }
-{
-    match answer {
-        Written::Refused(refusal) => write_line(
-            output,
-            b"refused",
-            &[refusal.number as usize, refusal.spot],
-        ),
-        Written::Length(n) => n,
-    }
-}
-
-// Prints what was put in front of the output for an answer. The line of a refusal goes to standard error too: a result may be any bytes, and only
-// standard error tells it from a refusal.
-pub fn print_answer(answer: Written, bytes: &[u8]) {
-    print(bytes);
-    if let Written::Refused(_) = answer {
-        io::write_all(STDERR_FILENO, bytes);
     }
 }

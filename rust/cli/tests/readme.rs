@@ -1,9 +1,13 @@
-//! What the README shows is what the programs and `hov` do.
+//! What README.md and samples/README.md show is what `judge` and `hov` do.
+
+mod support;
 
 use differential::c_programs::root;
+use differential::{program, samples};
 use std::path::Path;
 use std::process::Command;
 use std::{env, fs};
+use support::{hov, hov_with};
 
 /// A command of a document, and what it is said to print.
 struct Shown {
@@ -50,11 +54,10 @@ fn commands() {
         "hov judge ",
         "hov screen ",
         "hov show ",
+        "hov seal ",
+        "hov unseal ",
         "examples/may_run.sh ",
         "target/bin/judge ",
-        "target/bin/screen ",
-        "target/bin/seal ",
-        "target/bin/unseal ",
     ] {
         let shows = |shown: &Shown| shown.command.contains(used);
         assert!(commands.iter().any(shows), "no command shows {used}");
@@ -72,5 +75,40 @@ fn commands() {
             .expect("there is a shell");
         let output = String::from_utf8(done.stdout).expect("commands print text");
         assert_eq!(output, printed, "{command}");
+    }
+}
+
+/// What stands between ticks in a cell of a table.
+fn between_ticks(cell: &str) -> &str {
+    let inner = cell
+        .strip_prefix('`')
+        .and_then(|cell| cell.strip_suffix('`'));
+    inner.unwrap_or_else(|| panic!("no ticks: {cell}"))
+}
+
+/// What samples/README.md says of each file: the line of `judge`, how many bytes
+/// `hov unseal` writes, and the verdict at the start of `hov screen`'s line.
+#[test]
+fn sample_files() {
+    let table = fs::read_to_string(root().join("samples/README.md")).expect("samples/README.md");
+    for sample in samples::all() {
+        let row = table
+            .lines()
+            .find(|line| line.starts_with(&format!("| `{}` |", sample.name)))
+            .unwrap_or_else(|| panic!("{} is not described", sample.name));
+        let cells: Vec<&str> = row.split('|').map(str::trim).collect();
+        let [_, _, _, judged, unsealed, screened, _] = cells[..] else {
+            panic!("{row}");
+        };
+        let line = format!("{}\n", between_ticks(judged));
+        assert_eq!(program::run(&sample.file).output, line, "{row}");
+        let (status, bundle, _) = hov_with(&["unseal", "-", "-"], &sample.file);
+        let written = (status == 0).then(|| bundle.len().to_string());
+        assert_eq!(written.as_deref().unwrap_or("none"), unsealed, "{row}");
+        let name = format!("samples/{}", sample.name);
+        let line = hov(&["screen", &name, "0"]).output;
+        let verdict = line.split(&format!(" {name}")).next().unwrap_or_default();
+        let verdict = verdict.split(':').next().map(str::trim_end);
+        assert_eq!(verdict, Some(between_ticks(screened)), "{row}");
     }
 }

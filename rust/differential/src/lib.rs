@@ -16,7 +16,7 @@
 //! - [`long_words`]: long words, and places that have no token to spare on them.
 //! - [`samples`]: the files in `samples/`.
 //! - [`vectors`]: cases with their answers, from a file.
-//! - [`programs`]: the programs, run as a person or a script runs them.
+//! - [`program`]: the program `judge`, run as a person or a script runs it.
 //! - [`c_programs`]: programs in C, compiled and linked with the library.
 //! - [`guarded`]: lent buffers with guards on both sides.
 //! - [`run`]: makes each call on both sides, compares, and counts.
@@ -26,7 +26,7 @@
 //! - `HOVMEKHAR_SEED`: the seed. Without it each test takes a fresh one from the
 //!   clock. A test prints its seed, and every failed comparison names it.
 //! - `HOVMEKHAR_CASES`: a multiplier for the number of cases, for long runs.
-//! - `HOVMEKHAR_BIN_DIR`: the directory of the programs, an absolute path.
+//! - `HOVMEKHAR_BIN_DIR`: the directory of `judge`, an absolute path.
 //!   Without it that is `target/bin` beside the Rust workspace.
 
 #![forbid(unsafe_code)]
@@ -45,7 +45,7 @@ pub mod logs;
 pub mod long_words;
 pub mod nets;
 pub mod places;
-pub mod programs;
+pub mod program;
 pub mod pruning;
 pub mod rng;
 pub mod run;

@@ -170,16 +170,6 @@ pub fn screened_line(answer: Outcome<Screened>) -> String {
     }
 }
 
-/// The answer of screening in words, as it was before it told the shortfall.
-pub fn screened_line_without_shortfall(answer: Outcome<Screened>) -> String {
-    match answer {
-        Ok(Screened::Stopped {
-            position, place, ..
-        }) => format!("stopped {position} {place}"),
-        _ => screened_line(answer),
-    }
-}
-
 fn refused_line(Refusal { number, spot }: Refusal) -> String {
     format!("refused {number} {spot}")
 }

@@ -1,8 +1,8 @@
-//! What the documents show is what the programs do.
+//! What the documents say is what the library and the files have.
 
-use differential::programs::run;
-use differential::samples::{all, directory};
+use differential::samples::directory;
 use hovmekhar::Kind;
+use std::collections::HashSet;
 use std::fs;
 use std::path::{Path, PathBuf};
 
@@ -74,32 +74,162 @@ fn changes_begin_with_the_version() {
     assert_eq!(version, Some(env!("CARGO_PKG_VERSION")));
 }
 
-/// What samples/README.md says that the programs do with each file.
+/// Each decision has its number, in order, and stands in the index by subject.
 #[test]
-fn sample_files() {
-    let table = document("samples/README.md");
-    for sample in all() {
-        let file = directory().join(sample.name);
-        let row = table
-            .lines()
-            .find(|line| line.starts_with(&format!("| `{}` |", sample.name)))
-            .unwrap_or_else(|| panic!("{} is not described", sample.name));
-        let cells: Vec<&str> = row.split('|').map(str::trim).collect();
-        let [_, _, _, judged, unsealed, screened, _] = cells[..] else {
-            panic!("{row}");
-        };
-        let line = |cell: &str| format!("{}\n", between_ticks(cell).expect("a line"));
-        let judge = run("judge", &[] as &[&str], &sample.file);
-        assert_eq!(judge.output, line(judged).into_bytes(), "{row}");
-        let unseal = run("unseal", &[] as &[&str], &sample.file);
-        let length = unsealed.split(',').next().map(str::parse);
-        assert_eq!(length, Some(Ok(unseal.output.len())), "{row}");
-        assert_eq!(
-            unsealed.contains("refusal"),
-            !unseal.errors.is_empty(),
-            "{row}"
-        );
-        let screen = run("screen", &[file.as_os_str(), "0".as_ref()], &[]);
-        assert_eq!(screen.output, line(screened).into_bytes(), "{row}");
+fn decisions_are_indexed() {
+    let decisions = document("docs/DECISIONS.md");
+    let (index, points) = decisions.split_once("\n## ").expect("an index in front");
+    let numbers: Vec<usize> = points
+        .lines()
+        .filter_map(|line| line.split_once(". **")?.0.parse().ok())
+        .collect();
+    assert!(numbers.iter().copied().eq(1..=numbers.len()), "{numbers:?}");
+    let indexed: Vec<&str> = index
+        .lines()
+        .filter_map(|line| line.split('|').nth(2))
+        .flat_map(|cell| cell.split(',').map(str::trim))
+        .collect();
+    for number in numbers {
+        let number = number.to_string();
+        assert!(indexed.contains(&number.as_str()), "{number}");
     }
+}
+
+/// The table of crates in CONTRIBUTING.md has each crate that is listed, and no other.
+#[test]
+fn crates_are_described() {
+    let list = document("crates.txt");
+    let mut listed: Vec<&str> = list
+        .lines()
+        .filter(|line| !line.starts_with('#'))
+        .filter_map(|line| Some(line.split_once(':')?.0))
+        .collect();
+    let page = document("CONTRIBUTING.md");
+    let (_, table) = page.split_once("| Crate | Holds |").expect("the table");
+    let (table, _) = table.split_once("\n\n").expect("its end");
+    let mut described: Vec<&str> = table
+        .lines()
+        .filter_map(|row| between_ticks(row.split('|').nth(1)?.trim()))
+        .collect();
+    listed.sort_unstable();
+    described.sort_unstable();
+    assert_eq!(described, listed);
+}
+
+/// The pages that name files.
+const PAGES: [&str; 8] = [
+    "README.md",
+    "CONTRIBUTING.md",
+    "samples/README.md",
+    "docs/ASSURANCE.md",
+    "docs/DECISIONS.md",
+    "docs/FORMAT.md",
+    "docs/LIBRARY.md",
+    "docs/SPEED.md",
+];
+
+/// What stands between ticks in a page, line by line.
+fn quoted(page: &str) -> Vec<&str> {
+    let of_line = |line| str::split(line, '`').skip(1).step_by(2);
+    page.lines().flat_map(of_line).collect()
+}
+
+/// Each file, folder and wrong program that a page names is there.
+#[test]
+fn named_files_are_there() {
+    let folders = ["crates", "rust", "docs", "examples", "include", "samples"];
+    let mut missing = Vec::new();
+    for name in PAGES {
+        let page = document(name);
+        for quoted in quoted(&page) {
+            let word = quoted.trim_end_matches('/');
+            let Some((first, rest)) = word.split_once('/') else {
+                continue;
+            };
+            let is_name = |byte: u8| byte.is_ascii_alphanumeric() || b"_.-/".contains(&byte);
+            if !word.bytes().all(is_name) || word.contains("NAME") || word.contains("/target/") {
+                continue;
+            }
+            let edit = format!("crates/{first}/must-fail/{rest}.edit");
+            let there = if folders.contains(&first) {
+                root().join(word).exists()
+            } else if root().join("crates").join(first).exists() && !rest.contains(['.', '/']) {
+                root().join(edit).exists()
+            } else {
+                true
+            };
+            if !there {
+                missing.push(format!("{name}: {word}"));
+            }
+        }
+    }
+    assert!(missing.is_empty(), "{missing:#?}");
+}
+
+/// All words of the definitions, laws and functions.
+fn words_of_crates() -> HashSet<String> {
+    let mut words = HashSet::new();
+    let mut folders = vec![root().join("crates")];
+    while let Some(folder) = folders.pop() {
+        for entry in fs::read_dir(&folder).expect("a folder") {
+            let path = entry.expect("an entry").path();
+            let extension = path.extension().and_then(|extension| extension.to_str());
+            if path.is_dir() {
+                folders.push(path);
+            } else if matches!(extension, Some("antt" | "rt")) {
+                let text = fs::read_to_string(&path).expect("text");
+                let ends = |c: char| c.is_whitespace() || "(){}[];:,.&<>\"`⌜⌝".contains(c);
+                words.extend(text.split(ends).map(str::to_string));
+            }
+        }
+    }
+    words
+}
+
+/// Each theorem, definition and function that docs/ASSURANCE.md names is one.
+#[test]
+fn named_theorems_are_there() {
+    let words = words_of_crates();
+    let page = document("docs/ASSURANCE.md");
+    let is_crate = |name: &str| root().join("crates").join(name).exists();
+    let is_name = |c: char| c.is_alphanumeric() || "-_₁₂".contains(c);
+    let unknown: Vec<&str> = quoted(&page)
+        .into_iter()
+        .filter(|quoted| quoted.chars().all(is_name) && !is_crate(quoted))
+        .filter(|quoted| *quoted != "hov" && !words.contains(*quoted))
+        .collect();
+    assert!(unknown.is_empty(), "{unknown:?}");
+}
+
+/// Each page that another one links to is there, and has the heading.
+#[test]
+fn links_lead_somewhere() {
+    for name in PAGES {
+        let page = document(name);
+        let here = root().join(name);
+        for link in page.split("](").skip(1) {
+            let target = link.split(')').next().expect("an end");
+            let (path, heading) = target.split_once('#').unwrap_or((target, ""));
+            let file = match path {
+                "" => here.clone(),
+                _ => here.parent().expect("a folder").join(path),
+            };
+            assert!(file.exists(), "{name}: {target}");
+            if !heading.is_empty() {
+                let text = fs::read_to_string(&file).expect("a page");
+                let is_there = text
+                    .lines()
+                    .any(|line| anchor(line) == Some(heading.into()));
+                assert!(is_there, "{name}: {target}");
+            }
+        }
+    }
+}
+
+/// What a link to a heading has behind `#`.
+fn anchor(line: &str) -> Option<String> {
+    let heading = line.trim_start_matches('#').strip_prefix(' ')?;
+    let kept = |c: &char| c.is_alphanumeric() || [' ', '-', '_'].contains(c);
+    let kept: String = heading.to_lowercase().chars().filter(kept).collect();
+    (line.starts_with('#')).then(|| kept.replace(' ', "-"))
 }

@@ -5,17 +5,19 @@ use differential::faults::BlockFault;
 use differential::files::build;
 use differential::limits::{LARGEST, MOST_WORDS};
 use differential::nets::small_certified;
-use differential::programs::{command, errors_when_full, path, run, run_in_pieces, MAX_FILE_SIZE};
+use differential::program::{errors_when_full, path, run, run_in_pieces, run_with, MAX_FILE_SIZE};
 use differential::rng::Rng;
 use differential::run::Run;
 use differential::{samples, vectors};
+use std::ffi::OsStr;
 use std::fs::File;
+use std::io::Seek;
+use std::process::Stdio;
 
 /// Runs the program with this standard input, in pieces of this many bytes, and
 /// returns all that it printed.
 fn printed(input: &[u8], piece: usize) -> String {
-    let done = run_in_pieces::<&str>("judge", &[], input, piece);
-    String::from_utf8(done.output).expect("the program prints text")
+    run_in_pieces(input, piece).output
 }
 
 /// Checks that the program prints exactly this line.
@@ -25,7 +27,7 @@ fn expect(input: &[u8], line: &str) {
 
 #[test]
 fn the_program_is_there() {
-    path("judge");
+    path();
 }
 
 #[test]
@@ -84,22 +86,43 @@ fn longer_than_the_longest_file() {
 #[test]
 fn failed_read() {
     let directory = File::open(env!("CARGO_MANIFEST_DIR")).expect("the directory opens");
-    let done = command::<&str>("judge", &[])
-        .stdin(directory)
-        .output()
-        .expect("the program ends");
-    assert_eq!(String::from_utf8_lossy(&done.stdout), "refused 1 0\n");
-    assert!(!done.stderr.is_empty(), "a word on standard error");
+    let done = run_with(&[], directory.into(), Stdio::piped());
+    assert_eq!(done.output, "refused 1 0\n");
+    assert!(done.errors.starts_with("standard input: "), "{done:?}");
 }
 
 /// A line that was not written whole is told from one that was.
 #[test]
 fn failed_write() {
     for input in [build(&SAMPLE_A), build(&SAMPLE_F), vec![]] {
-        assert_eq!(run::<&str>("judge", &[], &input).errors, "");
-        let errors = errors_when_full::<&str>("judge", &[], &input);
+        assert_eq!(run(&input).errors, "");
+        let errors = errors_when_full(&input);
         assert!(errors.starts_with("standard output: "), "{errors}");
         assert_eq!(errors.lines().count(), 1, "{errors}");
+    }
+}
+
+/// It takes no arguments: one line of usage, no answer, and nothing is read. So a
+/// file's name in place of `<` is not taken for an empty input, nor is the answer one
+/// for another file.
+#[test]
+fn arguments() {
+    let damaged = samples::directory().join("damaged.sealed");
+    let damaged = damaged.to_str().expect("a name in text");
+    for arguments in [
+        [damaged].as_slice(),
+        &["--help"],
+        &[""],
+        &["-"],
+        &["a.sealed", "b.sealed"],
+    ] {
+        let words: Vec<&OsStr> = arguments.iter().map(OsStr::new).collect();
+        let mut file = File::open(samples::directory().join("a.sealed")).expect("the sample");
+        let input = file.try_clone().expect("a second handle");
+        let done = run_with(&words, input.into(), Stdio::piped());
+        assert_eq!(done.output, "", "{arguments:?}");
+        assert_eq!(done.errors, "usage: judge < FILE\n", "{arguments:?}");
+        assert_eq!(file.stream_position().ok(), Some(0), "{arguments:?}");
     }
 }
 
@@ -136,11 +159,9 @@ fn generated_files() {
 /// The answers of another implementation.
 #[test]
 fn cases_with_answers() {
-    for text in [include_str!("data/01.txt"), include_str!("data/02.txt")] {
-        let cases = vectors::read(text).judge;
-        assert_eq!(cases.len(), 120);
-        for case in cases {
-            expect(&case.file, &case.line);
-        }
+    let cases = vectors::read(include_str!("data/07.txt")).judge;
+    assert_eq!(cases.len(), 120);
+    for case in cases {
+        expect(&case.file, &case.line);
     }
 }

@@ -1,7 +1,7 @@
 //! The script that asks the proved program, `examples/may_run.sh`.
 
 use differential::c_programs::root;
-use differential::programs::path;
+use differential::program::path;
 use differential::samples::{all, directory};
 use std::fs::{self, Permissions};
 use std::os::unix::fs::PermissionsExt;
@@ -24,7 +24,7 @@ fn may_run(judge: &Path, file: &Path) -> bool {
 fn sample_files() {
     let mut accepted = 0;
     for sample in all() {
-        let answer = may_run(&path("judge"), &directory().join(sample.name));
+        let answer = may_run(&path(), &directory().join(sample.name));
         assert_eq!(
             answer,
             sample.line.starts_with("accepted "),
@@ -40,7 +40,7 @@ fn sample_files() {
 /// space taken for two.
 #[test]
 fn other_files() {
-    let judge = path("judge");
+    let judge = path();
     assert!(!may_run(&judge, &directory().join("missing.sealed")));
     assert!(!may_run(&judge, &directory()));
     assert!(!may_run(

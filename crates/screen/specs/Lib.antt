@@ -1,5 +1,0 @@
-pub mod Options
-pub mod Events
-pub mod Files
-pub mod Capping
-pub mod Lines
