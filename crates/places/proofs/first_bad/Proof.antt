@@ -1,10 +1,10 @@
--- `nets::first_bad` meets its contract.
+-- `places::first_bad` meets its contract.
 use mathlib.Core.Path.{sym, _∙_}
 use borrow.Author.Needs.{needs}
 use Rattle.laws.specs.Scans.{all-failing}
 use Rattle.nets.specs.Events.{firstBad}
-use Rattle.nets.proofs.first_bad.Statement.{statement}
-use Rattle.nets.proofs.first_bad.Tie as tie
+use Rattle.places.proofs.first_bad.Statement.{statement}
+use Rattle.places.proofs.first_bad.Tie as tie
 
 returns : tie.Need-returns
 unfolding firstBad

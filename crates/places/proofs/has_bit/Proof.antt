@@ -1,4 +1,4 @@
--- `nets::has_bit` meets its contract: the lowest bit of the shifted mask is a remainder by 2.
+-- `places::has_bit` meets its contract: the lowest bit of the shifted mask is a remainder by 2.
 use mathlib.Core.Bool.{not}
 use mathlib.Core.Path.{ap, _∙_}
 use Prim.Native.Nat.{ℕ, _/_, _%_, _^_}
@@ -7,8 +7,8 @@ use borrow.Author.Needs.{needs}
 use lib.Bits.{and-mask}
 use lib.Dec.{eqb}
 use Rattle.laws.specs.Bits.{bit, nonzero-digit}
-use Rattle.nets.proofs.has_bit.Statement.{statement}
-use Rattle.nets.proofs.has_bit.Tie as tie
+use Rattle.places.proofs.has_bit.Statement.{statement}
+use Rattle.places.proofs.has_bit.Tie as tie
 
 returns : tie.Need-returns
 unfolding bit

@@ -1,4 +1,4 @@
--- `nets::surplus` meets its contract: the tokens are far from the bounds of an `i64`.
+-- `places::surplus` meets its contract: the tokens are far from the bounds of an `i64`.
 use mathlib.Core.Path.{_≡_, ap, ap₂, _∙_}
 use native.Mathlib.Omega.{arith}
 use Prim.Native.Nat.{_+_}
@@ -8,9 +8,9 @@ use mir.Syntax.{w64}
 use mir.Val.{toZ, ofZ}
 use mir.Facts.{toZ-pos, toZ-ofZ}
 use Rattle.laws.specs.Differences.{difference-minus}
-use Rattle.nets.proofs.Signed.{difference-fits}
-use Rattle.nets.proofs.surplus.Statement.{statement}
-use Rattle.nets.proofs.surplus.Tie as tie
+use Rattle.places.proofs.Signed.{difference-fits}
+use Rattle.places.proofs.surplus.Statement.{statement}
+use Rattle.places.proofs.surplus.Tie as tie
 
 -- what the body computes
 reckoned : (c : tie.Start) → toZ w64 (ofZ w64 (c .args .tokens)) -ℤ toZ w64 (c .args .consumed) ≡ c .args .tokens -ℤ pos (c .args .consumed)

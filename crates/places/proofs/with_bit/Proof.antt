@@ -1,4 +1,4 @@
--- `nets::with_bit` meets its contract: 1 shifted by less than 16 loses no bit.
+-- `places::with_bit` meets its contract: 1 shifted by less than 16 loses no bit.
 use mathlib.Core.Path.{ap, _∙_}
 use Prim.Native.Nat.{ℕ, _%_, _^_}
 use native.Mathlib.Nat.{one-mul, mod-eq-of-lt}
@@ -6,8 +6,8 @@ use borrow.Author.Needs.{needs}
 use lib.Bits.{bitOr}
 use lib.Pow.{pow-lt}
 use Rattle.laws.specs.Bits.{withBit}
-use Rattle.nets.proofs.with_bit.Statement.{statement}
-use Rattle.nets.proofs.with_bit.Tie as tie
+use Rattle.places.proofs.with_bit.Statement.{statement}
+use Rattle.places.proofs.with_bit.Tie as tie
 
 returns : tie.Need-returns
 unfolding withBit

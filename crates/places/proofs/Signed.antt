@@ -13,7 +13,7 @@ use mir.Val.{SFits, sel, toZ, ofZ}
 use mir.Facts.{toZ-pos}
 use Rattle.laws.specs.Booleans.{yes-true}
 use Rattle.laws.specs.Differences.{difference, mag-difference}
-use Rattle.nets.specs.Machine.{Held}
+use Rattle.places.specs.Machine.{Held}
 
 -- a difference of two numbers below 2 ^ 63 is an `i64`
 pub difference-fits : (a b : ℕ) → a < 2 ^ 63 → b < 2 ^ 63 → SFits w64 (subℕ a b)

@@ -1,4 +1,4 @@
--- `nets::gain` meets its contract: no product of two 16-bit numbers leaves the range of an `i64`.
+-- `places::gain` meets its contract: no product of two 16-bit numbers leaves the range of an `i64`.
 use mathlib.Core.Path.{_≡_, sym, ap, ap₂, _∙_}
 use Prim.Native.Nat.{ℕ, _*_, _^_, _<_}
 use native.Mathlib.Nat.{mul-le-mul}
@@ -9,9 +9,9 @@ use mir.Syntax.{w64}
 use mir.Val.{SFits, toZ, ofZ}
 use mir.Facts.{toZ-pos, toZ-ofZ}
 use Rattle.laws.specs.Differences.{difference, difference-mul}
-use Rattle.nets.proofs.Signed.{difference-fits, minus}
-use Rattle.nets.proofs.gain.Statement.{statement}
-use Rattle.nets.proofs.gain.Tie as tie
+use Rattle.places.proofs.Signed.{difference-fits, minus}
+use Rattle.places.proofs.gain.Statement.{statement}
+use Rattle.places.proofs.gain.Tie as tie
 
 module _ (k a b : ℕ) (hk : k < 65536) (ha : a < 65536) (hb : b < 65536) where
   lesser : SFits w64 (toZ w64 a -ℤ toZ w64 b)

@@ -1,4 +1,4 @@
--- `nets::tokens` meets its contract. The loop's invariant: `total` is what the place holds after the events below `i`.
+-- `places::tokens` meets its contract. The loop's invariant: `total` is what the place holds after the events below `i`.
 use mathlib.Core.Path.{_≡_, sym, ap, _∙_, subst}
 use Prim.Native.Nat.{ℕ, _+_, _-_, _≤_}
 use native.Mathlib.Omega.{arith}
@@ -8,12 +8,12 @@ use lib.ListN.{getD}
 use mir.Syntax.{w16, w64}
 use mir.Val.{Fits, toZ, ofZ}
 use Rattle.limits.specs.Limits.{MAX-EVENTS}
 use Rattle.nets.specs.Nets.{tokens}
 use Rattle.nets.specs.Surplus.{tokens-first}
-use Rattle.nets.specs.Machine.{placeOf, Held}
-use Rattle.nets.proofs.Bounds.{Small, tokens-held, tokens-fits, tokens-back, tokens-gain}
-use Rattle.nets.proofs.tokens.Statement.{statement}
-use Rattle.nets.proofs.tokens.Tie as tie
+use Rattle.places.specs.Machine.{placeOf, Held}
+use Rattle.places.proofs.Bounds.{Small, tokens-held, tokens-fits, tokens-back, tokens-gain}
+use Rattle.places.proofs.tokens.Statement.{statement}
+use Rattle.places.proofs.tokens.Tie as tie
 
 abbrev Inv-loop : tie.InvT-loop
 Inv-loop counts place total₀ i₀ total i = (i ≤ MAX-EVENTS) × (total ≡ ofZ w64 (tokens i (placeOf place) counts))

@@ -1,4 +1,4 @@
--- `nets::covers` meets its contract, by what `surplus` and `shortfall` ensure.
+-- `places::covers` meets its contract, by what `surplus` and `shortfall` ensure.
 use mathlib.Core.Path.{sym, ap, _∙_, subst}
 use Prim.Native.Nat.{ℕ}
 use borrow.Author.Needs.{needs}
@@ -8,9 +8,9 @@ use lib.Signed.{nonNeg}
 use mir.Syntax.{w64}
 use mir.Facts.{toZ-ofZ}
 use Rattle.laws.specs.Differences.{negative-tested}
-use Rattle.nets.specs.Machine.{Held}
-use Rattle.nets.proofs.covers.Statement.{statement}
-use Rattle.nets.proofs.covers.Tie as tie
+use Rattle.places.specs.Machine.{Held}
+use Rattle.places.proofs.covers.Statement.{statement}
+use Rattle.places.proofs.covers.Tie as tie
 
 surplus-requires : tie.Need-surplus-requires
 surplus-requires c κs = subst Held (sym (toZ-ofZ (c .fits .tokens))) (c .pre)

@@ -3,8 +3,8 @@ use mathlib.Core.Path.{_≡_}
 use Prim.Native.Nat.{ℕ, _^_, _<_}
 use lib.IntN.{ℤ, subℕ}
 use lib.ListN.{getD}
 use Rattle.nets.specs.Nets.{Place}
-use Rattle.nets.specs.declared.Place as Declared
+use Rattle.places.specs.declared.Place as Declared
 
 abbrev pub placeOf : Declared.Place → Place
 placeOf p = record { initial = p .initial; produced = λ i. getD (p .produced) i 0; consumed = λ i. getD (p .consumed) i 0 }

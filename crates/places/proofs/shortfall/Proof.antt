@@ -1,4 +1,4 @@
--- `nets::shortfall` meets its contract, also for the smallest `i64`.
+-- `places::shortfall` meets its contract, also for the smallest `i64`.
 use mathlib.Core.Path.{_≡_, refl, sym, ap, _∙_}
 use mathlib.Core.Bool.{false}
 use Prim.Native.Nat.{ℕ, suc, _+_, _^_, _<_}
@@ -11,9 +11,9 @@ use mir.Val.{SFits, toZ, ofZ}
 use mir.Facts.{toZ-ofZ}
 use Rattle.laws.specs.Booleans.{impossible}
 use Rattle.laws.specs.Differences.{difference, difference-same, zero-leZ, negativePart, negative-none}
-use Rattle.nets.proofs.Signed.{difference-fits}
-use Rattle.nets.proofs.shortfall.Statement.{statement}
-use Rattle.nets.proofs.shortfall.Tie as tie
+use Rattle.places.proofs.Signed.{difference-fits}
+use Rattle.places.proofs.shortfall.Statement.{statement}
+use Rattle.places.proofs.shortfall.Tie as tie
 
 -- a negative `i64` is −(k + 1) with a k below 2 ^ 63
 negative : (z : ℤ) → SFits w64 z → nonNeg z ≡ false → (k : ℕ) × (k < 2 ^ 63) × (z ≡ negsuc k)

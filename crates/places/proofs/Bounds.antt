@@ -9,10 +9,10 @@ use mir.Val.{SFits, toZ, ofZ}
 use mir.Facts.{toZ-ofZ}
 use Rattle.laws.specs.Sums.{sum-bound}
 use Rattle.limits.specs.Limits.{MAX-EVENTS}
 use Rattle.nets.specs.Nets.{Place, Counts, at, tokens}
 use Rattle.nets.specs.Surplus.{given, taken, tokens-is, tokens-next}
-use Rattle.nets.specs.Machine.{Held}
-use Rattle.nets.proofs.Signed.{held-fits}
+use Rattle.places.specs.Machine.{Held}
+use Rattle.places.proofs.Signed.{held-fits}
 
 -- every number of the place and of the counts is a `u16`
 pub record Small (p : Place) (v : Counts) : Type 0 where

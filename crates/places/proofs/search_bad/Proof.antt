@@ -1,4 +1,4 @@
--- `nets::search_bad` meets its contract.
+-- `places::search_bad` meets its contract.
 use borrow.Author.Needs.{needs}
 use Prim.Native.Nat.{_≤_, _-_, _+_}
 use mathlib.Core.Path.{_≡_, sym}
@@ -7,9 +7,9 @@ use native.Mathlib.Omega.{arith}
 use lib.ListN.{length, drop}
 use borrow.Author.Tests.{lt-ltb, le-ltb}
 use Rattle.laws.specs.Scans.{failing-here, failing-again, failing-end}
 use Rattle.nets.specs.Events.{firstBad}
-use Rattle.nets.proofs.search_bad.Statement.{statement}
-use Rattle.nets.proofs.search_bad.Tie as tie
+use Rattle.places.proofs.search_bad.Statement.{statement}
+use Rattle.places.proofs.search_bad.Tie as tie
 
 abbrev Inv-loop : tie.InvT-loop
 Inv-loop word n i₀ i = (i ≤ length word) × (firstBad n word ≡ i + firstBad n (drop i word))

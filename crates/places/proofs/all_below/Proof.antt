@@ -1,4 +1,4 @@
--- `nets::all_below` meets its contract. The loop's invariant: `fit` says whether the events passed are below n.
+-- `places::all_below` meets its contract. The loop's invariant: `fit` says whether the events passed are below n.
 use mathlib.Core.Path.{_≡_, sym, ap, _∙_}
 use mathlib.Core.Bool.{Bool, _&&_}
 use Prim.Native.Nat.{ℕ, _-_, _≤_}
@@ -8,8 +8,8 @@ use lib.Dec.{ltb}
 use lib.ListN.{length, take, getD}
 use lib.Seq.{take-all}
 use Rattle.laws.specs.Lists.{all, all-taken}
-use Rattle.nets.proofs.all_below.Statement.{statement}
-use Rattle.nets.proofs.all_below.Tie as tie
+use Rattle.places.proofs.all_below.Statement.{statement}
+use Rattle.places.proofs.all_below.Tie as tie
 
 abbrev Inv-loop : tie.InvT-loop
 Inv-loop word n fit₀ i₀ fit i = (i ≤ length word) × (fit ≡ all (λ e. ltb e n) (take i word))
