@@ -1,10 +1,10 @@
--- `abi::hov_screening::handed` meets its contract: in each arm the answer is known.
+-- `numbers::screened::handed` meets its contract: in each arm the answer is known.
 use borrow.Author.Needs.{needs}
 use mathlib.Core.Path.{refl}
 use Rattle.screening.specs.Screening.{screenedNumber}
-use Rattle.abi.specs.Numbers.{withScreened}
-use Rattle.abi.proofs.hov_screening.handed.Statement.{statement}
-use Rattle.abi.proofs.hov_screening.handed.Tie as tie
+use Rattle.numbers.specs.Numbers.{withScreened}
+use Rattle.numbers.proofs.screened.handed.Statement.{statement}
+use Rattle.numbers.proofs.screened.handed.Tie as tie
 
 returns : tie.Need-returns
 unfolding screenedNumber withScreened

@@ -1,10 +1,10 @@
--- `abi::hov_logs::handed` meets its contract: in each arm the answer is known.
+-- `numbers::taken::handed` meets its contract: in each arm the answer is known.
 use borrow.Author.Needs.{needs}
 use mathlib.Core.Path.{refl}
 use Rattle.logs.specs.Answers.{takenNumber}
-use Rattle.abi.specs.Numbers.{withTaken}
-use Rattle.abi.proofs.hov_logs.handed.Statement.{statement}
-use Rattle.abi.proofs.hov_logs.handed.Tie as tie
+use Rattle.numbers.specs.Numbers.{withTaken}
+use Rattle.numbers.proofs.taken.handed.Statement.{statement}
+use Rattle.numbers.proofs.taken.handed.Tie as tie
 
 returns : tie.Need-returns
 unfolding takenNumber withTaken

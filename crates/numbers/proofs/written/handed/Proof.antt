@@ -1,10 +1,10 @@
--- `abi::hov_block::handed` meets its contract: in each arm the answer is known.
+-- `numbers::written::handed` meets its contract: in each arm the answer is known.
 use borrow.Author.Needs.{needs}
 use mathlib.Core.Path.{refl}
 use Rattle.refusals.specs.Answers.{numberOf, valueOf}
-use Rattle.abi.specs.Numbers.{withValue}
-use Rattle.abi.proofs.hov_block.handed.Statement.{statement}
-use Rattle.abi.proofs.hov_block.handed.Tie as tie
+use Rattle.numbers.specs.Numbers.{withValue}
+use Rattle.numbers.proofs.written.handed.Statement.{statement}
+use Rattle.numbers.proofs.written.handed.Tie as tie
 
 returns : tie.Need-returns
 unfolding numberOf valueOf withValue

@@ -1,10 +1,10 @@
--- `abi::hov_judging::handed` meets its contract: in each arm the answer is known.
+-- `numbers::verdict::handed` meets its contract: in each arm the answer is known.
 use borrow.Author.Needs.{needs}
 use mathlib.Core.Path.{refl}
 use Rattle.verdicts.specs.Judging.{verdictNumber}
-use Rattle.abi.specs.Numbers.{withVerdict}
-use Rattle.abi.proofs.hov_judging.handed.Statement.{statement}
-use Rattle.abi.proofs.hov_judging.handed.Tie as tie
+use Rattle.numbers.specs.Numbers.{withVerdict}
+use Rattle.numbers.proofs.verdict.handed.Statement.{statement}
+use Rattle.numbers.proofs.verdict.handed.Tie as tie
 
 returns : tie.Need-returns
 unfolding verdictNumber withVerdict
