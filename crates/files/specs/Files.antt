@@ -20,12 +20,12 @@ use Rattle.verdicts.specs.declared.Tally.{Tally}
 use Rattle.verdicts.specs.declared.Verdict.the-variants.{Accepted}
 use Rattle.screening.specs.Screening.{screened}
 use Rattle.screening.specs.declared.Screened.{Screened}
 use Rattle.demands.specs.Demands.{ScreenedAtEnd, Compared}
 use Rattle.demands.specs.Proved.{demand-3}
-use Rattle.demands.specs.declared.Answers.{Answers}
-use Rattle.demands.specs.declared.Ran.{Ran}
-use Rattle.demands.specs.declared.Ran.the-variants.{Opened, Refused}
-use Rattle.demands.specs.declared.Both.{Both}
+use Rattle.files.specs.declared.Answers.{Answers}
+use Rattle.files.specs.declared.Ran.{Ran}
+use Rattle.files.specs.declared.Ran.the-variants.{Opened, Refused}
+use Rattle.files.specs.declared.Both.{Both}
 
 -- the answers for a bundle, with a table of so many numbers and a word
 abbrev pub answersOf : List ℕ → ℕ → Word → Answers

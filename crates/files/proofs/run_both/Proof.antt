@@ -1,4 +1,4 @@
--- `demands::run_both` meets its contract: demand 3 holds of what the two runs answered.
+-- `files::run_both` meets its contract: demand 3 holds of what the two runs answered.
 use mathlib.Core.Path.{_≡_, ap, _∙_}
 use Prim.Native.Nat.{ℕ}
 use native.Mathlib.Omega.{arith}
@@ -8,9 +8,9 @@ use lib.ListN.{length, take}
 use Rattle.laws.specs.Numbers.{Bytes}
 use Rattle.refusals.specs.Answers.{fitted}
 use Rattle.block.specs.File.{opened}
-use Rattle.demands.specs.Files.{ran, tableRan, both-compared}
-use Rattle.demands.proofs.run_both.Statement.{statement}
-use Rattle.demands.proofs.run_both.Tie as tie
+use Rattle.files.specs.Files.{ran, tableRan, both-compared}
+use Rattle.files.proofs.run_both.Statement.{statement}
+use Rattle.files.proofs.run_both.Tie as tie
 
 -- the table has its length behind the first run
 same-size : (c : tie.After-run) → length (c .run .last .1 .1 .0) ≡ length (now (c .before .before .before .before .before .before .before .before .before .args .table))

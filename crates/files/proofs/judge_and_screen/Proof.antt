@@ -1,12 +1,12 @@
--- `demands::judge_and_screen` meets its contract.
+-- `files::judge_and_screen` meets its contract.
 use mathlib.Core.Path.{ap₂}
 use borrow.Author.Needs.{needs}
 use lib.ListN.{length}
 use Rattle.verdicts.specs.declared.Verdict.{Verdict}
 use Rattle.screening.specs.declared.Screened.{Screened}
-use Rattle.demands.specs.declared.Answers.{Answers}
-use Rattle.demands.proofs.judge_and_screen.Statement.{statement}
-use Rattle.demands.proofs.judge_and_screen.Tie as tie
+use Rattle.files.specs.declared.Answers.{Answers}
+use Rattle.files.proofs.judge_and_screen.Statement.{statement}
+use Rattle.files.proofs.judge_and_screen.Tie as tie
 
 returns : tie.Need-returns
 returns c =

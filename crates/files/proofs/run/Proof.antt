@@ -1,4 +1,4 @@
--- `demands::run` meets its contract.
+-- `files::run` meets its contract.
 use mathlib.Core.Path.{_≡_, sym, ap, _∙_}
 use mathlib.Core.List.{List}
 use Prim.Native.Nat.{ℕ, _≤_}
@@ -12,10 +12,10 @@ use Rattle.refusals.specs.Laws.{answer-within}
 use Rattle.refusals.specs.declared.Written.the-variants as writing
 use Rattle.block.specs.File.{opened}
 use Rattle.verdicts.specs.Judging.{tableAfter}
-use Rattle.demands.specs.Files.{answersOf, ran-refused, ran-opened}
-use Rattle.demands.specs.declared.Ran.the-variants.{Opened}
-use Rattle.demands.proofs.run.Statement.{statement}
-use Rattle.demands.proofs.run.Tie as tie
+use Rattle.files.specs.Files.{answersOf, ran-refused, ran-opened}
+use Rattle.files.specs.declared.Ran.the-variants.{Opened}
+use Rattle.files.proofs.run.Statement.{statement}
+use Rattle.files.proofs.run.Tie as tie
 
 -- opening gave a length
 opens : (c : tie.After-size) → let args = c .before .before .before .before .before .before .before .before .before .before .args in
