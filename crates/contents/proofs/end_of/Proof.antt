@@ -1,13 +1,13 @@
--- `pruning::walking::end_of` meets its contract: a certificate of kind 0 has two bytes, one of kind 1 four and five for each term.
+-- `contents::end_of` meets its contract: a certificate of kind 0 has two bytes, one of kind 1 four and five for each term.
 use mathlib.Core.Path.{sym, _∙_}
 use native.Mathlib.Omega.{arith}
 use borrow.Author.Needs.{needs}
 use borrow.Author.Tests.{eq-eqb, ne-eqb}
 use Prim.Native.Nat.{_+_, _*_, _≤_, _<_}
 use lib.ListN.{length, getD}
-use Rattle.pruning.specs.Walking.{endAt, weights-inside, certificate-inside, certificate-long}
-use Rattle.pruning.proofs.walking.end_of.Statement.{statement}
-use Rattle.pruning.proofs.walking.end_of.Tie as tie
+use Rattle.contents.specs.Walking.{endAt, weights-inside, certificate-inside, certificate-long}
+use Rattle.contents.proofs.end_of.Statement.{statement}
+use Rattle.contents.proofs.end_of.Tie as tie
 
 byte-at-requires : tie.Need-byte-at-requires
 byte-at-requires c κs = omega (arith, certificate-inside (c .before .pre), certificate-long (c .before .pre))

@@ -1,24 +1,22 @@
--- The parts of a bundle that was judged, as the code walks through them: words, certificates, and the marks of the places that are named.
-use mathlib.Core.Path.{_≡_, refl, sym, ap, _∙_, subst}
-use mathlib.Core.Bool.{Bool, true, false, cond, not, _||_, or-false, or-assoc}
-use mathlib.Core.Logic.{_⊎_, ⊎-elim}
-use mathlib.Core.List.{List, [], _∷_, _++_, flatMap, append-nil, List·Memᴰ}
+-- The parts of a bundle that was judged, as the code walks through them: certificates, words, places.
+use mathlib.Core.Path.{_≡_, refl, sym, ap, ap₂, _∙_, subst}
+use mathlib.Core.Bool.{Bool, true, false, cond}
+use mathlib.Core.Logic.{⊎-elim}
+use mathlib.Core.List.{List, [], _∷_, _++_, flatMap, append-nil, append-assoc, List·Memᴰ, Memᴰ·append-left}
 use Prim.Native.Nat.{ℕ, suc, _+_, _-_, _*_, _≤_, _<_}
-use native.Mathlib.Numerals.{add-one}
 use native.Mathlib.Omega.{arith}
 use borrow.Author.Tests.{ne-eqb, eqb-true, eqb-false}
 use lib.Dec.{eqb}
-use lib.ListN.{length, take, drop, getD, set, replicate, length-append}
-use lib.Seq.{getD-append-add, take-suc, take-all}
+use lib.ListN.{length, take, drop, getD, length-append, take-append-drop}
+use lib.Seq.{getD-append-add, take-all, length-take-le}
 use Rattle.laws.specs.Booleans.{lt-or-le}
-use Rattle.laws.specs.Lists.{any, tabulate, tabulate-same, getD-tabulate, getD-member}
-use Rattle.laws.specs.Spans.{span-next, span-at, part-within, set-tabulate}
-use Rattle.limits.specs.Limits.{MAX-PLACES}
+use Rattle.laws.specs.Every.{Every, every-member, every-intro}
+use Rattle.laws.specs.Lists.{getD-member}
+use Rattle.laws.specs.Spans.{span-next, span-at, part-at, part-within}
 use Rattle.nets.specs.Nets.{Word}
-use Rattle.bundles.specs.Layout.{TermFields, WeightFields, CertificateFields, kind0, kind1, wordBytes, placeBytes, termBytes, weightBytes, certificateBytes, headBytes, bytesOf}
-use Rattle.pruning.specs.Pruning.{names, named}
-use Rattle.pruning.specs.PruneLaws.{named-there}
-use Rattle.pruning.specs.Contents.{IsBundle, contentsOf, frontBytes, bytes-parts}
+use Rattle.bundles.specs.Layout.{PlaceFields, TermFields, WeightFields, CertificateFields, kind0, kind1, PlaceInLimits, wordBytes, placeBytes, termBytes, weightBytes, certificateBytes, headBytes, bytesOf}
+use Rattle.bundles.specs.PlaceReading.{placeSize}
+use Rattle.contents.specs.Contents.{IsBundle, contentsOf, frontBytes, bytes-parts, place-length, places-length}
 
 -- ---- certificates
 
@@ -103,55 +101,6 @@ module _ {b : List ℕ} {at : ℕ} (c : CertificateAt b at) where
       go (kind0 j) = omega arith
       go (kind1 w) = omega arith
 
--- ---- marks
-
--- 1 for each place that is named, else 0
-unfoldable pub marksOf : List CertificateFields → List ℕ
-marksOf cs = tabulate MAX-PLACES (λ j. cond (named cs j) 1 0)
-
--- a place is marked
-unfoldable pub marked : List ℕ → ℕ → Bool
-marked marks j = not (eqb (getD marks j 0) 0)
-
-pub mark-is : (marks : List ℕ) (j : ℕ) → marked marks j ≡ not (eqb (getD marks j 0) 0)
-unfolding marked
-mark-is marks j = refl
-
-pub marks-none : marksOf [] ≡ replicate MAX-PLACES 0
-unfolding marksOf named any tabulate
-marks-none = refl
-
-named-snoc : (cs : List CertificateFields) (c : CertificateFields) (j : ℕ) → named (cs ++ c ∷ []) j ≡ named cs j || names j c
-unfolding named any
-named-snoc [] c j = or-false (names j c)
-named-snoc (d ∷ cs) c j = ap (λ (t : Bool). names j d || t) (named-snoc cs c j) ∙ sym (or-assoc (names j d) (named cs j) (names j c))
-
--- one certificate more: its place is marked, if it has one
-marks-place : (cs : List CertificateFields) (j : ℕ) → set (marksOf cs) j 1 ≡ marksOf (cs ++ kind0 j ∷ [])
-unfolding marksOf names
-marks-place cs j = set-tabulate MAX-PLACES (λ i. cond (named cs i) 1 0) j 1
-    ∙ tabulate-same MAX-PLACES (λ i. cond (eqb i j) 1 (cond (named cs i) 1 0)) (λ i. cond (named (cs ++ kind0 j ∷ []) i) 1 0) (λ i h. rw (named-snoc cs (kind0 j) i) (go (named cs i) (eqb i j)))
-  where
-    go : (a b : Bool) → _≡_ {A = ℕ} (cond b 1 (cond a 1 0)) (cond (a || b) 1 0)
-    go true true = refl
-    go true false = refl
-    go false true = refl
-    go false false = refl
-
-marks-weights : (cs : List CertificateFields) (w : WeightFields) → marksOf cs ≡ marksOf (cs ++ kind1 w ∷ [])
-unfolding marksOf names
-marks-weights cs w = tabulate-same MAX-PLACES (λ i. cond (named cs i) 1 0) (λ i. cond (named (cs ++ kind1 w ∷ []) i) 1 0)
-    (λ i h. ap (λ (t : Bool). cond t 1 0) (sym (named-snoc cs (kind1 w) i ∙ or-false (named cs i))))
-
--- a mark says that the place is named
-pub marks-named : (cs : List CertificateFields) (j : ℕ) → j < MAX-PLACES → marked (marksOf cs) j ≡ named cs j
-unfolding marked marksOf
-marks-named cs j h = ap (λ (x : ℕ). not (eqb x 0)) (getD-tabulate MAX-PLACES (λ i. cond (named cs i) 1 0) j 0 h) ∙ go (named cs j)
-  where
-    go : (t : Bool) → not (eqb (cond t 1 0) 0) ≡ t
-    go true = refl
-    go false = refl
-
 -- ---- from certificate to certificate
 
 -- the certificate of a number, or any other
@@ -220,28 +169,6 @@ module _ {b : List ℕ} (bundle : IsBundle b) {first : ℕ} (starts : first ≡ 
       offset = end-is (walk-here more) ∙ rw (walk-certificate more, span-next certificateBytes cs k noCertificate more, length-append) (omega (arith, w .offset));
     }
 
-    -- what it marks: the place that the certificate names
-    module _ (more : k < length cs) where
-      longer : take (k + 1) cs ≡ take k cs ++ getD cs k noCertificate ∷ []
-      longer = rw (add-one k) (take-suc cs k noCertificate more)
-
-      pub walk-place : getD b at 0 ≡ 0 → (getD b (at + 1) 0 < length (contentsOf b .head .places)) × (at + 1 < length b)
-          × (set (marksOf (take k cs)) (getD b (at + 1) 0) 1 ≡ marksOf (take (k + 1) cs))
-      walk-place e =
-          let (j, is, place, inside) = kind-0 (walk-here more) e in
-          let certificate : getD cs k noCertificate ≡ kind0 j = sym (walk-certificate more) ∙ is in
-          let member : List·Memᴰ (kind0 j) cs = subst (λ (x : CertificateFields). List·Memᴰ x cs) certificate (getD-member cs k noCertificate more) in (
-            rw place (named-there (contentsOf b) (bundle .limits) j member),
-            inside,
-            rw (place, longer, certificate) (marks-place (take k cs) j),
-          )
-
-      pub walk-weights : (getD b at 0 ≡ 0 → ⊥) → marksOf (take k cs) ≡ marksOf (take (k + 1) cs)
-      walk-weights other =
-          let (w, is, terms, inside) = kind-1 (walk-here more) other in
-          let certificate : getD cs k noCertificate ≡ kind1 w = sym (walk-certificate more) ∙ is in
-          rw (longer, certificate) (marks-weights (take k cs) w)
-
 -- ---- words
 
 -- the byte at word i is its length
@@ -255,11 +182,6 @@ module _ {b : List ℕ} (bundle : IsBundle b) where
   words-stand : b ≡ (contentsOf b .head .events ∷ length log ∷ []) ++ (flatMap wordBytes log ++ behindWords)
   unfolding frontBytes
   words-stand = bundle .layout ∙ bytes-parts (contentsOf b)
-
-  -- the place count stands behind the words
-  pub front-inside : (2 ≤ length (frontBytes (contentsOf b .head))) × (length (frontBytes (contentsOf b .head)) < length b)
-  unfolding frontBytes
-  front-inside = (omega arith, omega (arith, ap length words-stand, length-append (flatMap wordBytes log) behindWords))
 
   pub word-count : (getD b 0 0 ≡ contentsOf b .head .events) × (getD b 1 0 ≡ length log)
   word-count = (ap (λ (l : List ℕ). getD l 0 0) words-stand, ap (λ (l : List ℕ). getD l 1 0) words-stand)
@@ -277,3 +199,49 @@ module _ {b : List ℕ} (bundle : IsBundle b) where
         omega (arith, inside),
         rw (span-next wordBytes log i [] h, length-append) (omega (arith, is)),
       )
+
+-- ---- places
+
+-- the place of a number, or any other
+abbrev pub noPlace : PlaceFields
+noPlace = record { initial = 0; produced = []; consumed = [] }
+
+-- the first places are in their limits
+pub first-within : {b : List ℕ} → IsBundle b → (j : ℕ) → Every (PlaceInLimits (contentsOf b .head .events)) (take j (contentsOf b .head .places))
+first-within {b} bundle j =
+    let ps = contentsOf b .head .places in
+    every-intro (PlaceInLimits (contentsOf b .head .events)) (take j ps)
+    (λ p m. every-member (PlaceInLimits (contentsOf b .head .events)) ps (bundle .limits .head .places) (subst (λ (l : List PlaceFields). List·Memᴰ p l) (take-append-drop j ps) (Memᴰ·append-left (drop j ps) m)))
+
+module _ {b : List ℕ} (bundle : IsBundle b) {first size : ℕ} (starts : first ≡ length (frontBytes (contentsOf b .head)) + 1) (sizes : size ≡ 2 * placeSize (contentsOf b .head .events)) where
+  abbrev ps : List PlaceFields
+  ps = contentsOf b .head .places
+
+  places-stand : b ≡ (frontBytes (contentsOf b .head) ++ length ps ∷ []) ++ (flatMap placeBytes ps ++ flatMap certificateBytes (contentsOf b .certificates))
+  places-stand = bundle .layout ∙ bytes-parts (contentsOf b) ∙ sym (append-assoc (frontBytes (contentsOf b .head)) (length ps ∷ []) (flatMap placeBytes ps ++ flatMap certificateBytes (contentsOf b .certificates)))
+
+  -- place j stands behind j of that size
+  module _ (j : ℕ) (there : j < length ps) where
+    abbrev placeBefore : List ℕ
+    placeBefore = (frontBytes (contentsOf b .head) ++ length ps ∷ []) ++ flatMap placeBytes (take j ps)
+
+    abbrev placeRest : List ℕ
+    placeRest = flatMap placeBytes (drop (suc j) ps) ++ flatMap certificateBytes (contentsOf b .certificates)
+
+    place-stands : b ≡ placeBefore ++ (placeBytes (getD ps j noPlace) ++ placeRest)
+    place-stands = span-at placeBytes ps j noPlace there (frontBytes (contentsOf b .head) ++ length ps ∷ []) (flatMap certificateBytes (contentsOf b .certificates)) b places-stand
+
+    place-offset : length placeBefore ≡ first + j * size
+    place-offset =
+        let earlier : length (flatMap placeBytes (take j ps)) ≡ j * size =
+        places-length (contentsOf b .head .events) (take j ps) (first-within bundle j) ∙ ap₂ (λ (x y : ℕ). x * y) (length-take-le j ps (omega arith)) (sym sizes) in
+        omega (arith, earlier, starts, length-append (frontBytes (contentsOf b .head) ++ length ps ∷ []) (flatMap placeBytes (take j ps)), length-append (frontBytes (contentsOf b .head)) (length ps ∷ []))
+
+    place-long : length (placeBytes (getD ps j noPlace)) ≡ size
+    place-long = place-length (contentsOf b .head .events) (getD ps j noPlace) (every-member (PlaceInLimits (contentsOf b .head .events)) ps (bundle .limits .head .places) (getD-member ps j noPlace there)) ∙ sym sizes
+
+    pub place-bytes : take size (drop (first + j * size) b) ≡ placeBytes (getD ps j noPlace)
+    place-bytes = part-at placeBefore (placeBytes (getD ps j noPlace)) placeRest b (first + j * size) size place-stands place-offset place-long
+
+    pub place-inside : first + j * size + size ≤ length b
+    place-inside = omega (arith, place-long, part-within placeBefore (placeBytes (getD ps j noPlace)) placeRest b (first + j * size) place-stands place-offset)

@@ -1,13 +1,14 @@
--- `pruning::walking::mark_places` meets its contract. The loop's invariant: the certificates before `at` have marked their places.
+-- `pruning::marking::mark_places` meets its contract. The loop's invariant: the certificates before `at` have marked their places.
 use mathlib.Core.Path.{_≡_, sym, ap, _∙_}
 use mathlib.Core.Logic.{⊎-elim}
 use Prim.Native.Nat.{ℕ, _+_, _-_, _<_}
 use native.Mathlib.Omega.{arith}
 use lib.ListN.{length, take, getD, set}
-use Rattle.pruning.specs.Contents.{contentsOf}
-use Rattle.pruning.specs.Walking.{CertificateAt, marksOf, Walked, walk-start, walk-end, walk-more, walk-here, walk-next, walk-place, walk-weights, marks-none, certificate-long, certificate-inside, end-is}
-use Rattle.pruning.proofs.walking.mark_places.Statement.{statement}
-use Rattle.pruning.proofs.walking.mark_places.Tie as tie
+use Rattle.contents.specs.Contents.{contentsOf}
+use Rattle.contents.specs.Walking.{CertificateAt, Walked, walk-start, walk-end, walk-more, walk-here, walk-next, certificate-long, certificate-inside, end-is}
+use Rattle.pruning.specs.Marking.{marksOf, marks-none, walk-place, walk-weights}
+use Rattle.pruning.proofs.marking.mark_places.Statement.{statement}
+use Rattle.pruning.proofs.marking.mark_places.Tie as tie
 
 abbrev Inv-loop : tie.InvT-loop
 Inv-loop bundle first marks₀ at₀ marks at = (k : ℕ) × Walked bundle first k at × (marks ≡ marksOf (take k (contentsOf bundle .certificates)))

@@ -1,11 +1,12 @@
--- `pruning::walking::place_size` meets its contract.
+-- `contents::place_size` meets its contract.
 use mathlib.Core.Path.{ap, _∙_}
 use Prim.Native.Nat.{ℕ, _+_, _*_}
 use native.Mathlib.Omega.{arith}
 use borrow.Author.Needs.{needs}
-use Rattle.pruning.specs.Walking.{front-inside, word-count}
-use Rattle.pruning.proofs.walking.place_size.Statement.{statement}
-use Rattle.pruning.proofs.walking.place_size.Tie as tie
+use Rattle.contents.specs.Contents.{front-inside}
+use Rattle.contents.specs.Walking.{word-count}
+use Rattle.contents.proofs.place_size.Statement.{statement}
+use Rattle.contents.proofs.place_size.Tie as tie
 
 byte-at-requires : tie.Need-byte-at-requires
 byte-at-requires c κs = let inside = front-inside (c .before .pre) in omega (arith, inside .0, inside .1)

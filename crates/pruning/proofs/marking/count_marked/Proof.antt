@@ -1,4 +1,4 @@
--- `pruning::walking::count_marked` meets its contract. The loop's invariant: those before j are counted.
+-- `pruning::marking::count_marked` meets its contract. The loop's invariant: those before j are counted.
 use mathlib.Core.Path.{_≡_, refl, ap, _∙_}
 use mathlib.Core.Logic.{⊎-elim}
 use Prim.Native.Nat.{_-_, _≤_}
@@ -7,9 +7,9 @@ use native.Mathlib.Omega.{arith}
 use borrow.Author.Needs.{needs}
 use borrow.Author.Tests.{eq-eqb, ne-eqb}
 use Rattle.laws.specs.Ranks.{rank, rank-next, rank-most}
-use Rattle.pruning.specs.Walking.{marked, mark-is}
-use Rattle.pruning.proofs.walking.count_marked.Statement.{statement}
-use Rattle.pruning.proofs.walking.count_marked.Tie as tie
+use Rattle.pruning.specs.Marking.{marked, mark-is}
+use Rattle.pruning.proofs.marking.count_marked.Statement.{statement}
+use Rattle.pruning.proofs.marking.count_marked.Tie as tie
 
 abbrev Inv-loop : tie.InvT-loop
 Inv-loop count marks kept₀ j₀ kept j = (j ≤ count) × (kept ≡ rank (marked marks) j)

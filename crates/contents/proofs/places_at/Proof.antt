@@ -1,4 +1,4 @@
--- `pruning::walking::places_at` meets its contract. The loop's invariant: `at` is the offset of word i.
+-- `contents::places_at` meets its contract. The loop's invariant: `at` is the offset of word i.
 use mathlib.Core.Path.{_≡_, ap, _∙_}
 use mathlib.Core.List.{List, [], flatMap}
 use Prim.Native.Nat.{_+_, _-_, _≤_}
@@ -8,10 +8,10 @@ use lib.ListN.{length, take, getD}
 use lib.Seq.{take-all}
 use Rattle.nets.specs.Nets.{Word}
 use Rattle.bundles.specs.Layout.{wordBytes}
-use Rattle.pruning.specs.Contents.{contentsOf, frontBytes}
-use Rattle.pruning.specs.Walking.{front-inside, word-count, word-length}
-use Rattle.pruning.proofs.walking.places_at.Statement.{statement}
-use Rattle.pruning.proofs.walking.places_at.Tie as tie
+use Rattle.contents.specs.Contents.{contentsOf, frontBytes, front-inside}
+use Rattle.contents.specs.Walking.{word-count, word-length}
+use Rattle.contents.proofs.places_at.Statement.{statement}
+use Rattle.contents.proofs.places_at.Tie as tie
 
 abbrev Inv-loop : tie.InvT-loop
 Inv-loop bundle words at₀ i₀ at i =
