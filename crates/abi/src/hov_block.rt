@@ -1,27 +1,10 @@
 // Opening and sealing.
-use refusals::Written;
+use numbers::written::handed;
 ghost use mathlib.Core.Path.{_≡_};
 ghost use lib.ListN.{length};
 ghost use Rattle.refusals.specs.Answers.{answer as answerTo, written, numberOf};
 ghost use Rattle.block.specs.File.{opened, sealed};
-ghost use Rattle.abi.specs.Numbers.{withValue};
-
-// Hands an answer out as numbers.
-pub fn handed(written: Written, answer: &mut [u64; 4]) -> u32
-    ensures { λ r. ⌜ r ≡ numberOf written ⌝ }
-    ensures { λ _. ⌜ now (answer .exit) ≡ withValue (now (answer .entry)) written ⌝ }
-{
-    match written {
-        Written::Length(n) => {
-            answer[0] = n as u64;
-            0
-        }
-        Written::Refused(r) => {
-            answer[0] = r.spot as u64;
-            r.number as u32
-        }
-    }
-}
+ghost use Rattle.numbers.specs.Numbers.{withValue};
 
 // Opens a sealed file. answer[0]: the length of the bundle, in front of the output.
 #[no_mangle]

@@ -1,11 +1,11 @@
 // Pruning.
-use crate::hov_block::handed;
+use numbers::written::handed;
 ghost use mathlib.Core.Path.{_≡_};
 ghost use lib.ListN.{length};
 ghost use Rattle.refusals.specs.Answers.{answer as answerTo, written, numberOf};
 ghost use Rattle.verdicts.specs.Judging.{tableAfter};
 ghost use Rattle.pruning.specs.Pruning.{pruning};
-ghost use Rattle.abi.specs.Numbers.{withValue};
+ghost use Rattle.numbers.specs.Numbers.{withValue};
 
 // Prunes an accepted bundle. answer[0]: the length of the pruned bundle, in front of the output. The table is left as hov_judge leaves it.
 #[no_mangle]

@@ -1,28 +1,8 @@
 // Screening.
-use screening::Screened;
+use numbers::screened::handed;
 ghost use mathlib.Core.Path.{_≡_};
 ghost use Rattle.screening.specs.Screening.{screened, screenedJoined, screenedNumber};
-ghost use Rattle.abi.specs.Numbers.{withScreened};
-
-// Hands the answer of screening out as numbers.
-fn handed(screened: Screened, answer: &mut [u64; 4]) -> u32
-    ensures { λ r. ⌜ r ≡ screenedNumber screened ⌝ }
-    ensures { λ _. ⌜ now (answer .exit) ≡ withScreened (now (answer .entry)) screened ⌝ }
-{
-    match screened {
-        Screened::Permitted => 0,
-        Screened::Stopped(stop) => {
-            answer[0] = stop.position as u64;
-            answer[1] = stop.place as u64;
-            answer[2] = stop.shortfall;
-            256
-        }
-        Screened::Refused(r) => {
-            answer[0] = r.spot as u64;
-            r.number as u32
-        }
-    }
-}
+ghost use Rattle.numbers.specs.Numbers.{withScreened};
 
 // Screens a word with a bundle. Returns 256 where the word is stopped: answer[0] to [2] are then the position of the first refused step, the
 // lowest place that refuses it, and how many tokens that place lacks there.

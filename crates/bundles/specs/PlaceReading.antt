@@ -18,8 +18,8 @@ use Rattle.limits.specs.Limits.{MAX-EVENTS, MAX-PLACES}
 use Rattle.refusals.specs.Table.{BUNDLE-END}
 use Rattle.refusals.specs.Results.{value, refused, bind}
 use Rattle.nets.specs.Nets as theory
-use Rattle.nets.specs.Machine.{placeOf}
-use Rattle.nets.specs.declared.Place.{Place}
+use Rattle.places.specs.Machine.{placeOf}
+use Rattle.places.specs.declared.Place.{Place}
 use Rattle.bundles.specs.Reading.{Read, got, item, byte, number, times, onward}
 use Rattle.bundles.specs.Layout.{PlaceFields, toPlace}
 use Rattle.bundles.specs.Readers.{anything, place, places}

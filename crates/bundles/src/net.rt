@@ -7,7 +7,7 @@ use crate::fields::byte_up_to;
 use crate::fields::numbers_left;
 use limits::MAX_EVENTS;
 use limits::MAX_PLACES;
-use nets::Place;
+use places::Place;
 use refusals::BUNDLE_END;
 use refusals::Refusal;
 use slices::number_at;

@@ -4,9 +4,9 @@ use bundles::fields::byte_below;
 use bundles::fields::byte_up_to;
 use heads::TakenHead;
 use limits::MAX_EVENTS;
-use nets::covers;
-use nets::gain;
-use nets::has_bit;
+use places::covers;
+use places::gain;
+use places::has_bit;
 use refusals::PLACE_PERMITS;
 use refusals::Refusal;
 use refusals::WEIGHTS;
@@ -46,7 +46,7 @@ enum Checked {
     Refused(Refusal),
 }
 
-// Whether the place at an offset permits the event after the counts. The tokens are added as `nets::tokens` does, but straight from the bytes,
+// Whether the place at an offset permits the event after the counts. The tokens are added as `places::tokens` does, but straight from the bytes,
 // since building a place costs more than this one test of it.
 fn place_permits(bundle: &[u8], at: usize, n: usize, counts: &[u16], event: usize) -> bool
     requires { ⌜ (n ≤ MAX-EVENTS)

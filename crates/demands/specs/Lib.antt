@@ -22,7 +22,6 @@ pub mod Comparing
 pub mod PruningProved
 pub mod TrafficProved
 pub mod Proved
-pub mod Files
 pub mod Samples
 pub mod JoiningProved
 pub mod CallSamples

@@ -31,15 +31,16 @@ use Rattle.bundles.specs.Readers as readers
 use Rattle.bundles.specs.Readers.{headOf, eventsIn, logIn, netIn, wordAfter, word, place, places, headAfter, bundleSize, bundleHead, readHead, term, weights, ofKind, certificate}
 use Rattle.verdicts.specs.Judging as verdicts
 use Rattle.verdicts.specs.Judging.{tallyOf, unsolved, solved, atEnd, afterHead, contents, judged, verdictOf, verdict, verdictNumber}
-use Rattle.verdicts.specs.Acceptance.{AcceptedAs, accepted-exactly, accepted-judging, accepted-table}
+use Rattle.verdicts.specs.Acceptance.{AcceptedAs, accepted-exactly, accepted-table}
 use Rattle.verdicts.specs.RefusalNumbers.{judge-numbers}
 use Rattle.verdicts.specs.declared.Tally.{Tally}
 use Rattle.verdicts.specs.declared.Verdict.{Verdict}
 use Rattle.verdicts.specs.declared.Verdict.the-variants as judging
 use Rattle.screening.specs.Screening.{wordOn, screening, replayed, screenedOf, screened}
+use Rattle.contents.specs.Contents.{accepted-contents}
 use Rattle.pruning.specs.Pruning.{names, named, renumbered, pruned, pruning}
 use Rattle.pruning.specs.PruneLaws.{named-member, named→, named-there, stays-named, pruned-bundle, pruned-accepted, pruned-tally, pruned-limits, pruned-shorter, pruned-twice}
-use Rattle.pruning.specs.Contents.{contentsIn, contentsOf, judge-refused, judge-accepted}
+use Rattle.pruning.specs.Judged.{judge-refused, judge-accepted}
 use Rattle.demands.specs.Demands.{LogContained, Compared}
 use Rattle.demands.specs.Comparing.{long-table, accepted-head, compared}
 use Rattle.demands.specs.Pruning.{PrunesTo, PruneExactly, WithoutIdle, Keeps, PermittedMore, Request7}
@@ -47,14 +48,9 @@ use Rattle.demands.specs.Pruning.{PrunesTo, PruneExactly, WithoutIdle, K
 -- ---- The call
 
 module _ (b : List ℕ) (bytes : Bytes b) where
-  -- the contents that pruning reads are those of the accepted bundle
-  contents-are : (c : Tally) (d : Contents) → AcceptedAs b c d → contentsOf b ≡ d
-  unfolding contentsOf contentsIn
-  contents-are c d a = rw (accepted-judging b bytes c d a)
-
   prunes : (tableSize : ℕ) (c : Tally) (d : Contents) → verdict tableSize b ≡ judging.Accepted c → AcceptedAs b c d
       → pruning tableSize b ≡ value (bytesOf (pruned d))
-  prunes tableSize c d yes′ a = judge-accepted tableSize b bytes c yes′ .1 ∙ ap (λ (x : Contents). value (bytesOf (pruned x))) (contents-are c d a)
+  prunes tableSize c d yes′ a = judge-accepted tableSize b bytes c yes′ .1 ∙ ap (λ (x : Contents). value (bytesOf (pruned x))) (accepted-contents b bytes c d a)
 
   module _ (tableSize : ℕ) where
     accepted-as : (c : Tally) → verdict tableSize b ≡ judging.Accepted c → (d : Contents) × AcceptedAs b c d

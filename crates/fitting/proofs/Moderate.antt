@@ -7,8 +7,8 @@ use lib.IntN.{ℤ}
 use lib.ListN.{getD}
 use Rattle.limits.specs.Limits.{MAX-EVENTS}
 use Rattle.nets.specs.Nets.{Counts}
-use Rattle.nets.specs.Machine.{Held}
-use Rattle.nets.proofs.Bounds.{Small, given-bound, taken-bound, tokens-held}
+use Rattle.places.specs.Machine.{Held}
+use Rattle.places.proofs.Bounds.{Small, given-bound, taken-bound, tokens-held}
 use Rattle.fitting.specs.Columns.{inRow, outRow, column, Moderate, Marking, putBetween, tookBetween, Between}
 
 -- every number is a `u16`

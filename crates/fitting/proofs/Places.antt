@@ -7,8 +7,8 @@ use native.Mathlib.Numerals.{add-one}
 use native.Mathlib.Omega.{arith}
 use lib.ListN.{length}
 use Rattle.limits.specs.Limits.{MAX-EVENTS}
-use Rattle.nets.specs.Machine.{placeOf}
-use Rattle.nets.specs.declared.Place as Declared
+use Rattle.places.specs.Machine.{placeOf}
+use Rattle.places.specs.declared.Place as Declared
 use Rattle.bundles.specs.PlaceReading.{placeSize, fieldsAt, placeOn, machinePlace, place-means, place-inside}
 use Rattle.bundles.specs.HeadReading.{HeadAt}
 use Rattle.bundles.specs.declared.Places.{Places}

@@ -9,8 +9,8 @@ use lib.ListN.{length, getD}
 use lib.Signed.{nonNeg}
 use Rattle.limits.specs.Limits.{MAX-EVENTS, MAX-PLACES}
 use Rattle.nets.specs.Nets.{Place, Counts, tokens as tokensAfter}
-use Rattle.nets.specs.Machine.{Held}
 use Rattle.nets.specs.Surplus.{given, taken}
+use Rattle.places.specs.Machine.{Held}
 use Rattle.fitting.specs.Fitting.{placeIn}
 
 -- ---- The matrix

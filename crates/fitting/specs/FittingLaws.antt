@@ -16,11 +16,11 @@ use Rattle.limits.specs.Limits.{MAX-EVENTS}
 use Rattle.nets.specs.Nets.{Log, Counts, Step, Place, noPlace, tokens, surplus, placePermits, rows, allowed, allowedSteps, fits}
 use Rattle.nets.specs.CountLaws.{length-counts}
 use Rattle.nets.specs.Fits.{LogBelow, allowed-listed}
-use Rattle.nets.specs.Machine.{placeOf}
 use Rattle.nets.specs.Rows.{row→, continuation→, allowedStep→}
 use Rattle.nets.specs.Surplus.{tokens-row}
 use Rattle.nets.specs.Wide.{wide, permits-wide}
-use Rattle.nets.specs.declared.Place as Declared
+use Rattle.places.specs.Machine.{placeOf}
+use Rattle.places.specs.declared.Place as Declared
 use Rattle.rows.specs.Rows.{ROW, Row, rowAt, rowsOf}
 use Rattle.rows.specs.Flat.{length-rows, rows-at}
 use Rattle.logs.specs.Log.{logRow, logRows}

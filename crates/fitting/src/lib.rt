@@ -8,15 +8,15 @@ use columns::start;
 use columns::write_columns;
 use heads::TakenHead;
 use limits::MAX_EVENTS;
-use nets::Place;
-use nets::covers;
-use nets::has_bit;
+use places::Place;
+use places::covers;
+use places::has_bit;
 use rows::ROW;
 ghost use mathlib.Core.Path.{_≡_};
 ghost use mathlib.Core.Bool.{true};
 ghost use Prim.Native.Nat.{_*_, _≤_};
 ghost use lib.ListN.{length};
-ghost use Rattle.nets.specs.Machine.{placeOf, Held};
+ghost use Rattle.places.specs.Machine.{placeOf, Held};
 ghost use Rattle.rows.specs.Rows.{ROW, rowAt, rowsOf};
 ghost use Rattle.heads.specs.Heads.{HeadHeld};
 ghost use Rattle.fitting.specs.Fitting.{eventsFit, rowFits, fitsRows, misfitIn};
@@ -44,7 +44,7 @@ fn row_fits(place: Place, row: &[u16]) -> bool
     if mask == 0 {
         return true;
     }
-    let tokens = nets::tokens(place, row);
+    let tokens = places::tokens(place, row);
     let consumed = place.consumed;
     events_fit(tokens, consumed, mask)
 }

@@ -15,3 +15,4 @@ pub mod Numbers
 pub mod Ranks
 pub mod Spans
 pub mod Columns
+pub mod Rewriting

@@ -4,7 +4,7 @@ pub mod words; // a word taken
 use limits::MAX_EVENTS;
 use limits::MAX_LOG_EVENTS;
 use limits::MAX_ROWS;
-use nets::first_bad;
+use places::first_bad;
 use refusals::EVENTS;
 use refusals::NUMBERS_SHORT;
 use refusals::ROWS;

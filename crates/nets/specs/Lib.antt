@@ -22,5 +22,4 @@ pub mod SeparationProblems
 pub mod ParikhClosure
 pub mod Wide
 pub mod Traffic
-pub mod Machine
 pub mod Pruning

@@ -8,13 +8,9 @@ use native.Mathlib.Omega.{arith}
 use lib.Dec.{T}
 use lib.IntN.{ℤ, pos, subℕ, _+ℤ_, _-ℤ_, +ℤ-comm}
 use lib.Signed.{nonNeg}
-use mir.Syntax.{w64}
-use mir.Val.{ofZ, toZ}
-use mir.Facts.{toZ-pos}
 use Rattle.laws.specs.Sums.{sum, sum-add, sum-same}
 use Rattle.laws.specs.Differences.{difference, difference-minus, pos-difference, nonNeg-difference, pos-of-difference, negativePart}
 use Rattle.nets.specs.Nets.{Word, Place, at, same, occurrences, counts, stepAfter, tokens, surplus, placePermits, shortfall}
-use Rattle.nets.specs.Machine.{Held, held}
 use Rattle.nets.specs.CountLaws.{at-counts, occurrences-snoc}
 use Rattle.nets.specs.Surplus.{given, taken, tokens-is, tokens-zeros}
 use Rattle.nets.specs.Weights.{pick}
@@ -47,7 +43,7 @@ unfolding shortfall surplus
 shortfall-is n p u e = refl
 
 -- where the tokens cover what an event takes, the tokens behind it are a natural number
-covered-enough : (p : Place) (t e : ℕ) → covered p (pos t) e ≡ true → p .consumed e ≤ t
+pub covered-enough : (p : Place) (t e : ℕ) → covered p (pos t) e ≡ true → p .consumed e ≤ t
 covered-enough p t e h = nonNeg-difference t (p .consumed e) .0 (subst (λ (z : ℤ). T (nonNeg z)) (difference t (p .consumed e)) (rw h tt))
 
 pub moved-amount : (p : Place) (t e : ℕ) → p .consumed e ≤ t → moved p (pos t) e ≡ pos (t - p .consumed e + p .produced e)
@@ -88,39 +84,3 @@ module _ (n : ℕ) where
       (over-snoc (p .consumed) u e h)
       ∙ sym (moved-difference p e (p .initial + over (p .produced) u) (over (p .consumed) u))
       ∙ ap (λ (z : ℤ). moved p z e) (sym (tokens-is n p (counts n u)))
-
--- ---- Tokens of two-byte numbers
-
--- t tokens behind i permitted events: a natural number, which 64 bits hold
-pub record TokensAfter (t : ℤ) (i : ℕ) : Type 0 where
-  pub amount : ℕ
-  pub is : t ≡ pos amount
-  pub most : amount ≤ 65535 + 65535 * i
-
-pub tokens-start : (p : Place) → p .initial ≤ 65535 → TokensAfter (pos (p .initial)) 0
-tokens-start p h = record { amount = p .initial; is = refl; most = omega arith }
-
-module _ {t : ℤ} {i : ℕ} (a : TokensAfter t i) where
-  -- a permitted event more
-  pub tokens-moved : (p : Place) (e : ℕ) → covered p t e ≡ true → p .produced e ≤ 65535 → TokensAfter (moved p t e) (i + 1)
-  tokens-moved p e h few =
-      let enough : p .consumed e ≤ a .amount = covered-enough p (a .amount) e (ap (λ (z : ℤ). covered p z e) (sym (a .is)) ∙ h) in
-      record {
-        amount = a .amount - p .consumed e + p .produced e;
-        is = ap (λ (z : ℤ). moved p z e) (a .is) ∙ moved-amount p (a .amount) e enough;
-        most = omega (arith, a .most);
-      }
-
-  module _ (few : i ≤ 65535) where
-    -- the tokens, and what an event leaves of them
-    pub after-held : Held t
-    after-held = held (a .amount) 0 (omega (arith, a .most)) (omega arith) (a .is ∙ rw (pos-of-difference (a .amount) 0 (omega arith)) (ap pos (omega arith)))
-
-    pub left-held : (taken : ℕ) → taken ≤ 65535 → Held (t -ℤ pos taken)
-    left-held taken little =
-        held (a .amount) taken (omega (arith, a .most)) (omega arith)
-        (ap (λ (z : ℤ). z -ℤ pos taken) (a .is) ∙ difference (a .amount) taken)
-
-    -- the bits of an `i64` say as much
-    pub tokens-bits : toZ w64 (ofZ w64 t) ≡ t
-    tokens-bits = rw (a .is) (toZ-pos w64 {n = a .amount} (omega (arith, a .most)))

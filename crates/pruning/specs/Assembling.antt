@@ -4,18 +4,17 @@ use mathlib.Core.List.{List, [], _∷_, _++_, flatMap, append-assoc}
 use Prim.Native.Nat.{ℕ, _+_, _-_, _*_, _≤_, _<_}
 use native.Mathlib.Nat.{add-mul}
 use native.Mathlib.Omega.{arith}
-use lib.ListN.{length, take, getD, set, length-append}
-use lib.Seq.{getD-append-seam, take-at}
+use lib.ListN.{length, take, set, length-append}
 use Rattle.laws.specs.Lists.{tabulate}
 use Rattle.laws.specs.Parts.{front, spliced, spliced-front, front-next, spliced-sets, length-spliced}
 use Rattle.laws.specs.Ranks.{rank, rank-same, keepAt, keepAt-length, keepAt-most}
 use Rattle.limits.specs.Limits.{MAX-PLACES}
-use Rattle.bundles.specs.Layout.{PlaceFields, Contents, placeBytes, placesBytes, certificateBytes, headBytes, bytesOf, wordBytes}
+use Rattle.bundles.specs.Layout.{PlaceFields, Contents, placeBytes, certificateBytes, headBytes, bytesOf}
 use Rattle.bundles.specs.PlaceReading.{placeSize}
+use Rattle.contents.specs.Contents.{IsBundle, contentsOf, frontBytes, bytes-parts, places-length, front-is, head-length, head-inside}
 use Rattle.pruning.specs.Pruning.{named, pruned}
-use Rattle.pruning.specs.PruneLaws.{places-length, certificates-length, pruned-length, pruned-head}
-use Rattle.pruning.specs.Contents.{IsBundle, contentsOf, frontBytes, bytes-parts}
-use Rattle.pruning.specs.Walking.{marksOf, marked, marks-named}
+use Rattle.pruning.specs.PruneLaws.{certificates-length, pruned-length, pruned-head}
+use Rattle.pruning.specs.Marking.{marksOf, marked, marks-named}
 use Rattle.pruning.specs.Writing.{PlacesRoom, CertificatesRoom}
 
 module _ {b : List ℕ} (bundle : IsBundle b) where
@@ -30,26 +29,6 @@ module _ {b : List ℕ} (bundle : IsBundle b) where
 
   abbrev at : ℕ
   at = length (frontBytes (c .head))
-
-  parts : b ≡ frontBytes (c .head) ++ (length ps ∷ (flatMap placeBytes ps ++ flatMap certificateBytes (c .certificates)))
-  parts = bundle .layout ∙ bytes-parts c
-
-  -- the place count
-  pub count-at : getD b at 0 ≡ length ps
-  count-at = ap (λ (l : List ℕ). getD l at 0) parts ∙ getD-append-seam (frontBytes (c .head)) (length ps) (flatMap placeBytes ps ++ flatMap certificateBytes (c .certificates)) 0
-
-  -- n and the log
-  front-is : take at b ≡ frontBytes (c .head)
-  front-is = ap (take at) parts ∙ take-at (frontBytes (c .head)) (length ps ∷ (flatMap placeBytes ps ++ flatMap certificateBytes (c .certificates))) at refl
-
-  -- where the certificates begin
-  pub head-length : length (headBytes (c .head)) ≡ at + 1 + length ps * size
-  unfolding headBytes placesBytes frontBytes
-  head-length = omega (arith, length-append (flatMap wordBytes (c .head .log)) (length ps ∷ flatMap placeBytes ps), places-length (c .head .events) ps (bundle .limits .head .places))
-
-  pub head-inside : length (headBytes (c .head)) ≤ length b
-  unfolding bytesOf
-  head-inside = omega (arith, ap length (bundle .layout), length-append (headBytes (c .head)) (flatMap certificateBytes (c .certificates)))
 
   -- how many places are kept
   pub kept-count : rank (marked (marksOf (c .certificates))) (length ps) ≡ length (pruned c .head .places)

@@ -1,7 +1,7 @@
 pub mod Pruning
 pub mod PruneLaws
-pub mod Contents
-pub mod Walking
+pub mod Judged
+pub mod Marking
 pub mod Writing
 pub mod Assembling
 pub mod RefusalNumbers

@@ -3,7 +3,7 @@ use mathlib.Core.Path.{_≡_, refl, sym, ap, ap₂, _∙_, subst}
 use mathlib.Core.Bool.{Bool, true, _||_}
 use mathlib.Core.List.{List, [], _∷_, _++_, map, flatMap, List·Memᴰ, List·Memᴰ·head, List·Memᴰ·tail, Memᴰ·map}
 use Prim.Native.Nat.{ℕ, _+_, _*_, _≤_, _<_}
-use native.Mathlib.Nat.{zero-mul, suc-mul, mul-le-mul-right}
+use native.Mathlib.Nat.{mul-le-mul-right}
 use native.Mathlib.Omega.{arith}
 use borrow.Author.Tests.{eq-eqb}
 use lib.Dec.{T, eqb→eq}
@@ -11,15 +11,15 @@ use lib.ListN.{length, length-append}
 use Rattle.laws.specs.Booleans.{yes-true}
 use Rattle.laws.specs.Every.{Every, every-member, every-intro}
 use Rattle.laws.specs.Lists.{any, any-witness, any-intro}
-use Rattle.laws.specs.Numbers.{le16}
 use Rattle.laws.specs.Ranks.{keepAt, rank, keepAt-at, keepAt-from, keepAt-member, keepAt-most, keepAt-all, keepAt-map, keepAt-same, rank-all, rank-same}
 use Rattle.nets.specs.Nets.{Net, Certificate, byPlace, byWeights, Bundle, accepted, tally}
 use Rattle.nets.specs.Pruning as theory
 use Rattle.nets.specs.Pruning.{prune, prune-accepted, prune-tally}
 use Rattle.bundles.specs.Layout.{PlaceFields, CertificateFields, kind0, kind1, Head, Contents, toPlace, toNet, toTerm, toWeights, toCertificate, toBundle, wordBytes, placeBytes, placesBytes, weightBytes, certificateBytes, headBytes, bytesOf, PlaceInLimits, HeadInLimits, CertificateInLimits, InLimits}
-use Rattle.pruning.specs.Pruning.{names, named, renumbered, pruned}
 use Rattle.bundles.specs.LayoutLaws.{every-map}
 use Rattle.bundles.specs.PlaceReading.{placeSize}
+use Rattle.contents.specs.Contents.{places-length}
+use Rattle.pruning.specs.Pruning.{names, named, renumbered, pruned}
 
 -- ---- the theory's bundle
 
@@ -76,7 +76,7 @@ module _ (cs : List CertificateFields) (j : ℕ) where
 
 -- ---- the limits
 
-every-kept : {A : Type 0} (P : A → Type 0) (f : ℕ → Bool) (xs : List A) → Every P xs → Every P (keepAt f xs)
+pub every-kept : {A : Type 0} (P : A → Type 0) (f : ℕ → Bool) (xs : List A) → Every P xs → Every P (keepAt f xs)
 every-kept P f xs v = every-intro P (keepAt f xs) (λ x m. every-member P xs v (keepAt-member f xs m))
 
 module _ (c : Contents) (limits : InLimits c) where
@@ -110,23 +110,6 @@ module _ (c : Contents) (limits : InLimits c) where
   }
 
 -- ---- the length
-
-numbers-length : (xs : List ℕ) → length (flatMap le16 xs) ≡ 2 * length xs
-unfolding flatMap
-numbers-length [] = refl
-numbers-length (x ∷ xs) = omega (arith, numbers-length xs)
-
--- the bytes of a place: two for each of its numbers
-pub place-length : (n : ℕ) (p : PlaceFields) → PlaceInLimits n p → length (placeBytes p) ≡ 2 * placeSize n
-unfolding placeBytes
-place-length n p v =
-    omega (arith, length-append (flatMap le16 (p .produced)) (flatMap le16 (p .consumed)), numbers-length (p .produced), numbers-length (p .consumed), v .producedSize, v .consumedSize)
-
-pub places-length : (n : ℕ) (ps : List PlaceFields) → Every (PlaceInLimits n) ps → length (flatMap placeBytes ps) ≡ length ps * (2 * placeSize n)
-unfolding flatMap
-places-length n [] v = sym (zero-mul (2 * placeSize n))
-places-length n (p ∷ ps) v =
-    omega (arith, length-append (placeBytes p) (flatMap placeBytes ps), place-length n p (v .0), places-length n ps (v .1), suc-mul (length ps) (2 * placeSize n))
 
 -- a renumbered certificate is as long
 pub certificates-length : (kept : ℕ → Bool) (cs : List CertificateFields) → length (flatMap certificateBytes (map (renumbered kept) cs)) ≡ length (flatMap certificateBytes cs)

@@ -2,27 +2,28 @@
 use mathlib.Core.Path.{_≡_, refl, sym, ap, ap₂, _∙_, subst}
 use mathlib.Core.Bool.{Bool, true, false, cond}
 use mathlib.Core.Logic.{⊎-elim}
-use mathlib.Core.List.{List, [], _∷_, _++_, map, map-append, flatMap, append-assoc, append-nil, List·Memᴰ, Memᴰ·append-left}
-use Prim.Native.Nat.{ℕ, suc, _+_, _-_, _*_, _≤_, _<_}
+use mathlib.Core.List.{List, [], _∷_, _++_, flatMap}
+use Prim.Native.Nat.{ℕ, _+_, _-_, _*_, _≤_, _<_}
 use native.Mathlib.Nat.{add-mul, mul-le-mul-right}
 use native.Mathlib.Numerals.{add-one}
 use native.Mathlib.Omega.{arith}
 use borrow.Author.Tests.{ne-eqb, eqb-true, eqb-false, ltb-true, ltb-false, lt-ltb, le-ltb}
 use lib.Dec.{eqb, ltb}
-use lib.ListN.{length, take, drop, getD, set, replicate, length-append, take-append-drop}
-use lib.Seq.{take-suc, take-all, length-take-le}
+use lib.ListN.{length, take, drop, getD, set, replicate, length-append}
+use lib.Seq.{take-all, length-take-le}
 use Rattle.laws.specs.Booleans.{lt-or-le}
-use Rattle.laws.specs.Every.{Every, every-member, every-intro}
-use Rattle.laws.specs.Lists.{tabulate, tabulate-same, getD-tabulate, getD-member, flatMap-append}
-use Rattle.laws.specs.Ranks.{keepAt, rank, rank-next, rank-more, rank-same, keepAt-length, keepAt-snoc, keepAt-member}
-use Rattle.laws.specs.Spans.{span-at, part-at, part-within, set-tabulate}
+use Rattle.laws.specs.Lists.{tabulate, tabulate-same, getD-tabulate}
+use Rattle.laws.specs.Ranks.{keepAt, rank, rank-next, rank-more, rank-same, keepAt-length}
+use Rattle.laws.specs.Rewriting.{rewritten, rewritten-next, rewritten-map, rewritten-kept}
+use Rattle.laws.specs.Spans.{part-at, set-tabulate}
 use Rattle.limits.specs.Limits.{MAX-PLACES}
 use Rattle.bundles.specs.Layout.{PlaceFields, CertificateFields, kind0, kind1, PlaceInLimits, placeBytes, certificateBytes, headBytes}
 use Rattle.bundles.specs.PlaceReading.{placeSize}
+use Rattle.contents.specs.Contents.{IsBundle, contentsOf, frontBytes, places-length}
+use Rattle.contents.specs.Walking.{CertificateAt, endAt, end-is, certificate-long, certificate-inside, kind-0, kind-1, noCertificate, Walked, walk-least, walk-here, walk-certificate, walk-next, walk-end, certificateOffset, noPlace, first-within, place-bytes, place-inside}
 use Rattle.pruning.specs.Pruning.{named, renumbered, pruned}
-use Rattle.pruning.specs.PruneLaws.{place-length, places-length, certificates-length}
-use Rattle.pruning.specs.Contents.{IsBundle, contentsOf, frontBytes, bytes-parts}
-use Rattle.pruning.specs.Walking.{CertificateAt, endAt, end-is, certificate-long, certificate-inside, kind-0, kind-1, marksOf, marked, marks-named, noCertificate, Walked, walk-here, walk-certificate, walk-place, walk-end, certificateOffset}
+use Rattle.pruning.specs.PruneLaws.{every-kept, certificates-length}
+use Rattle.pruning.specs.Marking.{marksOf, marked, marks-named, walk-place}
 
 -- ---- places
 
@@ -36,9 +37,9 @@ pub record PlaceRoom (b : List ℕ) (from size mark : ℕ) (output : List ℕ) (
   pub starts : at ≤ length output
   pub room : (mark ≡ 0 → ⊥) → at + size ≤ length output
 
--- the bytes of the named ones among the first j places of a bundle
-unfoldable pub placesDone : List ℕ → ℕ → List ℕ
-placesDone b j = flatMap placeBytes (keepAt (named (contentsOf b .certificates)) (take j (contentsOf b .head .places)))
+-- what is written for a place of a bundle, by its number: its bytes if it is named
+abbrev pub placePiece : List ℕ → ℕ → PlaceFields → List ℕ
+placePiece b j p = cond (named (contentsOf b .certificates) j) (placeBytes p) []
 
 -- what writing the places asks: where they stand, of how many bytes they are, the marks, and room for those that are marked
 pub record PlacesRoom (b : List ℕ) (first size count : ℕ) (marks output : List ℕ) : Type 0 where
@@ -56,22 +57,10 @@ module _ {b : List ℕ} {first size count : ℕ} {marks output : List ℕ} (r : 
   abbrev kept : ℕ → Bool
   kept = named (contentsOf b .certificates)
 
-  first-within : (j : ℕ) → Every (PlaceInLimits (contentsOf b .head .events)) (take j ps)
-  first-within j = every-intro (PlaceInLimits (contentsOf b .head .events)) (take j ps)
-      (λ p m. every-member (PlaceInLimits (contentsOf b .head .events)) ps (r .bundle .limits .head .places) (subst (λ (l : List PlaceFields). List·Memᴰ p l) (take-append-drop j ps) (Memᴰ·append-left (drop j ps) m)))
-
-  within : (j : ℕ) → Every (PlaceInLimits (contentsOf b .head .events)) (keepAt kept (take j ps))
-  within j = every-intro (PlaceInLimits (contentsOf b .head .events)) (keepAt kept (take j ps))
-      (λ p m. every-member (PlaceInLimits (contentsOf b .head .events)) (take j ps) (first-within j) (keepAt-member kept (take j ps) m))
-
-  -- where the places stand
-  places-stand : b ≡ (frontBytes (contentsOf b .head) ++ length ps ∷ []) ++ (flatMap placeBytes ps ++ flatMap certificateBytes (contentsOf b .certificates))
-  places-stand = r .bundle .layout ∙ bytes-parts (contentsOf b) ∙ sym (append-assoc (frontBytes (contentsOf b .head)) (length ps ∷ []) (flatMap placeBytes ps ++ flatMap certificateBytes (contentsOf b .certificates)))
-
-  done-length : (j : ℕ) → j ≤ count → length (placesDone b j) ≡ rank kept j * size
-  unfolding placesDone
+  done-length : (j : ℕ) → j ≤ count → length (rewritten (placePiece b) (take j ps)) ≡ rank kept j * size
   done-length j h =
-      places-length (contentsOf b .head .events) (keepAt kept (take j ps)) (within j)
+      ap length (rewritten-kept placeBytes kept (take j ps))
+      ∙ places-length (contentsOf b .head .events) (keepAt kept (take j ps)) (every-kept (PlaceInLimits (contentsOf b .head .events)) kept (take j ps) (first-within (r .bundle) j))
       ∙ ap₂ (λ (x y : ℕ). x * y) (keepAt-length kept (take j ps) ∙ ap (rank kept) (length-take-le j ps (omega (arith, r .counts)))) (sym (r .sizes))
 
   -- one place more
@@ -79,52 +68,8 @@ module _ {b : List ℕ} {first size count : ℕ} {marks output : List ℕ} (r : 
     there : j < length ps
     there = omega (arith, r .counts)
 
-    abbrev noPlace : PlaceFields
-    noPlace = record { initial = 0; produced = []; consumed = [] }
-
-    done-next : placesDone b (j + 1) ≡ placesDone b j ++ flatMap placeBytes (cond (kept j) (getD ps j noPlace ∷ []) [])
-    unfolding placesDone
-    done-next =
-        let p = getD ps j noPlace in
-        ap (λ (l : List PlaceFields). flatMap placeBytes (keepAt kept l)) (rw (add-one j) (take-suc ps j noPlace there))
-        ∙ ap (flatMap placeBytes) (keepAt-snoc kept (take j ps) p ∙ ap (λ (i : ℕ). keepAt kept (take j ps) ++ cond (kept i) (p ∷ []) []) (length-take-le j ps (omega arith)))
-        ∙ flatMap-append placeBytes (keepAt kept (take j ps)) (cond (kept j) (p ∷ []) [])
-
-    done-kept : kept j ≡ true → placesDone b (j + 1) ≡ placesDone b j ++ placeBytes (getD ps j noPlace)
-    unfolding flatMap
-    done-kept e = done-next ∙ rw e (ap (λ (l : List ℕ). placesDone b j ++ l) (append-nil (placeBytes (getD ps j noPlace))))
-
-    done-idle : kept j ≡ false → placesDone b (j + 1) ≡ placesDone b j
-    unfolding flatMap
-    done-idle e = done-next ∙ rw e (append-nil (placesDone b j))
-
-    -- its bytes in the bundle
-    abbrev before : List ℕ
-    before = (frontBytes (contentsOf b .head) ++ length ps ∷ []) ++ flatMap placeBytes (take j ps)
-
-    abbrev rest : List ℕ
-    rest = flatMap placeBytes (drop (suc j) ps) ++ flatMap certificateBytes (contentsOf b .certificates)
-
-    stands : b ≡ before ++ (placeBytes (getD ps j noPlace) ++ rest)
-    stands = span-at placeBytes ps j noPlace there (frontBytes (contentsOf b .head) ++ length ps ∷ []) (flatMap certificateBytes (contentsOf b .certificates)) b places-stand
-
-    offset : length before ≡ first + j * size
-    offset =
-        let earlier : length (flatMap placeBytes (take j ps)) ≡ j * size =
-        places-length (contentsOf b .head .events) (take j ps) (first-within j) ∙ ap₂ (λ (x y : ℕ). x * y) (length-take-le j ps (omega arith)) (sym (r .sizes)) in
-        omega (arith, earlier, r .starts, length-append (frontBytes (contentsOf b .head) ++ length ps ∷ []) (flatMap placeBytes (take j ps)), length-append (frontBytes (contentsOf b .head)) (length ps ∷ []))
-
-    long : length (placeBytes (getD ps j noPlace)) ≡ size
-    long = place-length (contentsOf b .head .events) (getD ps j noPlace) (every-member (PlaceInLimits (contentsOf b .head .events)) ps (r .bundle .limits .head .places) (getD-member ps j noPlace there)) ∙ sym (r .sizes)
-
-    place-bytes : take size (drop (first + j * size) b) ≡ placeBytes (getD ps j noPlace)
-    place-bytes = part-at before (placeBytes (getD ps j noPlace)) rest b (first + j * size) size stands offset long
-
-    pub place-inside : first + j * size + size ≤ length b
-    place-inside = omega (arith, long, part-within before (placeBytes (getD ps j noPlace)) rest b (first + j * size) stands offset)
-
     -- room for it
-    place-room : kept j ≡ true → first + length (placesDone b j) + size ≤ length output
+    place-room : kept j ≡ true → first + length (rewritten (placePiece b) (take j ps)) + size ≤ length output
     place-room e =
         let next : rank kept (j + 1) ≡ rank kept j + 1 = ap (rank kept) (add-one j) ∙ rank-next kept j ∙ ap (λ (t : Bool). rank kept j + cond t 1 0) e in
         let product : rank kept (j + 1) * size ≡ rank kept j * size + size = rw next (omega (arith, add-mul (rank kept j) 1 size)) in
@@ -134,29 +79,25 @@ module _ {b : List ℕ} {first size count : ℕ} {marks output : List ℕ} (r : 
     mark-kept = rw (r .marks-are) (marks-named (contentsOf b .certificates) j (omega (arith, there, r .bundle .limits .head .placesSize)))
 
     -- what is copied of it
-    pub place-copied : placesDone b (j + 1) ≡ placesDone b j ++ placeCopied b (first + j * size) size (getD marks j 0)
+    pub place-copied : placePiece b j (getD ps j noPlace) ≡ placeCopied b (first + j * size) size (getD marks j 0)
     unfolding placeCopied marked
     place-copied = go (eqb (getD marks j 0) 0) refl
       where
-        go : (t : Bool) → eqb (getD marks j 0) 0 ≡ t → placesDone b (j + 1) ≡ placesDone b j ++ cond t [] (take size (drop (first + j * size) b))
-        go true e = done-idle (sym mark-kept ∙ rw e) ∙ sym (append-nil (placesDone b j))
-        go false e = done-kept (sym mark-kept ∙ rw e) ∙ ap (λ (l : List ℕ). placesDone b j ++ l) (sym place-bytes)
+        go : (t : Bool) → eqb (getD marks j 0) 0 ≡ t → placePiece b j (getD ps j noPlace) ≡ cond t [] (take size (drop (first + j * size) b))
+        go true e = let idle : kept j ≡ false = sym mark-kept ∙ rw e in rw idle
+        go false e = let stays : kept j ≡ true = sym mark-kept ∙ rw e in rw stays (sym (place-bytes (r .bundle) (r .starts) (r .sizes) j there))
 
-    pub place-fits : PlaceRoom b (first + j * size) size (getD marks j 0) output (first + length (placesDone b j))
+    pub place-fits : PlaceRoom b (first + j * size) size (getD marks j 0) output (first + length (rewritten (placePiece b) (take j ps)))
     unfolding marked
     place-fits = record {
-      inside = place-inside;
+      inside = place-inside (r .bundle) (r .starts) (r .sizes) j there;
       starts = omega (arith, r .room, done-length j (omega arith), mul-le-mul-right size (rank-more kept j count (omega arith)));
       room = λ other. place-room (sym mark-kept ∙ rw (ne-eqb (getD marks j 0) 0 other));
     }
 
-  pub done-all : placesDone b count ≡ flatMap placeBytes (pruned (contentsOf b) .head .places)
-  unfolding placesDone pruned
-  done-all = ap (λ (l : List PlaceFields). flatMap placeBytes (keepAt kept l)) (take-all count ps (omega (arith, r .counts)))
-
-pub done-none : (b : List ℕ) → placesDone b 0 ≡ []
-unfolding placesDone keepAt flatMap
-done-none b = refl
+  pub places-all : rewritten (placePiece b) (take count ps) ≡ flatMap placeBytes (pruned (contentsOf b) .head .places)
+  unfolding pruned
+  places-all = ap (rewritten (placePiece b)) (take-all count ps (omega (arith, r .counts))) ∙ rewritten-kept placeBytes kept ps
 
 -- ---- numbers
 
@@ -206,9 +147,9 @@ certificate-fits r =
     let is = end-is (r .here) in
     (omega (arith, long, is, r .ends), omega (arith, inside, is, r .ends), omega (arith, long, is, r .ends, r .room))
 
--- the bytes of the first k certificates of a bundle, renumbered
-unfoldable pub certificatesDone : List ℕ → ℕ → List ℕ
-certificatesDone b k = flatMap certificateBytes (map (renumbered (named (contentsOf b .certificates))) (take k (contentsOf b .certificates)))
+-- what is written for a certificate of a bundle: its bytes, with its place's new number
+abbrev pub certificatePiece : List ℕ → ℕ → CertificateFields → List ℕ
+certificatePiece b k c = certificateBytes (renumbered (named (contentsOf b .certificates)) c)
 
 -- what writing all of them asks
 pub record CertificatesRoom (b : List ℕ) (first : ℕ) (numbers output : List ℕ) (start : ℕ) : Type 0 where
@@ -226,6 +167,13 @@ module _ {b : List ℕ} {first : ℕ} {numbers output : List ℕ} {start : ℕ} 
   number-is j h =
       rw (r .numbers-are) (getD-tabulate MAX-PLACES (rank (marked (marksOf cs))) j 0 h
       ∙ rank-same (marked (marksOf cs)) (named cs) j (λ i l. marks-named cs i (omega arith)))
+
+  -- as long as those that stand in the bundle
+  pub done-size : {k from : ℕ} → Walked b first k from → start + length (rewritten (certificatePiece b) (take k cs)) ≡ start + (from - first)
+  unfolding certificateOffset
+  done-size {k} {from} w =
+      let done : length (rewritten (certificatePiece b) (take k cs)) ≡ length (flatMap certificateBytes (take k cs)) = ap length (rewritten-map certificateBytes (renumbered (named cs)) (take k cs)) ∙ certificates-length (named cs) (take k cs) in
+      omega (arith, w .offset, done)
 
   module _ {k from : ℕ} (w : Walked b first k from) (more : k < length cs) where
     here : CertificateAt b from
@@ -256,23 +204,16 @@ module _ {b : List ℕ} {first : ℕ} {numbers output : List ℕ} {start : ℕ} 
             part-at (here .before) (certificateBytes (here .certificate)) (here .rest) b from (endAt b from - from) (here .here) (here .size) size
             ∙ rw (is, certificate)
 
-    pub done-more : certificatesDone b (k + 1) ≡ certificatesDone b k ++ pieceAt numbers b from
-    unfolding certificatesDone flatMap
-    done-more =
-        let next : take (k + 1) cs ≡ take k cs ++ c ∷ [] = rw (add-one k) (take-suc cs k noCertificate more) in
-        rw (next, map-append (renumbered (named cs)) (take k cs) (c ∷ []))
-        (flatMap-append certificateBytes (map (renumbered (named cs)) (take k cs)) (renumbered (named cs) c ∷ [])
-        ∙ ap (λ (l : List ℕ). certificatesDone b k ++ l) (append-nil (certificateBytes (renumbered (named cs) c)) ∙ sym piece-is))
+    pub piece-written : certificatePiece b k c ≡ pieceAt numbers b from
+    piece-written = sym piece-is
 
-  -- as long as those that stand in the bundle
-  pub done-size : {k from : ℕ} → Walked b first k from → start + length (certificatesDone b k) ≡ start + (from - first)
-  unfolding certificatesDone certificateOffset
-  done-size {k} {from} w = omega (arith, w .offset, certificates-length (named cs) (take k cs))
+    -- as long as the certificate
+    pub piece-long : length (pieceAt numbers b from) ≡ endAt b from - from
+    piece-long =
+        let done = rewritten (certificatePiece b) (take k cs) in
+        let longer : rewritten (certificatePiece b) (take (k + 1) cs) ≡ done ++ pieceAt numbers b from = rewritten-next (certificatePiece b) cs k noCertificate more ∙ ap (λ (l : List ℕ). done ++ l) piece-written in
+        omega (arith, ap length longer, length-append done (pieceAt numbers b from), done-size w, done-size (walk-next (r .bundle) (r .starts) w more), walk-least w, end-is here)
 
-  pub certificates-none : certificatesDone b 0 ≡ []
-  unfolding certificatesDone flatMap
-  certificates-none = refl
-
-  pub certificates-all : {k from : ℕ} → Walked b first k from → length b ≤ from → certificatesDone b k ≡ flatMap certificateBytes (pruned (contentsOf b) .certificates)
-  unfolding certificatesDone pruned
-  certificates-all {k} w h = ap (λ (l : List CertificateFields). flatMap certificateBytes (map (renumbered (named cs)) l)) (walk-end (r .bundle) (r .starts) w h)
+  pub certificates-all : {k from : ℕ} → Walked b first k from → length b ≤ from → rewritten (certificatePiece b) (take k cs) ≡ flatMap certificateBytes (pruned (contentsOf b) .certificates)
+  unfolding pruned
+  certificates-all {k} w h = ap (rewritten (certificatePiece b)) (walk-end (r .bundle) (r .starts) w h) ∙ rewritten-map certificateBytes (renumbered (named cs)) cs

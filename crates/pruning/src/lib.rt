@@ -1,18 +1,18 @@
 // Pruning: an accepted bundle, written without the places that no certificate names. The contracts cite specs/Pruning.antt.
-pub mod walking; // the parts of a bundle that was judged, read without tests
+pub mod marking; // the places that certificates name
 pub mod writing; // the parts of a pruned bundle, written
 
+use contents::place_size;
+use contents::places_at;
 use judging::judge;
 use limits::MAX_PLACES;
+use marking::count_marked;
+use marking::mark_places;
 use refusals::OUTPUT_SHORT;
 use refusals::Written;
 use slices::byte_at;
 use slices::write_at;
 use verdicts::Verdict;
-use walking::count_marked;
-use walking::mark_places;
-use walking::place_size;
-use walking::places_at;
 use writing::numbers_of;
 use writing::write_certificates;
 use writing::write_places;
@@ -23,8 +23,8 @@ ghost use Rattle.refusals.specs.Answers.{answer, written};
 ghost use Rattle.refusals.specs.Results.{value};
 ghost use Rattle.bundles.specs.Layout.{bytesOf};
 ghost use Rattle.verdicts.specs.Judging.{tableAfter};
+ghost use Rattle.contents.specs.Contents.{IsBundle, contentsOf};
 ghost use Rattle.pruning.specs.Pruning.{pruned, pruning};
-ghost use Rattle.pruning.specs.Contents.{IsBundle, contentsOf};
 ghost use Rattle.pruning.specs.Assembling.{Measured};
 
 // Writes the parts of the pruned bundle to the front of the output: n and the log, the place count, the places, the certificates.

@@ -1,5 +1,5 @@
 // The parts of a pruned bundle, written behind each other. All are inner functions.
-use crate::walking::end_of;
+use contents::end_of;
 use limits::MAX_PLACES;
 use slices::byte_at;
 use slices::write_at;
@@ -12,9 +12,9 @@ ghost use Rattle.laws.specs.Parts.{spliced};
 ghost use Rattle.laws.specs.Ranks.{rank};
 ghost use Rattle.limits.specs.Limits.{MAX-PLACES};
 ghost use Rattle.bundles.specs.Layout.{placeBytes, certificateBytes};
+ghost use Rattle.contents.specs.Contents.{contentsOf};
 ghost use Rattle.pruning.specs.Pruning.{pruned};
-ghost use Rattle.pruning.specs.Contents.{contentsOf};
-ghost use Rattle.pruning.specs.Walking.{marked};
+ghost use Rattle.pruning.specs.Marking.{marked};
 ghost use Rattle.pruning.specs.Writing.{PlaceRoom, placeCopied, PlacesRoom, CertificateRoom, CertificatesRoom, pieceAt};
 
 // Copies a place of so many bytes, if it is marked. Gives the offset behind what is written.

@@ -12,8 +12,8 @@ use mir.Val.{SFits}
 use Rattle.limits.specs.Limits.{MAX-EVENTS, MAX-WORD-EVENTS}
 use Rattle.nets.specs.Nets.{Word, Place}
 use Rattle.nets.specs.Events.{EventsBelow}
-use Rattle.nets.specs.Machine.{Held}
 use Rattle.nets.specs.Markings.{covered, moved}
+use Rattle.places.specs.Machine.{Held}
 
 -- ---- The table
 

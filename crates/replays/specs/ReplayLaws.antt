@@ -18,8 +18,8 @@ use Rattle.laws.specs.Lists.{each-next, each-set}
 use Rattle.limits.specs.Limits.{MAX-EVENTS}
 use Rattle.nets.specs.Nets.{Word, Place, noPlace, counts, tokens}
 use Rattle.nets.specs.Events.{EventsBelow}
-use Rattle.nets.specs.Machine.{Held}
 use Rattle.nets.specs.Markings.{left, covered, moved, tokens-snoc}
+use Rattle.places.specs.Machine.{Held}
 use Rattle.replays.specs.Columns.{WIDTH, EVENTS, changesOf, Column, Beside, stepped, Steppable, Stepped, Noted, behind, Replayable, Advanced, CoveredAll}
 
 -- ---- The columns of a table

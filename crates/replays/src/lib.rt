@@ -1,9 +1,9 @@
 // The replay of a part of a word on eight places side by side, so that the compiler takes several at a time. The contracts cite
 // specs/Columns.antt. All are inner functions.
 use limits::MAX_EVENTS;
-use nets::Place;
-use nets::gain;
-use nets::shortfall;
+use places::Place;
+use places::gain;
+use places::shortfall;
 ghost use mathlib.Core.Path.{_≡_};
 ghost use mathlib.Core.Bool.{true};
 ghost use Prim.Native.Nat.{ℕ, _≤_, _<_};
@@ -12,7 +12,7 @@ ghost use lib.IntN.{pos};
 ghost use lib.ListN.{length, getD};
 ghost use lib.Signed.{nonNeg};
 ghost use Rattle.limits.specs.Limits.{MAX-EVENTS};
-ghost use Rattle.nets.specs.Machine.{placeOf};
+ghost use Rattle.places.specs.Machine.{placeOf};
 ghost use Rattle.replays.specs.Columns.{WIDTH, CHANGES, Column, Beside, Changed, Steppable, Stepped, Noted, Replayable, Advanced, CoveredAll};
 
 // The columns of a table: so many places are replayed at a time.

@@ -2,7 +2,7 @@
 pub mod index; // where to look for a row
 
 use limits::MAX_EVENTS;
-use nets::with_bit;
+use places::with_bit;
 ghost use mathlib.Core.Path.{_≡_};
 ghost use mathlib.Core.Bool.{true};
 ghost use mathlib.Core.List.{[], _∷_, _++_};

@@ -2,7 +2,7 @@
 use bundles::Head;
 use bundles::HeadRead;
 use limits::MAX_WORD_EVENTS;
-use nets::first_bad;
+use places::first_bad;
 use refusals::EVENT_COUNTS;
 use refusals::Refusal;
 use refusals::WORD_EVENT;

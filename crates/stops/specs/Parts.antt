@@ -16,8 +16,9 @@ use Rattle.laws.specs.Scans.{all-exactly}
 use Rattle.limits.specs.Limits.{MAX-EVENTS}
 use Rattle.nets.specs.Nets.{Word, Place, noPlace, counts, stepAfter, stepAt, tokens, placePermits, netPermits, shortfall}
 use Rattle.nets.specs.Events.{EventsBelow}
-use Rattle.nets.specs.Machine.{Held, held}
-use Rattle.nets.specs.Markings.{covered, TokensAfter, tokens-none, tokens-snoc, tokens-start, tokens-moved, after-held, permits-is}
+use Rattle.nets.specs.Markings.{covered, tokens-none, tokens-snoc, permits-is}
+use Rattle.places.specs.Machine.{Held, held}
+use Rattle.places.specs.Amounts.{TokensAfter, tokens-start, tokens-moved, after-held}
 use Rattle.replays.specs.Columns.{WIDTH, CHANGES, Column, behind, Replayable, Advanced, CoveredAll}
 use Rattle.replays.specs.ReplayLaws.{behind-tokens, behind-none}
 use Rattle.bundles.specs.Layout.{toPlace}

@@ -15,8 +15,9 @@ use mir.Facts.{toZ-pos}
 use Rattle.limits.specs.Limits.{MAX-EVENTS, MAX-WORD-EVENTS}
 use Rattle.nets.specs.Nets.{Word, Place, Step, counts, stepAfter, tokens, placePermits, shortfall}
 use Rattle.nets.specs.Events.{EventsBelow}
-use Rattle.nets.specs.Machine.{Held}
-use Rattle.nets.specs.Markings.{tokens-snoc, left, covered, missing, permits-is, shortfall-is, moved, TokensAfter, tokens-start, tokens-moved, after-held, left-held, tokens-bits}
+use Rattle.nets.specs.Markings.{tokens-snoc, left, covered, missing, permits-is, shortfall-is, moved}
+use Rattle.places.specs.Machine.{Held}
+use Rattle.places.specs.Amounts.{TokensAfter, tokens-start, tokens-moved, after-held, left-held, tokens-bits}
 use Rattle.stops.specs.Positions.{stepBehind, step-first, step-shift}
 use Rattle.stops.specs.declared.Stop.{Stop}
 

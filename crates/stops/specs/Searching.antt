@@ -16,9 +16,9 @@ use Rattle.laws.specs.Booleans.{lt-or-le}
 use Rattle.limits.specs.Limits.{MAX-WORD-EVENTS}
 use Rattle.nets.specs.Nets.{Word, Net, Place, stepAt, placePermits, shortfall}
 use Rattle.nets.specs.Events.{EventsBelow}
-use Rattle.nets.specs.Machine as machine
 use Rattle.nets.specs.Markings.{tokens-none}
-use Rattle.nets.specs.declared.Place as declared
+use Rattle.places.specs.Machine as machine
+use Rattle.places.specs.declared.Place as declared
 use Rattle.bundles.specs.Layout.{toPlace, toNet}
 use Rattle.bundles.specs.Readers.{eventsIn, netIn}
 use Rattle.bundles.specs.HeadReading.{HeadAt}

@@ -3,12 +3,12 @@
 pub mod parts; // the search in a long word
 
 use bundles::Head;
-use nets::Place;
-use nets::covers;
-use nets::shortfall;
-use nets::surplus;
 use parts::LONG;
 use parts::search_long;
+use places::Place;
+use places::covers;
+use places::shortfall;
+use places::surplus;
 ghost use mathlib.Core.Path.{_≡_};
 ghost use mathlib.Core.List.{_++_};
 ghost use Prim.Native.Nat.{_+_, _*_, _/_, _≤_};
@@ -16,7 +16,7 @@ ghost use lib.IntN.{pos, _+ℤ_};
 ghost use lib.ListN.{length, take};
 ghost use Rattle.limits.specs.Limits.{MAX-EVENTS, MAX-PLACES};
 ghost use Rattle.nets.specs.Nets.{Net};
-ghost use Rattle.nets.specs.Machine.{placeOf, Held};
+ghost use Rattle.places.specs.Machine.{placeOf, Held};
 ghost use Rattle.bundles.specs.Readers.{eventsIn, netIn};
 ghost use Rattle.bundles.specs.PlaceReading.{placeSize, placeOn};
 ghost use Rattle.stops.specs.Positions.{Best};

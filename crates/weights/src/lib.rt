@@ -8,7 +8,7 @@ use bundles::terms::read_term;
 use heads::TakenHead;
 use limits::MAX_EVENTS;
 use limits::MAX_TERMS;
-use nets::has_bit;
+use places::has_bit;
 use refusals::Refusal;
 use rows::ROW;
 use rows::counts_of;

@@ -10,8 +10,8 @@ use mir.Val.{toZ, ofZ}
 use Rattle.laws.specs.Numbers.{Bytes}
 use Rattle.nets.specs.Nets.{at, tokens, surplus, placePermits}
 use Rattle.nets.specs.Surplus.{tokens-first}
-use Rattle.nets.specs.Machine.{Held}
-use Rattle.nets.proofs.Bounds.{Small, tokens-held, tokens-fits, tokens-back, tokens-gain}
+use Rattle.places.specs.Machine.{Held}
+use Rattle.places.proofs.Bounds.{Small, tokens-held, tokens-fits, tokens-back, tokens-gain}
 use Rattle.bundles.specs.Layout.{toPlace}
 use Rattle.bundles.specs.PlaceReading.{placeOn, place-small, place-produced, place-consumed}
 use Rattle.certificates.proofs.place_permits.Statement.{statement}

@@ -8,7 +8,7 @@ use mir.Syntax.{w64}
 use mir.Val.{toZ}
 use mir.Facts.{toZ-ofZ}
 use Rattle.limits.specs.Limits.{MAX-EVENTS}
-use Rattle.nets.specs.Machine.{Held}
+use Rattle.places.specs.Machine.{Held}
 use Rattle.fitting.specs.Fitting.{eventsFit}
 use Rattle.fitting.specs.FittingLaws.{EventsPassed, events-start, events-next, events-end}
 use Rattle.fitting.proofs.events_fit.Statement.{statement}

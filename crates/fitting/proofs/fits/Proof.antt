@@ -6,7 +6,7 @@ use native.Mathlib.Omega.{arith}
 use borrow.Author.Needs.{needs}
 use borrow.Author.Tests.{not-true, not-false}
 use lib.ListN.{drop}
-use Rattle.nets.specs.Machine.{placeOf}
+use Rattle.places.specs.Machine.{placeOf}
 use Rattle.rows.specs.Rows.{ROW, rowAt}
 use Rattle.fitting.specs.Fitting.{rowFits}
 use Rattle.fitting.specs.FittingLaws.{part-is, RowsBelow, rows-start, rows-stop, rows-next, rows-end}

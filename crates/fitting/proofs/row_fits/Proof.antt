@@ -7,7 +7,7 @@ use mir.Syntax.{w64}
 use mir.Val.{toZ, ofZ}
 use mir.Facts.{toZ-ofZ}
 use Rattle.limits.specs.Limits.{MAX-EVENTS}
-use Rattle.nets.specs.Machine.{placeOf, Held}
+use Rattle.places.specs.Machine.{placeOf, Held}
 use Rattle.fitting.specs.Fitting.{eventsFit}
 use Rattle.fitting.specs.FittingLaws.{row-empty, row-fits}
 use Rattle.fitting.proofs.row_fits.Statement.{statement}

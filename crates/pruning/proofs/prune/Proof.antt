@@ -10,8 +10,9 @@ use Rattle.refusals.specs.Results.{Result, value}
 use Rattle.refusals.specs.Answers.{answer, written}
 use Rattle.refusals.specs.Laws.{ends-refused}
 use Rattle.bundles.specs.Layout.{bytesOf}
+use Rattle.contents.specs.Contents.{contentsOf, IsBundle}
 use Rattle.pruning.specs.Pruning.{pruned, pruning}
-use Rattle.pruning.specs.Contents.{contentsOf, IsBundle, judge-refused, judge-accepted}
+use Rattle.pruning.specs.Judged.{judge-refused, judge-accepted}
 use Rattle.pruning.proofs.prune.Statement.{statement}
 use Rattle.pruning.proofs.prune.Tie as tie
 

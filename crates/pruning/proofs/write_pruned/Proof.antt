@@ -13,10 +13,10 @@ use Rattle.refusals.specs.Answers.{refusal}
 use Rattle.refusals.specs.declared.Written.the-variants.{Length, Refused}
 use Rattle.refusals.specs.Laws.{ends-short, ends-written}
 use Rattle.bundles.specs.Layout.{headBytes, bytesOf}
+use Rattle.contents.specs.Contents.{contentsOf, front-inside, count-at, head-length, head-inside}
 use Rattle.pruning.specs.Pruning.{pruned}
-use Rattle.pruning.specs.Contents.{contentsOf}
-use Rattle.pruning.specs.Walking.{front-inside, marked}
-use Rattle.pruning.specs.Assembling.{count-at, head-length, head-inside, kept-count, kept-most, result-length}
+use Rattle.pruning.specs.Marking.{marked}
+use Rattle.pruning.specs.Assembling.{kept-count, kept-most, result-length}
 use Rattle.pruning.proofs.write_pruned.Statement.{statement}
 use Rattle.pruning.proofs.write_pruned.Tie as tie
 

@@ -14,7 +14,7 @@ use mir.Val.{toZ, ofZ}
 use mir.Facts.{toZ-ofZ}
 use Rattle.laws.specs.Differences.{negative-tested}
 use Rattle.laws.specs.Lists.{each-next}
-use Rattle.nets.proofs.Signed.{sign-clear, clear-sign, or-left, or-right}
+use Rattle.places.proofs.Signed.{sign-clear, clear-sign, or-left, or-right}
 use Rattle.replays.specs.Columns.{WIDTH, stepped}
 use Rattle.replays.specs.ReplayLaws.{Written, written-start, written-next}
 use Rattle.replays.proofs.finish.Statement.{statement}

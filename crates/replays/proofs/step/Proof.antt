@@ -10,7 +10,7 @@ use lib.Signed.{nonNeg}
 use mir.Syntax.{w64}
 use mir.Val.{toZ, ofZ}
 use mir.Facts.{toZ-ofZ}
-use Rattle.nets.proofs.Signed.{or-both}
+use Rattle.places.proofs.Signed.{or-both}
 use Rattle.replays.specs.Columns.{WIDTH, stepped}
 use Rattle.replays.specs.ReplayLaws.{Written, written-start, written-next}
 use Rattle.replays.proofs.step.Statement.{statement}

@@ -7,7 +7,7 @@ use lib.ListN.{length, getD, List·getD-eq-default}
 use mir.Syntax.{w16}
 use mir.Val.{Fits}
 use Rattle.limits.specs.Limits.{MAX-EVENTS}
-use Rattle.nets.specs.Machine.{placeOf}
+use Rattle.places.specs.Machine.{placeOf}
 use Rattle.replays.specs.StoringLaws.{Storing, storing-start, storing-next, stored}
 use Rattle.replays.proofs.write_column.Statement.{statement}
 use Rattle.replays.proofs.write_column.Tie as tie

@@ -11,8 +11,8 @@ use mir.Val.{Fits, toZ, ofZ}
 use mir.Facts.{toZ-ofZ}
 use Rattle.laws.specs.Differences.{negativePart}
 use Rattle.limits.specs.Limits.{MAX-EVENTS}
-use Rattle.nets.specs.Machine.{placeOf}
 use Rattle.nets.specs.Markings.{left}
+use Rattle.places.specs.Machine.{placeOf}
 use Rattle.stops.specs.Replay.{stop, replay, Going, start-bits, going-from, going-held, going-left, going-stop, going-next, going-end}
 use Rattle.stops.proofs.stop_from.Statement.{statement}
 use Rattle.stops.proofs.stop_from.Tie as tie

@@ -3,7 +3,7 @@ use mathlib.Core.Path.{_∙_}
 use native.Mathlib.Omega.{arith}
 use borrow.Author.Needs.{needs}
 use lib.ListN.{length-take}
-use Rattle.nets.specs.Machine.{placeOf}
+use Rattle.places.specs.Machine.{placeOf}
 use Rattle.stops.specs.Replay.{start-initial, replay-initial}
 use Rattle.stops.specs.Searching.{part-below, stop-means}
 use Rattle.stops.proofs.stop_of_place_at.Statement.{statement}

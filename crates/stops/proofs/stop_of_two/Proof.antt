@@ -10,8 +10,8 @@ use mir.Val.{Fits, toZ, ofZ}
 use mir.Facts.{toZ-ofZ}
 use Rattle.laws.specs.Differences.{negativePart}
 use Rattle.limits.specs.Limits.{MAX-EVENTS}
-use Rattle.nets.specs.Machine.{placeOf}
 use Rattle.nets.specs.Markings.{left}
+use Rattle.places.specs.Machine.{placeOf}
 use Rattle.stops.specs.Replay.{stop, stopOf, Going, going-start, going-least, going-held, going-left, going-stop, going-past, going-next, going-end}
 use Rattle.stops.specs.Searching.{named, first-stops, second-stops}
 use Rattle.stops.proofs.stop_of_two.Statement.{statement}

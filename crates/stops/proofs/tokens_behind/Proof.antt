@@ -8,7 +8,7 @@ use mir.Syntax.{w64}
 use mir.Val.{toZ, ofZ}
 use mir.Facts.{toZ-pos, toZ-ofZ}
 use Rattle.laws.specs.Differences.{pos-difference}
-use Rattle.nets.proofs.Signed.{difference-fits}
+use Rattle.places.proofs.Signed.{difference-fits}
 use Rattle.stops.proofs.tokens_behind.Statement.{statement}
 use Rattle.stops.proofs.tokens_behind.Tie as tie
 

@@ -2,7 +2,7 @@
 use borrow.Author.Needs.{needs}
 use mathlib.Core.Path.{ap, _∙_}
 use Rattle.verdicts.specs.Judging.{verdictNumber}
-use Rattle.abi.specs.Numbers.{withVerdict}
+use Rattle.numbers.specs.Numbers.{withVerdict}
 use Rattle.abi.proofs.hov_judging.hov_judge_file.Statement.{statement}
 use Rattle.abi.proofs.hov_judging.hov_judge_file.Tie as tie
 

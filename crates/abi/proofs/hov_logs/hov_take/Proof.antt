@@ -2,7 +2,7 @@
 use borrow.Author.Needs.{needs}
 use mathlib.Core.Path.{ap, _∙_}
 use Rattle.logs.specs.Answers.{takenNumber}
-use Rattle.abi.specs.Numbers.{withTaken}
+use Rattle.numbers.specs.Numbers.{withTaken}
 use Rattle.abi.proofs.hov_logs.hov_take.Statement.{statement}
 use Rattle.abi.proofs.hov_logs.hov_take.Tie as tie
 

@@ -13,8 +13,8 @@ use mir.Val.{toZ, ofZ}
 use mir.Facts.{toZ-ofZ}
 use Rattle.laws.specs.Differences.{negative-tested}
 use Rattle.laws.specs.Lists.{each-next}
-use Rattle.nets.specs.Machine.{Held}
-use Rattle.nets.proofs.Signed.{sign-clear, clear-sign, or-left, or-right}
+use Rattle.places.specs.Machine.{Held}
+use Rattle.places.proofs.Signed.{sign-clear, clear-sign, or-left, or-right}
 use Rattle.fitting.proofs.columns.covers_row.Statement.{statement}
 use Rattle.fitting.proofs.columns.covers_row.Tie as tie
 

@@ -13,8 +13,8 @@ use mir.Val.{SFits, toZ, ofZ}
 use mir.Facts.{toZ-ofZ}
 use Rattle.laws.specs.Differences.{difference, difference-add, difference-mul}
 use Rattle.laws.specs.Lists.{each-set}
-use Rattle.nets.specs.Machine.{Held}
-use Rattle.nets.proofs.Signed.{difference-fits}
+use Rattle.places.specs.Machine.{Held}
+use Rattle.places.proofs.Signed.{difference-fits}
 use Rattle.fitting.proofs.columns.shift_times.Statement.{statement}
 use Rattle.fitting.proofs.columns.shift_times.Tie as tie
 

@@ -5,7 +5,7 @@ use native.Mathlib.Omega.{arith}
 use borrow.Author.Needs.{needs}
 use lib.ListN.{length-set}
 use Rattle.limits.specs.Limits.{MAX-EVENTS}
-use Rattle.nets.specs.Machine.{placeOf}
+use Rattle.places.specs.Machine.{placeOf}
 use Rattle.fitting.specs.ColumnLaws.{Storing, storing-start, storing-next, stored}
 use Rattle.fitting.proofs.columns.write_column.Statement.{statement}
 use Rattle.fitting.proofs.columns.write_column.Tie as tie

@@ -8,7 +8,7 @@ use borrow.Author.Needs.{needs}
 use borrow.Author.Tests.{eq-eqb, ne-eqb}
 use Rattle.laws.specs.Ranks.{rank, rank-next, rank-most}
 use Rattle.limits.specs.Limits.{MAX-PLACES}
-use Rattle.pruning.specs.Walking.{marked, mark-is}
+use Rattle.pruning.specs.Marking.{marked, mark-is}
 use Rattle.pruning.specs.Writing.{numbersDone, numbers-none, numbers-next, numbers-all}
 use Rattle.pruning.proofs.writing.numbers_of.Statement.{statement}
 use Rattle.pruning.proofs.writing.numbers_of.Tie as tie

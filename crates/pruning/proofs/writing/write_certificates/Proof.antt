@@ -1,18 +1,18 @@
 -- `pruning::writing::write_certificates` meets its contract. The loop's invariant: the certificates before `from` are written, renumbered.
-use mathlib.Core.Path.{_≡_, refl, sym, ap, _∙_}
+use mathlib.Core.Path.{_∙_}
 use Prim.Native.Nat.{ℕ, _+_, _-_, _≤_, _<_}
 use native.Mathlib.Omega.{arith}
 use lib.ListN.{length}
-use Rattle.laws.specs.Parts.{spliced, spliced-none, spliced-next}
-use Rattle.pruning.specs.Contents.{contentsOf}
-use Rattle.pruning.specs.Walking.{CertificateAt, Walked, endAt, end-is, certificate-long, certificate-inside, walk-start, walk-least, walk-more, walk-here, walk-next}
-use Rattle.pruning.specs.Writing.{certificatesDone, pieceAt, piece-place, done-more, done-size, certificates-none, certificates-all}
+use Rattle.laws.specs.Rewriting.{PiecesWritten, pieces-start, pieces-next}
+use Rattle.contents.specs.Contents.{contentsOf}
+use Rattle.contents.specs.Walking.{CertificateAt, Walked, noCertificate, endAt, end-is, certificate-long, certificate-inside, walk-start, walk-least, walk-more, walk-here, walk-next}
+use Rattle.pruning.specs.Writing.{certificatePiece, pieceAt, piece-place, piece-written, piece-long, done-size, certificates-all}
 use Rattle.pruning.proofs.writing.write_certificates.Statement.{statement}
 use Rattle.pruning.proofs.writing.write_certificates.Tie as tie
 
 abbrev Inv-loop : tie.InvT-loop
 Inv-loop bundle first numbers output₀ start from₀ at₀ output from at =
-    (k : ℕ) × Walked bundle first k from × (length output ≡ length output₀) × (at ≡ start + length (certificatesDone bundle k)) × (output ≡ spliced start (certificatesDone bundle k) output₀)
+    (k : ℕ) × Walked bundle first k from × PiecesWritten (certificatePiece bundle) (contentsOf bundle .certificates) k start output₀ output at
 
 abbrev μ-loop : tie.MeasureT-loop
 μ-loop bundle first numbers output₀ start from₀ at₀ output from at = length bundle - from
@@ -20,8 +20,7 @@ abbrev μ-loop : tie.MeasureT-loop
 loop-holds : tie.Need-loop-holds Inv-loop μ-loop
 loop-holds c =
     let s = c .before .before in
-    let none = certificates-none (s .pre) in
-    (0, walk-start (s .pre .bundle) (s .pre .starts), refl, omega (arith, ap length none), rw none (sym (spliced-none _ _)))
+    (0, walk-start (s .pre .bundle) (s .pre .starts), pieces-start)
 
 -- the certificate of a turn
 more : (c : tie.In-loop Inv-loop μ-loop) → c .before .loop .inv .0 < length (contentsOf (c .before .before .before .before .args .bundle .now) .certificates)
@@ -44,7 +43,7 @@ room : (c : tie.In-loop Inv-loop μ-loop) → let args = c .before .before .befo
 room c =
     let s = c .before .before .before .before in
     let inv = c .before .loop .inv in
-    omega (arith, inside c .0, inside c .1, inv .3, done-size (s .pre) (inv .1), walk-least (inv .1), s .pre .room)
+    omega (arith, inside c .0, inside c .1, inv .2 .ends, done-size (s .pre) (inv .1), walk-least (inv .1), s .pre .room)
 
 write-certificate-requires : tie.Need-write-certificate-requires Inv-loop μ-loop
 write-certificate-requires c κs =
@@ -56,7 +55,7 @@ write-certificate-requires c κs =
       here = here turn;
       place = piece-place (s .pre) (inv .1) (more turn);
       ends = ends;
-      room = omega (arith, room turn, ends, inv .2);
+      room = omega (arith, room turn, ends, inv .2 .size);
     }
 
 sub-at : tie.Need-sub-at Inv-loop μ-loop
@@ -75,25 +74,22 @@ loop-again c =
     let loop = turn .before .loop in
     let s = turn .before .before .before .before in
     let w = loop .inv .1 in
-    let next = done-more (s .pre) w (more turn) in
-    let walked = walk-next (s .pre .bundle) (s .pre .starts) w (more turn) in
     let after = c .before .before .write-certificate in
     let piece = pieceAt (s .args .numbers) (s .args .bundle .now) (loop .from) in (
       loop .inv .0 + 1,
-      rw (call .end-of .ensures) walked,
-      after .kept .1 .1 .1 .1 .0 ∙ loop .inv .2,
-      omega (arith, call .end-of .ensures, done-size (s .pre) walked, done-size (s .pre) w, loop .inv .3, walk-least w, inside turn .0),
-      after .ensures ∙ rw (next, loop .inv .3, loop .inv .4) (spliced-next (s .args .start) (certificatesDone (s .args .bundle .now) (loop .inv .0)) piece (s .args .output .now) (omega (arith, s .pre .room))),
+      rw (call .end-of .ensures) (walk-next (s .pre .bundle) (s .pre .starts) w (more turn)),
+      pieces-next (loop .inv .2) noCertificate (more turn) (omega (arith, s .pre .room)) piece _ _ (piece-written (s .pre) w (more turn)) (after .kept .1 .1 .1 .1 .0)
+          (omega (arith, call .end-of .ensures, piece-long (s .pre) w (more turn))) (after .ensures),
     )
 
 same-length : tie.Need-same-length Inv-loop μ-loop
-same-length c = c .before .loop .inv .2
+same-length c = c .before .loop .inv .2 .size
 
 returns : tie.Need-returns Inv-loop μ-loop
 returns c =
     let s = c .before .before .before .before in
     let loop = c .before .loop in
-    loop .inv .4 ∙ rw (certificates-all (s .pre) (loop .inv .1) (c .loop-test .left))
+    loop .inv .2 .is ∙ rw (certificates-all (s .pre) (loop .inv .1) (c .loop-test .left))
 
 pub write-certificates-spec : {M : Type 1} → statement M
 write-certificates-spec =

@@ -10,7 +10,7 @@ use lib.IntN.{ℤ}
 use lib.ListN.{length}
 use Rattle.laws.specs.Lists.{each-next}
 use Rattle.nets.specs.Nets.{Place, noPlace}
-use Rattle.nets.specs.Machine.{placeOf}
+use Rattle.places.specs.Machine.{placeOf}
 use Rattle.bundles.specs.PlaceReading.{placeSize, placeOn, fieldsAt, place-inside, place-means}
 use Rattle.replays.specs.Columns.{WIDTH, Column}
 use Rattle.replays.specs.ReplayLaws.{column-none, column-beside}

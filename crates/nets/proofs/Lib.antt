@@ -1,3 +1,0 @@
--- Laws that several proofs of `nets` cite.
-pub mod Signed
-pub mod Bounds

@@ -1,0 +1,3 @@
+-- Laws that several proofs of `places` cite.
+pub mod Signed
+pub mod Bounds
