@@ -20,7 +20,7 @@ fn seal_bundle(buffer: &[u8], n: usize, output: &mut [u8]) -> Written
     ensures { λ r. ⌜ ((input : List ℕ) → InputRead input (now (buffer .entry)) n → r ≡ answerOf (sealed input)) ⌝ }
     ensures { λ _. ⌜ ((input : List ℕ) → InputRead input (now (buffer .entry)) n → now (output .exit) ≡ written (sealed input) (now (output .entry))) ⌝ }
 {
-    block::seal(&buffer[..n], output)
+    sealing::seal(&buffer[..n], output)
 }
 
 fn main() {
