@@ -15,3 +15,4 @@ pub mod TermReading
 pub mod HeadReading
 pub mod ReadHead
 pub mod Scaling
+pub mod NextPlace
