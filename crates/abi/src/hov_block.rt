@@ -23,5 +23,5 @@ pub extern "C" fn hov_seal(bundle: &[u8], output: &mut [u8], answer: &mut [u64; 
     ensures { λ _. ⌜ now (output .exit) ≡ written (sealed (now (bundle .entry))) (now (output .entry)) ⌝ }
     ensures { λ _. ⌜ now (answer .exit) ≡ withValue (now (answer .entry)) (answerTo (sealed (now (bundle .entry))) (length (now (output .entry)))) ⌝ }
 {
-    handed(block::seal(bundle, output), answer)
+    handed(sealing::seal(bundle, output), answer)
 }

@@ -1,23 +1,15 @@
 -- A block of 512 bytes: the bytes that its number and its contents give it, and the rules that it keeps.
 use mathlib.Core.List.{List, _++_}
 use mathlib.Core.Bool.{Bool, true, false, cond, _&&_}
-use Prim.Native.Nat.{ℕ, _+_, _-_, _%_}
+use Prim.Native.Nat.{ℕ, _+_, _-_}
 use lib.ListN.{length, take, drop, replicate}
 use lib.Dec.{eqb, leb}
 use Rattle.laws.specs.Lists.{all}
-use Rattle.laws.specs.Sums.{weighted}
 use Rattle.laws.specs.Numbers.{le16, numberAt}
 use Rattle.refusals.specs.Table.{BLOCK-SUMS, BLOCK-NUMBER, BLOCK-USE}
+use Rattle.sums.specs.Checksums.{plainSum, positionSum}
 
 -- ---- The bytes of a block
-
--- S: the sum of the bytes, modulo 65,521
-unfoldable pub plainSum : List ℕ → ℕ
-plainSum bytes = weighted (λ i. 1) bytes % 65521
-
--- W: the sum of (i + 1) × byte i, modulo 65,521
-unfoldable pub positionSum : List ℕ → ℕ
-positionSum bytes = weighted (λ i. i + 1) bytes % 65521
 
 -- contents with zeros after them, 504 bytes
 unfoldable pub padded : List ℕ → List ℕ

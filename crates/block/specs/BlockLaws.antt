@@ -14,7 +14,8 @@ use Rattle.laws.specs.Lists.{all}
 use Rattle.laws.specs.Parts.{spliced, spliced-next, adjacent}
 use Rattle.laws.specs.Numbers.{Bytes, le16, numberAt, numberAt-after, le16-numberAt}
 use Rattle.refusals.specs.Table.{BLOCK-SUMS, BLOCK-NUMBER, BLOCK-USE}
-use Rattle.block.specs.Block.{plainSum, positionSum, padded, summedBytes, withSums, block, usedCount, usedContents, isZero, rightNumber, rightCount, rightPadding, rightUse, rightSums, unless, fault}
+use Rattle.sums.specs.Checksums.{plainSum, positionSum}
+use Rattle.block.specs.Block.{padded, summedBytes, withSums, block, usedCount, usedContents, isZero, rightNumber, rightCount, rightPadding, rightUse, rightSums, unless, fault}
 
 -- ---- What the rules say
 

@@ -8,7 +8,6 @@ pub mod RefusalNumbers
 pub mod Causes
 pub mod OtherBlocks
 pub mod SumLaws
-pub mod Adding
 pub mod Alterations
 pub mod Rooms
 pub mod Whole

@@ -18,7 +18,8 @@ use Rattle.refusals.specs.Results.{Result, value}
 use Rattle.refusals.specs.Answers.{refusal, answer, written}
 use Rattle.refusals.specs.Laws.{Ends, ends-written, answer-taken}
 use Rattle.refusals.specs.declared.Written.the-variants.{Length}
-use Rattle.block.specs.Block.{plainSum, positionSum, padded, summedBytes, withSums, block, rightCount, usedCount, usedContents}
+use Rattle.sums.specs.Checksums.{plainSum, positionSum}
+use Rattle.block.specs.Block.{padded, summedBytes, withSums, block, rightCount, usedCount, usedContents}
 use Rattle.block.specs.File.{blockCount, blockAt, faultAt, firstFault, contentsAt, bundleOf, rightLength, opened, Sound, partAt, sealedBlockAt, blocksFor, sealedFile, sealed}
 use Rattle.block.specs.BlockLaws.{rightCount-some, rightCount-intro, block-contents, block-sound, block-unique}
 use Rattle.block.specs.OpenLaws.{length-blockAt, keeps, used-most, used-full, length-contentsAt, length-before, length-bundle, firstFault-none, opened-bundle, opened→, opened-sound}

@@ -1,11 +1,11 @@
 // What a block and a file must keep to be taken. (Inner functions.)
-use crate::sums::sums_of;
 use limits::MAX_FILE_SIZE;
 use refusals::BLOCK_NUMBER;
 use refusals::BLOCK_SUMS;
 use refusals::BLOCK_USE;
 use refusals::Refusal;
 use slices::number_at;
+use sums::sums_of;
 ghost use mathlib.Core.Path.{_≡_};
 ghost use Prim.Native.Nat.{_*_};
 ghost use lib.ListN.{length};

@@ -14,3 +14,4 @@ pub mod PlaceReading
 pub mod TermReading
 pub mod HeadReading
 pub mod Scaling
+pub mod NextPlace

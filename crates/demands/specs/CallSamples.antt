@@ -17,7 +17,8 @@ use Rattle.refusals.specs.Results.{Result, value, refused, bind, require}
 use Rattle.refusals.specs.Answers.{refusal, fitted}
 use Rattle.nets.specs.Nets.{Word}
 use Rattle.nets.specs.Events.{firstBad}
-use Rattle.block.specs.Block.{plainSum, positionSum, padded, summedBytes, withSums, block, usedCount, usedContents, rightNumber, rightCount, rightPadding, rightUse, rightSums, fault}
+use Rattle.sums.specs.Checksums.{plainSum, positionSum}
+use Rattle.block.specs.Block.{padded, summedBytes, withSums, block, usedCount, usedContents, rightNumber, rightCount, rightPadding, rightUse, rightSums, fault}
 use Rattle.block.specs.File.{blockCount, blockAt, faultAt, firstFaulty, firstFault, contentsAt, bundleOf, rightLength, opened, partAt, sealedBlockAt, blocksFor, sealedFile, sealed}
 use Rattle.rows.specs.Rows.{rowAt, numbers, rowsOf, flat, findRow, present, visit, updateAt, follow, addEvent, takeWord}
 use Rattle.logs.specs.Answers.{TABLE, rightEventCount, rightSummary, takenOf, logStarted, freshAnswer, wordTaken, takenAnswer, takenTable}

@@ -22,7 +22,8 @@ use Rattle.refusals.specs.Results.{value}
 use Rattle.refusals.specs.Answers.{refusal, answer}
 use Rattle.refusals.specs.declared.Written.the-variants as writing
 use Rattle.refusals.specs.Exactly.{answer-refused-exactly, answer-short-exactly, answer-length-exactly}
-use Rattle.block.specs.Block.{isZero, usedCount, rightCount, rightPadding, rightUse, rightSums, plainSum, positionSum}
+use Rattle.sums.specs.Checksums.{plainSum, positionSum}
+use Rattle.block.specs.Block.{isZero, usedCount, rightCount, rightPadding, rightUse, rightSums}
 use Rattle.block.specs.File.{blockCount, blockAt, faultAt, contentsAt, bundleOf, rightLength, opened, Sound, sealedFile, sealed}
 use Rattle.block.specs.BlockLaws.{rightCount-most}
 use Rattle.block.specs.OpenLaws.{contents-part, rightLength-whole}

@@ -1,4 +1,4 @@
--- Whether a place fits, from the rows of a table: it permits the events of each row's mask after the row's counts; and a bundle's first misfit.
+-- What the tokens of a place cover in a row, and a bundle's first misfit.
 use mathlib.Core.Bool.{Bool, not, _||_}
 use mathlib.Core.List.{List}
 use Prim.Native.Nat.{ℕ}
@@ -9,17 +9,8 @@ use Rattle.laws.specs.Lists.{all, tabulate}
 use Rattle.laws.specs.Bits.{bit}
 use Rattle.laws.specs.Scans.{firstFailing}
 use Rattle.limits.specs.Limits.{MAX-EVENTS}
-use Rattle.nets.specs.Nets.{Place, noPlace, placePermits, fits}
-use Rattle.rows.specs.Rows.{Row}
+use Rattle.nets.specs.Nets.{fits}
 use Rattle.bundles.specs.Readers.{eventsIn, logIn, netIn}
-
--- a place permits what a row allows
-unfoldable pub rowFits : Place → Row → Bool
-rowFits p r = all (λ e. not (bit (r .mask) e) || placePermits MAX-EVENTS p (record { row = r .counts; event = e })) (tabulate MAX-EVENTS (λ e. e))
-
--- a place permits what every row allows
-unfoldable pub fitsRows : Place → List Row → Bool
-fitsRows p rs = all (rowFits p) rs
 
 -- the tokens cover what an event takes, if its bit is set in the mask
 unfoldable pub eventFits : ℤ → List ℕ → ℕ → ℕ → Bool
@@ -32,7 +23,3 @@ eventsFit tokens consumed mask = all (eventFits tokens consumed mask) (tabulate 
 -- the first place of a bundle's net that does not fit its log, or the number of places
 abbrev pub misfitIn : List ℕ → ℕ
 misfitIn b = firstFailing (fits (eventsIn b) (logIn b)) (netIn b)
-
--- place j of a bundle's net
-abbrev pub placeIn : List ℕ → ℕ → Place
-placeIn b j = getD (netIn b) j noPlace

@@ -1,39 +1,36 @@
 -- The code's steps, as laws of the definitions; and that a place fits the rows of a log's table exactly when it fits the log.
 use mathlib.Core.Path.{_≡_, refl, sym, ap, ap₂, _∙_, subst}
-use mathlib.Core.Bool.{Bool, true, false, not, _&&_, _||_, and-true, and-assoc}
+use mathlib.Core.Bool.{Bool, true, not, _&&_, _||_, and-true, and-assoc}
 use mathlib.Core.List.{List, map, List·Memᴰ, Memᴰ·map, Memᴰ·of-map}
-use Prim.Native.Nat.{ℕ, _+_, _-_, _*_, _≤_, _<_}
+use Prim.Native.Nat.{ℕ, _+_, _-_, _≤_, _<_}
 use native.Mathlib.Omega.{arith}
 use lib.Dec.{T}
 use lib.IntN.{ℤ, pos, _-ℤ_}
-use lib.ListN.{length, getD, take, drop, length-drop, drop-of-length-le}
-use lib.Seq.{take-all, getD-take}
+use lib.ListN.{length, getD, drop, drop-of-length-le}
 use lib.Signed.{nonNeg}
 use Rattle.laws.specs.Booleans.{same-test, yes-true, implied, implies}
 use Rattle.laws.specs.Bits.{bit, bit-of-zero}
-use Rattle.laws.specs.Lists.{all, all-member, all-intro, all-next, getD-map, tabulate, length-tabulate, getD-tabulate, tabulate-member, tabulate-inverse}
+use Rattle.laws.specs.Lists.{all, all-member, all-intro, all-next, tabulate, length-tabulate, getD-tabulate, tabulate-member, tabulate-inverse}
+use Rattle.laws.specs.Scans.{failing-never}
 use Rattle.limits.specs.Limits.{MAX-EVENTS}
 use Rattle.nets.specs.Nets.{Log, Counts, Step, Place, noPlace, tokens, surplus, placePermits, rows, allowed, allowedSteps, fits}
 use Rattle.nets.specs.CountLaws.{length-counts}
 use Rattle.nets.specs.Fits.{LogBelow, allowed-listed}
 use Rattle.nets.specs.Rows.{row→, continuation→, allowedStep→}
-use Rattle.nets.specs.Surplus.{tokens-row}
 use Rattle.nets.specs.Wide.{wide, permits-wide}
-use Rattle.places.specs.Machine.{placeOf}
 use Rattle.places.specs.declared.Place as Declared
-use Rattle.rows.specs.Rows.{ROW, Row, rowAt, rowsOf}
-use Rattle.rows.specs.Flat.{length-rows, rows-at}
+use Rattle.rows.specs.Rows.{Row, rowAt, rowsOf}
 use Rattle.logs.specs.Log.{logRow, logRows}
 use Rattle.logs.specs.LogTable.{logRows-is, logRow-bit}
-use Rattle.bundles.specs.Layout.{toPlace, toNet}
-use Rattle.bundles.specs.Readers.{eventsIn, logIn}
-use Rattle.bundles.specs.NumberReading.{itemsAt, items-length, getD-items}
-use Rattle.bundles.specs.PlaceReading.{placeSize, fieldsAt, placeOn}
-use Rattle.bundles.specs.HeadReading.{HeadAt}
-use Rattle.bundles.specs.declared.Places.{Places}
+use Rattle.bundles.specs.Readers.{eventsIn, logIn, netIn}
+use Rattle.bundles.specs.HeadReading.{net-size}
+use Rattle.bundles.specs.NextPlace.{placeIn}
 use Rattle.heads.specs.Heads.{HeadHeld}
 use Rattle.heads.specs.declared.TakenHead.{TakenHead}
-use Rattle.fitting.specs.Fitting.{rowFits, fitsRows, eventFits, eventsFit, placeIn}
+use Rattle.columns.specs.RowFits.{rowFits, fitsRows, tokens-front}
+use Rattle.columns.specs.Matrix.{column, Filled}
+use Rattle.columns.specs.MatrixLaws.{same-fits}
+use Rattle.fitting.specs.Fitting.{eventFits, eventsFit, misfitIn}
 
 -- ---- a row
 
@@ -61,14 +58,6 @@ module _ (t : ℤ) (consumed : List ℕ) (mask : ℕ) where
   events-end fit e h inv =
       inv ∙ rw (drop-of-length-le (tabulate MAX-EVENTS (λ e. e)) {i = e} (rw length-tabulate h)) (and-true fit)
 
--- what stands behind the twelve counts of a row does not matter
-tokens-front : (p : Place) (t : List ℕ) → tokens MAX-EVENTS p t ≡ tokens MAX-EVENTS p (take MAX-EVENTS t)
-tokens-front p t = tokens-row MAX-EVENTS p t (take MAX-EVENTS t) (λ i b. sym (getD-take MAX-EVENTS t i 0 b))
-
-pub permits-front : (p : Place) (t : List ℕ) (e : ℕ) → placePermits MAX-EVENTS p (record { row = t; event = e }) ≡ placePermits MAX-EVENTS p (record { row = take MAX-EVENTS t; event = e })
-unfolding placePermits surplus
-permits-front p t e = ap (λ (z : ℤ). nonNeg (z -ℤ pos (p .consumed e))) (tokens-front p t)
-
 -- the tokens after the row's counts decide for its events
 pub row-fits : (p : Declared.Place) (t : List ℕ) → eventsFit (tokens MAX-EVENTS (placeOf p) t) (p .consumed) (getD t MAX-EVENTS 0) ≡ rowFits (placeOf p) (rowAt t)
 unfolding rowFits eventsFit eventFits rowAt placePermits surplus
@@ -78,41 +67,6 @@ row-fits p t = ap (λ (z : ℤ). eventsFit z (p .consumed) (getD t MAX-EVENTS 0)
 pub row-empty : (p : Place) (t : List ℕ) → getD t MAX-EVENTS 0 ≡ 0 → rowFits p (rowAt t) ≡ true
 unfolding rowFits rowAt
 row-empty p t none = rw none (yes-true _ (all-intro _ (tabulate MAX-EVENTS (λ e. e)) (λ e m. rw (bit-of-zero e) tt)))
-
--- ---- the rows
-
--- the part of a list from an index on
-abbrev pub part : List ℕ → ℕ → List ℕ
-part l k = take (length l - k) (drop k l)
-
-pub part-is : (l : List ℕ) (k : ℕ) → part l k ≡ drop k l
-part-is l k = take-all (length l - k) (drop k l) (omega (arith, length-drop k l))
-
-module _ (p : Place) (k : ℕ) (t : List ℕ) where
-  -- a loop over the rows that found no misfit below r
-  abbrev pub RowsBelow : ℕ → Type 0
-  RowsBelow r = fitsRows p (rowsOf k t) ≡ all (rowFits p) (drop r (rowsOf k t))
-
-  pub rows-start : RowsBelow 0
-  unfolding fitsRows
-  rows-start = refl
-
-  module _ (r : ℕ) (h : r < k) (inv : RowsBelow r) where
-    rows-step : fitsRows p (rowsOf k t) ≡ (rowFits p (rowAt (drop (ROW * r) t)) && all (rowFits p) (drop (r + 1) (rowsOf k t)))
-    rows-step =
-        inv
-        ∙ all-next (rowFits p) (rowsOf k t) r (rowAt t) (rw length-rows h)
-        ∙ ap (λ (x : Row). rowFits p x && all (rowFits p) (drop (r + 1) (rowsOf k t))) (rows-at k t r (rowAt t) h)
-
-    pub rows-stop : rowFits p (rowAt (drop (ROW * r) t)) ≡ false → fitsRows p (rowsOf k t) ≡ false
-    rows-stop e = rows-step ∙ rw e
-
-    pub rows-next : rowFits p (rowAt (drop (ROW * r) t)) ≡ true → RowsBelow (r + 1)
-    rows-next e = rows-step ∙ rw e
-
-  pub rows-end : (r : ℕ) → k ≤ r → RowsBelow r → fitsRows p (rowsOf k t) ≡ true
-  unfolding all
-  rows-end r h inv = inv ∙ rw (drop-of-length-le (rowsOf k t) {i = r} (rw length-rows h))
 
 -- ---- a log
 
@@ -157,20 +111,19 @@ fits-log n k log width below p = ap (all (rowFits p)) (logRows-is n k log width 
 
 -- ---- a bundle
 
--- whose head was read
-module _ {b : List ℕ} {n : ℕ} {ps : Places} (found : HeadAt b n ps) where
-  pub place-is : (j : ℕ) → j < ps .count → placeIn b j ≡ placeOn n b (ps .first + 2 * (j * placeSize n))
-  unfolding toNet
-  place-is j h =
-      let d = fieldsAt n b 0 in
-      let items = itemsAt (placeSize n) (fieldsAt n) (ps .count) b (ps .first) in
-      rw (found .places)
-      (getD-map toPlace items j d noPlace (rw (items-length (placeSize n) (fieldsAt n) (ps .count) b (ps .first)) h)
-      ∙ ap toPlace (getD-items (placeSize n) (fieldsAt n) (ps .count) b (ps .first) j d h))
-
--- and whose log is in a table: a place fits its rows exactly when it fits the log
+-- whose log is in a table: a place fits its rows exactly when it fits the log
 pub fits-held : {b t : List ℕ} {head : TakenHead} → HeadHeld b t head
     → (p : Place) → fitsRows p (rowsOf (head .rows) t) ≡ fits (eventsIn b) (logIn b) p
 fits-held {b} held p =
     let width : eventsIn b + (MAX-EVENTS - eventsIn b) ≡ MAX-EVENTS = omega (arith, held .found .events, held .found .limits) in
     rw (held .table) (fits-log (eventsIn b) (MAX-EVENTS - eventsIn b) (logIn b) width (held .below) p)
+
+-- where each place fits the rows in its column of a matrix, none is a misfit
+pub all-fit : {b t m : List ℕ} {head : TakenHead} → HeadHeld b t head → Filled b m (head .places .count)
+    → ((j : ℕ) → j < head .places .count → fitsRows (column m j) (rowsOf (head .rows) t) ≡ true) → head .places .count ≡ misfitIn b
+all-fit {b} {t} {head = head} held written fit =
+    let size = net-size (held .found) in
+    sym (failing-never (fits (eventsIn b) (logIn b)) noPlace (netIn b) (λ j l.
+    let few : j < head .places .count = omega arith in
+    sym (fits-held held (placeIn b j)) ∙ same-fits (written .places j few) (rowsOf (head .rows) t) (fit j few))
+    ∙ size)

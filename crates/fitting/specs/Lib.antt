@@ -1,4 +1,2 @@
 pub mod Fitting
 pub mod FittingLaws
-pub mod Columns
-pub mod ColumnLaws

@@ -1,6 +1,4 @@
 // Whether the places of a bundle fit its log, from the rows of the log table. All are inner functions.
-mod columns; // the places side by side
-
 use columns::MATRIX;
 use columns::WIDTH;
 use columns::columns_fit;
@@ -19,7 +17,8 @@ ghost use lib.ListN.{length};
 ghost use Rattle.places.specs.Machine.{placeOf, Held};
 ghost use Rattle.rows.specs.Rows.{ROW, rowAt, rowsOf};
 ghost use Rattle.heads.specs.Heads.{HeadHeld};
-ghost use Rattle.fitting.specs.Fitting.{eventsFit, rowFits, fitsRows, misfitIn};
+ghost use Rattle.columns.specs.RowFits.{rowFits, fitsRows};
+ghost use Rattle.fitting.specs.Fitting.{eventsFit, misfitIn};
 
 // Whether the tokens cover what each event of the mask takes. All twelve are tested without a branch: which bits are set is hard to predict.
 fn events_fit(tokens: i64, consumed: [u16; MAX_EVENTS], mask: u16) -> bool

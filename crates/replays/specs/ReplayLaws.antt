@@ -141,19 +141,19 @@ module _ {m t : List ℤ} {w : Word} (r : Replayable t m w) where
         ∙ sym (+ℤ-assoc (getD s j (pos 0)) (pos (p .produced last)) (negℤ (pos (p .consumed e))))
         ∙ ap (λ (z : ℤ). z -ℤ pos (p .consumed e)) (now .surplus j p b c)
 
-    stepped-far : (e : ℕ) → e ≤ MAX-EVENTS → (j : ℕ) → j < WIDTH → Far (stepped m s (changesOf last e) j) (i + 1)
-    stepped-far e h j b =
+    stepped-far : (a e : ℕ) → a ≤ MAX-EVENTS → e ≤ MAX-EVENTS → (j : ℕ) → j < WIDTH → Far (stepped m s (changesOf a e) j) (i + 1)
+    stepped-far a e l h j b =
         let p = r .columns j b .0 in
         let c = r .columns j b .1 in
-        subst (λ (z : ℤ). Far (getD s j (pos 0) +ℤ z) (i + 1)) (sym (c .changes last e (now .event) h))
-        (far-next (now .far j b) (p .produced last) (p .consumed e) (c .produced last) (c .consumed e))
+        subst (λ (z : ℤ). Far (getD s j (pos 0) +ℤ z) (i + 1)) (sym (c .changes a e l h))
+        (far-next (now .far j b) (p .produced a) (p .consumed e) (c .produced a) (c .consumed e))
 
-    -- a step to any event stays in the range of an `i64`
-    pub replaying-fits : (e : ℕ) → e ≤ MAX-EVENTS → WIDTH ≤ length s → Steppable m s (changesOf last e)
-    replaying-fits e h size = record {
+    -- a step from any event to any event stays in the range of an `i64`
+    pub replaying-fits : (a e : ℕ) → a ≤ MAX-EVENTS → e ≤ MAX-EVENTS → WIDTH ≤ length s → Steppable m s (changesOf a e)
+    replaying-fits a e l h size = record {
       surplus = size;
-      changes = omega (arith, now .event, r .table);
-      fits = λ j b. far-fits (omega (arith, now .seen, r .size)) (stepped-far e h j b);
+      changes = omega (arith, r .table);
+      fits = λ j b. far-fits (omega (arith, now .seen, r .size)) (stepped-far a e l h j b);
     }
 
     -- the next event
@@ -165,7 +165,7 @@ module _ {m t : List ℤ} {w : Word} (r : Replayable t m w) where
           seen = omega arith;
           event = few;
           surplus = λ j p b c. ap (λ (z : ℤ). z +ℤ pos (p .produced e)) (sum j b ∙ left-is e few j p b c) ∙ sym (behind-next p (getD t j (pos 0)) w i h);
-          far = λ j b. subst (λ (z : ℤ). Far z (i + 1)) (sym (sum j b)) (stepped-far e few j b);
+          far = λ j b. subst (λ (z : ℤ). Far z (i + 1)) (sym (sum j b)) (stepped-far last e (now .event) few j b);
           covers = λ j p b c clear.
               let both = noted j b clear in
               each-next (λ (k : ℕ). covered p (behind p (getD t j (pos 0)) (take k w)) (getD w k 0) ≡ true) i

@@ -2,13 +2,13 @@
 use bundles::Head;
 use bundles::HeadRead;
 use limits::MAX_WORD_EVENTS;
+use parts::search_places;
 use places::first_bad;
 use refusals::EVENT_COUNTS;
 use refusals::Refusal;
 use refusals::WORD_EVENT;
 use refusals::WORD_LENGTH;
 use stops::Stop;
-use stops::search_places;
 use stops::stop_at;
 ghost use mathlib.Core.Path.{_≡_};
 ghost use Prim.Native.Nat.{_≤_};

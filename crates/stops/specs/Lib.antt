@@ -1,5 +1,3 @@
 pub mod Positions
 pub mod Replay
 pub mod Searching
-pub mod Parts
-pub mod Groups

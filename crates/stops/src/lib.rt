@@ -1,10 +1,6 @@
 // The first step of a word that the places of a bundle refuse. The contracts cite specs/Positions.antt, what the best stop is, and specs/Replay.antt, one
 // place. All are inner functions.
-pub mod parts; // the search in a long word
-
 use bundles::Head;
-use parts::LONG;
-use parts::search_long;
 use places::Place;
 use places::covers;
 use places::shortfall;
@@ -51,7 +47,7 @@ fn tokens_behind(left: i64, produced: u16) -> i64
 
 // The first step of a word that a place refuses, with so many tokens at first, or the word's length where there is none. `covers` tests the
 // shortfall of the same difference: `shortfall(left) != 0` in its place compiles to a subtraction and a test more at each step.
-fn stop_from(place: Place, start: i64, word: &[u8]) -> Stop
+pub fn stop_from(place: Place, start: i64, word: &[u8]) -> Stop
     requires { ⌜ Start start (now word) ⌝ }
     ensures { λ r. ⌜ r ≡ replay (placeOf place) start (now (word .entry)) ⌝ }
 {
@@ -151,7 +147,7 @@ fn search_pairs(bundle: &[u8], head: Head, word: &[u8], before: usize, from: Sto
 
 // The first refused step of a word with the places of a bundle, which follow `before` places whose first refused step is `from`: pair by pair, and
 // an odd last one.
-fn search_short(bundle: &[u8], head: Head, word: &[u8], before: usize, from: Stop) -> Stop
+pub fn search_short(bundle: &[u8], head: Head, word: &[u8], before: usize, from: Stop) -> Stop
     requires { ⌜ Searchable (now bundle) head (now word) ⌝ }
     requires { ⌜ (before ≤ MAX-PLACES) × (from .position ≤ length (now word)) ⌝ }
     ensures { λ r. ⌜ ((net : Net) → length net ≡ before → Best (eventsIn (now (bundle .entry))) net (now (word .entry)) from
@@ -168,20 +164,4 @@ fn search_short(bundle: &[u8], head: Head, word: &[u8], before: usize, from: Sto
         return found;
     }
     stop_at(last.position, before + paired, last.shortfall)
-}
-
-// The first refused step of a word with the places of a bundle, which follow `before` places whose first refused step is `from`. A long word with
-// three places or more is searched part by part, eight places at a time.
-pub fn search_places(bundle: &[u8], head: Head, word: &[u8], before: usize, from: Stop) -> Stop
-    requires { ⌜ Searchable (now bundle) head (now word) ⌝ }
-    requires { ⌜ (before ≤ MAX-PLACES) × (from .position ≤ length (now word)) ⌝ }
-    ensures { λ r. ⌜ ((net : Net) → length net ≡ before → Best (eventsIn (now (bundle .entry))) net (now (word .entry)) from
-        → Best (eventsIn (now (bundle .entry))) (net ++ netIn (now (bundle .entry))) (now (word .entry)) r) ⌝ }
-{
-    if LONG <= from.position {
-        if 2 < head.places.count {
-            return search_long(bundle, head, word, before, from);
-        }
-    }
-    search_short(bundle, head, word, before, from)
 }

@@ -3,7 +3,7 @@ use mathlib.Core.Path.{sym, subst}
 use native.Mathlib.Omega.{arith}
 use borrow.Author.Needs.{needs}
 use lib.Dec.{T}
-use Rattle.fitting.specs.ColumnLaws.{all-fit}
+use Rattle.fitting.specs.FittingLaws.{all-fit}
 use Rattle.fitting.proofs.all_fit.Statement.{statement}
 use Rattle.fitting.proofs.all_fit.Tie as tie
 

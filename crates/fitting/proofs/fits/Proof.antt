@@ -8,8 +8,7 @@ use borrow.Author.Tests.{not-true, not-false}
 use lib.ListN.{drop}
 use Rattle.places.specs.Machine.{placeOf}
 use Rattle.rows.specs.Rows.{ROW, rowAt}
-use Rattle.fitting.specs.Fitting.{rowFits}
-use Rattle.fitting.specs.FittingLaws.{part-is, RowsBelow, rows-start, rows-stop, rows-next, rows-end}
+use Rattle.columns.specs.RowFits.{rowFits, part-is, RowsBelow, rows-start, rows-stop, rows-next, rows-end}
 use Rattle.fitting.proofs.fits.Statement.{statement}
 use Rattle.fitting.proofs.fits.Tie as tie
 

@@ -12,9 +12,9 @@ use Rattle.laws.specs.Scans.{firstFailing, failing-here, failing-again, failing
 use Rattle.nets.specs.Nets.{Place, noPlace, fits}
 use Rattle.bundles.specs.HeadReading.{net-size}
 use Rattle.bundles.specs.Readers.{eventsIn, logIn, netIn}
-use Rattle.fitting.specs.Fitting.{misfitIn, placeIn}
+use Rattle.bundles.specs.NextPlace.{placeIn, Next, next-start, next-is, next-inside, next-again}
+use Rattle.fitting.specs.Fitting.{misfitIn}
 use Rattle.fitting.specs.FittingLaws.{fits-held}
-use Rattle.fitting.proofs.Places.{Next, next-start, next-is, next-inside, next-again}
 use Rattle.fitting.proofs.search_misfit.Statement.{statement}
 use Rattle.fitting.proofs.search_misfit.Tie as tie
 
@@ -61,7 +61,7 @@ loop-again : tie.Need-loop-again Inv-loop μ-loop
 loop-again c =
     let turn = c .before .before .before in
     let at = turn .before in (
-      next-again (at .before .before .before .pre .found) (at .loop .inv .0) (turn .loop-test .taken),
+      next-again (at .loop .inv .0) (turn .loop-test .taken),
       failing-again _ noPlace _ (at .loop .j) (listed turn) (at .loop .inv .1) (tested (c .before) ∙ not-false _ (c .if1 .left)),
     )
 

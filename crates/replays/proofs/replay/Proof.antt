@@ -35,7 +35,7 @@ event : (c : tie.After-all Inv-loop μ-loop)
 event c = c .before .before .before .before .before .before .before .before .pre .events (c .before .before .before .before .loop .i) (omega arith)
 
 mul-step : tie.Need-mul-step Inv-loop μ-loop
-mul-step c = omega (arith, c .before .before .before .before .loop .inv .2 .event)
+mul-step c = omega (arith, c .before .before .before .before .loop .inv .2 .event, event c)
 
 add-step : tie.Need-add-step Inv-loop μ-loop
 add-step c = omega (arith, c .before .before .before .before .loop .inv .2 .event, event c)
@@ -47,7 +47,7 @@ step-requires : tie.Need-step-requires Inv-loop μ-loop
 step-requires c κs =
     let loop = c .before .before .before .before .loop in
     let start = c .before .before .before .before .before .before .before .before in
-    (replaying-fits (start .pre) (loop .inv .2) _ (omega (arith, event c)) (omega arith), omega arith)
+    (replaying-fits (start .pre) (loop .inv .2) _ _ (omega (arith, loop .inv .2 .event, event c)) (omega (arith, event c)) (omega arith), omega arith)
 
 loop-again : tie.Need-loop-again Inv-loop μ-loop
 loop-again c =
@@ -64,7 +64,7 @@ finish-requires : tie.Need-finish-requires Inv-loop μ-loop
 finish-requires c κs =
     let loop = c .before .before .before .before .loop in
     let start = c .before .before .before .before .before .before .before .before in
-    (replaying-fits (start .pre) (loop .inv .2) _ (omega arith) (omega arith), start .pre .tokens, omega arith)
+    (replaying-fits (start .pre) (loop .inv .2) _ _ (omega (arith, loop .inv .2 .event)) (omega arith) (omega arith), start .pre .tokens, omega arith)
 
 same-length : tie.Need-same-length Inv-loop μ-loop
 same-length c = c .before .finish .kept .0

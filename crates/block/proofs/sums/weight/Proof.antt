@@ -1,8 +1,0 @@
--- `block::sums::weight` meets its contract: the six bits of a number below 64 are the number.
-use native.Mathlib.Omega.{arith}
-use Rattle.laws.specs.Bits.{low-bits}
-use Rattle.block.proofs.sums.weight.Statement.{statement}
-use Rattle.block.proofs.sums.weight.Tie as tie
-
-pub weight-spec : {M : Type 1} → statement M
-weight-spec = tie.close (tie.spec (λ c. omega (arith, low-bits 6 (c .args .position) (c .pre))) (λ c. low-bits 6 (c .args .position) (c .pre)))

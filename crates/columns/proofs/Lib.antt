@@ -1,0 +1,2 @@
+-- Laws that several proofs of `columns` cite.
+pub mod Moderate

@@ -1,0 +1,3 @@
+pub mod RowFits
+pub mod Matrix
+pub mod MatrixLaws

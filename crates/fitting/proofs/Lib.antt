@@ -1,3 +1,0 @@
--- Laws that several proofs of `fitting` cite.
-pub mod Moderate
-pub mod Places

@@ -1,0 +1,3 @@
+pub mod Checksums
+pub mod Adding
+pub mod Detection
