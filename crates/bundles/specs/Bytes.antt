@@ -8,7 +8,7 @@ use Rattle.laws.specs.Every.{Every}
 use Rattle.laws.specs.Numbers.{Bytes, bytes-append, le16, bytes-le16}
 use Rattle.nets.specs.Nets.{Word}
 use Rattle.nets.specs.Fits.{Below}
-use Rattle.bundles.specs.Layout.{PlaceFields, TermFields, CertificateFields, kind0, kind1, Head, Contents, wordBytes, placeBytes, placesBytes, termBytes, weightBytes, certificateBytes, headBytes, bytesOf, WordInLimits, TermInLimits, HeadInLimits, CertificateInLimits, InLimits}
+use Rattle.bundles.specs.Layout.{PlaceFields, TermFields, CertificateFields, kind0, kind1, Head, Contents, wordBytes, placeBytes, placesBytes, termBytes, weightBytes, certificateBytes, frontBytes, headBytes, bytesOf, WordInLimits, TermInLimits, HeadInLimits, CertificateInLimits, InLimits}
 
 bytes-cons : (x : ℕ) (l : List ℕ) → x < 256 → Bytes l → Bytes (x ∷ l)
 bytes-cons x l small h zero = small
@@ -46,7 +46,7 @@ module _ (h : Head) (limits : HeadInLimits h) where
   bytes-word w v = bytes-cons (length w) w (omega (arith, v .size)) (bytes-below (h .events) (omega (arith, limits .events .1)) w (v .events))
 
   bytes-head : Bytes (headBytes h)
-  unfolding headBytes placesBytes
+  unfolding headBytes frontBytes placesBytes
   bytes-head =
       let words = flatMap wordBytes (h .log) in
       let places = length (h .places) ∷ flatMap placeBytes (h .places) in

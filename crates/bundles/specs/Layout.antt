@@ -56,6 +56,10 @@ toPlace p = record { initial = p .initial; produced = at (p .produced); consumed
 unfoldable pub toNet : Head → Net
 toNet h = map toPlace (h .places)
 
+-- the head with other places
+abbrev pub headWith : Head → List PlaceFields → Head
+headWith h ps = record { events = h .events; log = h .log; places = ps }
+
 -- the words of the log, in order
 abbrev pub wordsIn : Head → Log
 wordsIn h = h .log
@@ -146,9 +150,13 @@ unfoldable pub certificateBytes : CertificateFields → List ℕ
 certificateBytes (kind0 j) = 0 ∷ j ∷ []
 certificateBytes (kind1 w) = 1 ∷ weightBytes w
 
--- n, the words, the places
+-- n, then the words: their count, then each
+unfoldable pub frontBytes : Head → List ℕ
+frontBytes h = h .events ∷ length (h .log) ∷ flatMap wordBytes (h .log)
+
+-- then the places
 unfoldable pub headBytes : Head → List ℕ
-headBytes h = h .events ∷ length (h .log) ∷ (flatMap wordBytes (h .log) ++ placesBytes (h .places))
+headBytes h = frontBytes h ++ placesBytes (h .places)
 
 -- then the certificates, and nothing more
 unfoldable pub bytesOf : Contents → List ℕ

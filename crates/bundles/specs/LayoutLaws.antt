@@ -13,7 +13,7 @@ use Rattle.laws.specs.Numbers.{le16, Bytes}
 use Rattle.limits.specs.Limits.{MAX-EVENTS, MAX-LOG-EVENTS, MAX-ROWS, MAX-PLACES, MAX-TERMS}
 use Rattle.nets.specs.Nets.{Word, Log, rows, eventCount}
 use Rattle.bundles.specs.Reading.{byte, number}
-use Rattle.bundles.specs.Layout.{PlaceFields, TermFields, CertificateFields, kind0, kind1, Head, TwoBytes, WordInLimits, PlaceInLimits, TermInLimits, CertificateInLimits, wordBytes, placeBytes, placesBytes, termBytes, certificateBytes, headBytes, WeightFields, weightBytes, rowsIn}
+use Rattle.bundles.specs.Layout.{PlaceFields, TermFields, CertificateFields, kind0, kind1, Head, TwoBytes, WordInLimits, PlaceInLimits, TermInLimits, CertificateInLimits, wordBytes, placeBytes, placesBytes, termBytes, certificateBytes, frontBytes, headBytes, WeightFields, weightBytes, rowsIn}
 use Rattle.bundles.specs.Readers.{anything, wordAfter, word, place, places, headAfter, head, term, weights, ofKind, certificate}
 use Rattle.bundles.specs.ReadingLaws.{Law, Following, law-then, law-give, law-same, law-require, law-tested, law-offset, law-byte, law-number, law-following, law-times}
 
@@ -126,7 +126,7 @@ module _ (b : List ℕ) (bytes : Bytes b) where
       (λ ps v. (v .0, (refl, v .1)))
 
   pub law-head : (rowsFit : ℕ → Log → Bool) → Law b (head rowsFit) headBytes (HeadValid rowsFit)
-  unfolding headAfter head headBytes
+  unfolding headAfter head headBytes frontBytes
   law-head rowsFit =
       law-same b
       (law-then b law-events (λ (h : Head). h .events)

@@ -13,7 +13,7 @@ use Rattle.nets.specs.Nets.{Log, eventCount}
 use Rattle.nets.specs.LogLaws.{eventCount-append, eventCount-snoc}
 use Rattle.nets.specs.Fits.{LogBelow}
 use Rattle.bundles.specs.Reading.{got}
-use Rattle.bundles.specs.Layout.{Head, WordInLimits, HeadInLimits, HeadInFront, headBytes, wordsIn, LogBelowIn}
+use Rattle.bundles.specs.Layout.{Head, WordInLimits, HeadInLimits, HeadInFront, frontBytes, headBytes, wordsIn, LogBelowIn}
 use Rattle.bundles.specs.Readers.{head}
 use Rattle.bundles.specs.ReadingLaws.{Following, Part, part-front}
 use Rattle.bundles.specs.LayoutLaws.{WordValid, HeadValid, law-head}
@@ -27,7 +27,7 @@ log-below h limits = words-below (h .events) (wordsIn h) (limits .words)
 
 -- a bundle that begins with a head has at least one byte
 pub →size : (b : List ℕ) (h : Head) (rest : List ℕ) → b ≡ headBytes h ++ rest → length b ≤ MAX-BUNDLE-SIZE → rightSize (length b) ≡ true
-unfolding headBytes
+unfolding headBytes frontBytes
 →size b h rest e most = rightSize-intro (length b) (omega (arith, ap length e)) most
 
 module _ (n : ℕ) (rowsFit : Log → Bool) (fewer : (log more : Log) → T (rowsFit (log ++ more)) → T (rowsFit log)) where

@@ -10,6 +10,7 @@ use lib.Signed.{nonNeg}
 use Rattle.limits.specs.Limits.{MAX-EVENTS, MAX-PLACES}
 use Rattle.nets.specs.Nets.{Place, Counts, tokens as tokensAfter}
 use Rattle.nets.specs.Surplus.{given, taken}
+use Rattle.places.specs.Machine.{Held}
 use Rattle.bundles.specs.NextPlace.{placeIn}
 
 -- ---- The matrix

@@ -12,7 +12,7 @@ use Rattle.laws.specs.Numbers.{Bytes, le16}
 use Rattle.refusals.specs.Results.{value, refused}
 use Rattle.refusals.specs.declared.Refusal.{Refusal}
 use Rattle.bundles.specs.Reading.{Read, got, item}
-use Rattle.bundles.specs.Layout.{PlaceFields, Head, Contents, PlaceInLimits, InLimits, wordBytes, placeBytes, placesBytes, certificateBytes, headBytes, bytesOf}
+use Rattle.bundles.specs.Layout.{PlaceFields, Head, Contents, PlaceInLimits, InLimits, placeBytes, placesBytes, certificateBytes, frontBytes, headBytes, bytesOf}
 use Rattle.bundles.specs.PlaceReading.{placeSize}
 use Rattle.verdicts.specs.Judging.{judging, judged, verdictOf, verdict}
 use Rattle.verdicts.specs.Acceptance.{AcceptedAs, accepted-exactly, judged-long, judged-judging, accepted-judging}
@@ -64,15 +64,10 @@ module _ (tableSize : ℕ) (b : List ℕ) where
 
 -- ---- where the parts stand
 
--- n and the log
-unfoldable pub frontBytes : Head → List ℕ
-frontBytes h = h .events ∷ length (h .log) ∷ flatMap wordBytes (h .log)
-
 -- the contents: n and the log, the place count, the places, the certificates
 pub bytes-parts : (c : Contents) → bytesOf c ≡ frontBytes (c .head) ++ (length (c .head .places) ∷ (flatMap placeBytes (c .head .places) ++ flatMap certificateBytes (c .certificates)))
-unfolding bytesOf headBytes placesBytes frontBytes
-bytes-parts c = ap (λ (l : List ℕ). c .head .events ∷ length (c .head .log) ∷ l)
-    (append-assoc (flatMap wordBytes (c .head .log)) (placesBytes (c .head .places)) (flatMap certificateBytes (c .certificates)))
+unfolding bytesOf headBytes placesBytes
+bytes-parts c = append-assoc (frontBytes (c .head)) (placesBytes (c .head .places)) (flatMap certificateBytes (c .certificates))
 
 -- ---- how long the parts are
 
@@ -106,7 +101,7 @@ module _ {b : List ℕ} (bundle : IsBundle b) where
   -- the place count stands behind the words
   pub front-inside : (2 ≤ length (frontBytes itsHead)) × (length (frontBytes itsHead) < length b)
   unfolding frontBytes
-  front-inside = (omega arith, omega (arith, ap length parts, length-append (flatMap wordBytes (itsHead .log)) behindFront))
+  front-inside = (omega arith, omega (arith, ap length parts, length-append (frontBytes itsHead) behindFront))
 
   pub count-at : getD b (length (frontBytes itsHead)) 0 ≡ length (itsHead .places)
   count-at = ap (λ (l : List ℕ). getD l (length (frontBytes itsHead)) 0) parts ∙ getD-append-seam (frontBytes itsHead) (length (itsHead .places)) (flatMap placeBytes (itsHead .places) ++ flatMap certificateBytes (contentsOf b .certificates)) 0
@@ -117,8 +112,8 @@ module _ {b : List ℕ} (bundle : IsBundle b) where
 
   -- where the certificates begin
   pub head-length : length (headBytes itsHead) ≡ length (frontBytes itsHead) + 1 + length (itsHead .places) * (2 * placeSize (itsHead .events))
-  unfolding headBytes placesBytes frontBytes
-  head-length = omega (arith, length-append (flatMap wordBytes (itsHead .log)) (length (itsHead .places) ∷ flatMap placeBytes (itsHead .places)), places-length (itsHead .events) (itsHead .places) (bundle .limits .head .places))
+  unfolding headBytes placesBytes
+  head-length = omega (arith, length-append (frontBytes itsHead) (length (itsHead .places) ∷ flatMap placeBytes (itsHead .places)), places-length (itsHead .events) (itsHead .places) (bundle .limits .head .places))
 
   pub head-inside : length (headBytes itsHead) ≤ length b
   unfolding bytesOf

@@ -14,9 +14,9 @@ use Rattle.laws.specs.Every.{Every, every-member, every-intro}
 use Rattle.laws.specs.Lists.{getD-member}
 use Rattle.laws.specs.Spans.{span-next, span-at, part-at, part-within}
 use Rattle.nets.specs.Nets.{Word}
-use Rattle.bundles.specs.Layout.{PlaceFields, TermFields, WeightFields, CertificateFields, kind0, kind1, PlaceInLimits, wordBytes, placeBytes, termBytes, weightBytes, certificateBytes, headBytes, bytesOf}
+use Rattle.bundles.specs.Layout.{PlaceFields, TermFields, WeightFields, CertificateFields, kind0, kind1, PlaceInLimits, wordBytes, placeBytes, termBytes, weightBytes, certificateBytes, headBytes, bytesOf, frontBytes}
 use Rattle.bundles.specs.PlaceReading.{placeSize}
-use Rattle.contents.specs.Contents.{IsBundle, contentsOf, frontBytes, bytes-parts, place-length, places-length}
+use Rattle.contents.specs.Contents.{IsBundle, contentsOf, bytes-parts, place-length, places-length}
 
 -- ---- certificates
 

@@ -5,7 +5,8 @@ ghost use mathlib.Core.Path.{_≡_};
 ghost use Prim.Native.Nat.{_*_};
 ghost use lib.ListN.{length};
 ghost use Rattle.bundles.specs.PlaceReading.{placeSize};
-ghost use Rattle.contents.specs.Contents.{IsBundle, contentsOf, frontBytes};
+ghost use Rattle.bundles.specs.Layout.{frontBytes};
+ghost use Rattle.contents.specs.Contents.{IsBundle, contentsOf};
 ghost use Rattle.contents.specs.Walking.{CertificateAt, endAt};
 
 // The offset of the place count: behind the words.

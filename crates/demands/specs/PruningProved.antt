@@ -26,7 +26,7 @@ use Rattle.nets.specs.Pruning.{prune, fewer-permits, prune-accepted, prune-tall
 use Rattle.logs.specs.Answers.{TABLE}
 use Rattle.bundles.specs.Bytes.{contents-bytes}
 use Rattle.bundles.specs.Reading.{itemIn, require, field, byte, number, each, onward}
-use Rattle.bundles.specs.Layout.{PlaceFields, CertificateFields, kind0, kind1, Head, Contents, InLimits, toPlace, toNet, toTerm, toCertificate, toBundle, wordBytes, placeBytes, placesBytes, termBytes, weightBytes, certificateBytes, headBytes, bytesOf, wordsIn}
+use Rattle.bundles.specs.Layout.{PlaceFields, CertificateFields, kind0, kind1, Head, Contents, InLimits, toPlace, toNet, toTerm, toCertificate, toBundle, wordBytes, placeBytes, placesBytes, termBytes, weightBytes, certificateBytes, frontBytes, headBytes, bytesOf, wordsIn}
 use Rattle.bundles.specs.Readers as readers
 use Rattle.bundles.specs.Readers.{headOf, eventsIn, logIn, netIn, wordAfter, word, place, places, headAfter, bundleSize, bundleHead, readHead, term, weights, ofKind, certificate}
 use Rattle.verdicts.specs.Judging as verdicts
@@ -270,7 +270,7 @@ withoutIdle =
     ∷ 0 ∷ 0 ∷ 1 ∷ 2 ∷ 0 ∷ 2 ∷ 1 ∷ 0 ∷ 1 ∷ 1 ∷ 0 ∷ 3 ∷ 0 ∷ 1 ∷ 1 ∷ 0 ∷ 0 ∷ 1 ∷ 0 ∷ 1 ∷ 0 ∷ 2 ∷ 0 ∷ 0 ∷ 0 ∷ 0 ∷ []
 
 permitted-more : PermittedMore
-unfolding withIdle withoutIdle all any keep tabulate equal numberAt firstFailing negativePart sumℤ same occurrences eventCount weighed beginnings prefixes addRow counts tokens surplus placePermits shortfall netPermits firstRefusing shortfallOf stoppedAt screenAfter screen rows allowed passes rowSteps continuations allowedSteps wrongContinuations fits refusedBy weighsBefore weighsAfter weightsHold solves isByPlace tally firstBad flatMap bind results.require onward itemIn require field byte number each toPlace toNet toTerm toCertificate toBundle rightSize wordAfter word place places headAfter readers.head bundleSize bundleHead readHead readers.headIn headOf term weights ofKind certificate unsolved solved atEnd afterHead contents verdicts.judging judged verdictOf verdict replayed wordOn screening screenedOf screened names named keepAt rank renumbered pruned pruning wordBytes placeBytes placesBytes termBytes weightBytes certificateBytes headBytes bytesOf
+unfolding withIdle withoutIdle all any keep tabulate equal numberAt firstFailing negativePart sumℤ same occurrences eventCount weighed beginnings prefixes addRow counts tokens surplus placePermits shortfall netPermits firstRefusing shortfallOf stoppedAt screenAfter screen rows allowed passes rowSteps continuations allowedSteps wrongContinuations fits refusedBy weighsBefore weighsAfter weightsHold solves isByPlace tally firstBad flatMap bind results.require onward itemIn require field byte number each toPlace toNet toTerm toCertificate toBundle rightSize wordAfter word place places headAfter readers.head bundleSize bundleHead readHead readers.headIn headOf term weights ofKind certificate unsolved solved atEnd afterHead contents verdicts.judging judged verdictOf verdict replayed wordOn screening screenedOf screened names named keepAt rank renumbered pruned pruning wordBytes placeBytes placesBytes termBytes weightBytes certificateBytes frontBytes headBytes bytesOf
 permitted-more = record {
   bundle = withIdle;
   bytes = all-bytes withIdle refl;

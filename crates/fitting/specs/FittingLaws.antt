@@ -18,6 +18,7 @@ use Rattle.nets.specs.CountLaws.{length-counts}
 use Rattle.nets.specs.Fits.{LogBelow, allowed-listed}
 use Rattle.nets.specs.Rows.{row→, continuation→, allowedStep→}
 use Rattle.nets.specs.Wide.{wide, permits-wide}
+use Rattle.places.specs.Machine.{placeOf}
 use Rattle.places.specs.declared.Place as Declared
 use Rattle.rows.specs.Rows.{Row, rowAt, rowsOf}
 use Rattle.logs.specs.Log.{logRow, logRows}

@@ -9,9 +9,9 @@ use Rattle.laws.specs.Lists.{tabulate}
 use Rattle.laws.specs.Parts.{front, spliced, spliced-front, front-next, spliced-sets, length-spliced}
 use Rattle.laws.specs.Ranks.{rank, rank-same, keepAt, keepAt-length, keepAt-most}
 use Rattle.limits.specs.Limits.{MAX-PLACES}
-use Rattle.bundles.specs.Layout.{PlaceFields, Contents, placeBytes, certificateBytes, headBytes, bytesOf}
+use Rattle.bundles.specs.Layout.{PlaceFields, Contents, placeBytes, certificateBytes, headBytes, bytesOf, frontBytes}
 use Rattle.bundles.specs.PlaceReading.{placeSize}
-use Rattle.contents.specs.Contents.{IsBundle, contentsOf, frontBytes, bytes-parts, places-length, front-is, head-length, head-inside}
+use Rattle.contents.specs.Contents.{IsBundle, contentsOf, bytes-parts, places-length, front-is, head-length, head-inside}
 use Rattle.pruning.specs.Pruning.{named, pruned}
 use Rattle.pruning.specs.PruneLaws.{certificates-length, pruned-length, pruned-head}
 use Rattle.pruning.specs.Marking.{marksOf, marked, marks-named}

@@ -15,7 +15,7 @@ use Rattle.laws.specs.Ranks.{keepAt, rank, keepAt-at, keepAt-from, keepAt-membe
 use Rattle.nets.specs.Nets.{Net, Certificate, byPlace, byWeights, Bundle, accepted, tally}
 use Rattle.nets.specs.Pruning as theory
 use Rattle.nets.specs.Pruning.{prune, prune-accepted, prune-tally}
-use Rattle.bundles.specs.Layout.{PlaceFields, CertificateFields, kind0, kind1, Head, Contents, toPlace, toNet, toTerm, toWeights, toCertificate, toBundle, wordBytes, placeBytes, placesBytes, weightBytes, certificateBytes, headBytes, bytesOf, PlaceInLimits, HeadInLimits, CertificateInLimits, InLimits}
+use Rattle.bundles.specs.Layout.{PlaceFields, CertificateFields, kind0, kind1, Head, Contents, toPlace, toNet, toTerm, toWeights, toCertificate, toBundle, placeBytes, placesBytes, weightBytes, certificateBytes, headBytes, bytesOf, PlaceInLimits, HeadInLimits, CertificateInLimits, InLimits, wordsIn, headWith, frontBytes}
 use Rattle.bundles.specs.LayoutLaws.{every-map}
 use Rattle.bundles.specs.PlaceReading.{placeSize}
 use Rattle.contents.specs.Contents.{places-length}
@@ -48,7 +48,7 @@ module _ (c : Contents) where
 
   pub pruned-bundle : toBundle (pruned c) ≡ prune (toBundle c)
   unfolding toBundle prune pruned toNet
-  pruned-bundle = ap₂ (λ (net : Net) (cs : List Certificate). record { events = c .head .events; log = c .head .log; net = net; certificates = cs })
+  pruned-bundle = ap₂ (λ (net : Net) (cs : List Certificate). record { events = c .head .events; log = wordsIn (c .head); net = net; certificates = cs })
       (sym (keepAt-map toPlace kept (c .head .places)) ∙ keepAt-same kept (theory.named (map (toCertificate (c .head)) (c .certificates))) (map toPlace (c .head .places)) (λ i h. sym (named-same (c .head) (c .certificates) i)))
       (numbers-same (c .certificates))
 
@@ -123,20 +123,20 @@ module _ (c : Contents) (limits : InLimits c) where
   -- each place that is left out has its bytes left out, and nothing else changes in length
   pub pruned-length : length (bytesOf (pruned c)) + length (c .head .places) * (2 * placeSize (c .head .events))
       ≡ length (bytesOf c) + length (pruned c .head .places) * (2 * placeSize (c .head .events))
-  unfolding bytesOf headBytes placesBytes pruned
+  unfolding bytesOf headBytes frontBytes placesBytes pruned
   pruned-length =
       let n = c .head .events in
-      let words = flatMap wordBytes (c .head .log) in
+      let front = frontBytes (c .head) in
       let ps = c .head .places in
       let qs = keepAt (kept c) ps in
       let cs = flatMap certificateBytes (c .certificates) in
       let ds = flatMap certificateBytes (map (renumbered (kept c)) (c .certificates)) in
       omega (
         arith,
-        length-append (n ∷ length (c .head .log) ∷ (words ++ (length ps ∷ flatMap placeBytes ps))) cs,
-        length-append (n ∷ length (c .head .log) ∷ (words ++ (length qs ∷ flatMap placeBytes qs))) ds,
-        length-append words (length ps ∷ flatMap placeBytes ps),
-        length-append words (length qs ∷ flatMap placeBytes qs),
+        length-append (front ++ (length ps ∷ flatMap placeBytes ps)) cs,
+        length-append (front ++ (length qs ∷ flatMap placeBytes qs)) ds,
+        length-append front (length ps ∷ flatMap placeBytes ps),
+        length-append front (length qs ∷ flatMap placeBytes qs),
         certificates-length (kept c) (c .certificates),
         places-length n ps (limits .head .places),
         places-length n qs (every-kept (PlaceInLimits n) (kept c) ps (limits .head .places)),
@@ -182,6 +182,6 @@ module _ (c : Contents) (limits : InLimits c) where
   -- equals doing it once
   pub pruned-twice : pruned (pruned c) ≡ pruned c
   unfolding pruned
-  pruned-twice = ap₂ (λ (ps : List PlaceFields) (cs : List CertificateFields). record { head = record { events = c .head .events; log = c .head .log; places = ps }; certificates = cs })
+  pruned-twice = ap₂ (λ (ps : List PlaceFields) (cs : List CertificateFields). record { head = headWith (c .head) ps; certificates = cs })
       (keepAt-all (named (pruned c .certificates)) (keepAt (kept c) (c .head .places)) stays-named)
       (renumbered-again (c .certificates) (λ x m. m))

@@ -7,7 +7,7 @@ use Rattle.laws.specs.Lists.{any}
 use Rattle.laws.specs.Ranks.{keepAt, rank}
 use Rattle.refusals.specs.Results.{Result, value, _>>=_}
 use Rattle.bundles.specs.Reading.{itemIn}
-use Rattle.bundles.specs.Layout.{CertificateFields, kind0, kind1, Contents, bytesOf}
+use Rattle.bundles.specs.Layout.{CertificateFields, kind0, kind1, Contents, headWith, bytesOf}
 use Rattle.verdicts.specs.Judging.{judged}
 
 -- a certificate of kind 0 names its place
@@ -27,7 +27,7 @@ renumbered kept (kind1 w) = kind1 w
 -- without the places that no certificate names, the rest in their old order, with certificates renumbered
 unfoldable pub pruned : Contents → Contents
 pruned c = record {
-  head = record { events = c .head .events; log = c .head .log; places = keepAt (named (c .certificates)) (c .head .places) };
+  head = headWith (c .head) (keepAt (named (c .certificates)) (c .head .places));
   certificates = map (renumbered (named (c .certificates))) (c .certificates);
 }
 

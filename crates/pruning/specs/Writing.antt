@@ -17,9 +17,9 @@ use Rattle.laws.specs.Ranks.{keepAt, rank, rank-next, rank-more, rank-same, kee
 use Rattle.laws.specs.Rewriting.{rewritten, rewritten-next, rewritten-map, rewritten-kept}
 use Rattle.laws.specs.Spans.{part-at, set-tabulate}
 use Rattle.limits.specs.Limits.{MAX-PLACES}
-use Rattle.bundles.specs.Layout.{PlaceFields, CertificateFields, kind0, kind1, PlaceInLimits, placeBytes, certificateBytes, headBytes}
+use Rattle.bundles.specs.Layout.{PlaceFields, CertificateFields, kind0, kind1, PlaceInLimits, placeBytes, certificateBytes, headBytes, frontBytes}
 use Rattle.bundles.specs.PlaceReading.{placeSize}
-use Rattle.contents.specs.Contents.{IsBundle, contentsOf, frontBytes, places-length}
+use Rattle.contents.specs.Contents.{IsBundle, contentsOf, places-length}
 use Rattle.contents.specs.Walking.{CertificateAt, endAt, end-is, certificate-long, certificate-inside, kind-0, kind-1, noCertificate, Walked, walk-least, walk-here, walk-certificate, walk-next, walk-end, certificateOffset, noPlace, first-within, place-bytes, place-inside}
 use Rattle.pruning.specs.Pruning.{named, renumbered, pruned}
 use Rattle.pruning.specs.PruneLaws.{every-kept, certificates-length}

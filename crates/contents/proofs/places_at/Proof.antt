@@ -7,8 +7,8 @@ use borrow.Author.Needs.{needs}
 use lib.ListN.{length, take, getD}
 use lib.Seq.{take-all}
 use Rattle.nets.specs.Nets.{Word}
-use Rattle.bundles.specs.Layout.{wordBytes}
-use Rattle.contents.specs.Contents.{contentsOf, frontBytes, front-inside}
+use Rattle.bundles.specs.Layout.{wordBytes, frontBytes}
+use Rattle.contents.specs.Contents.{contentsOf, front-inside}
 use Rattle.contents.specs.Walking.{word-count, word-length}
 use Rattle.contents.proofs.places_at.Statement.{statement}
 use Rattle.contents.proofs.places_at.Tie as tie
