@@ -10,6 +10,7 @@ use lib.Dec.{leb}
 use lib.ListN.{length, getD, drop, replicate, length-replicate}
 use borrow.Author.Tests.{le-leb, lt-leb, ltb-true}
 use Rattle.laws.specs.Every.{Every, every-last}
+use Rattle.laws.specs.Parts.{drop-more}
 use Rattle.limits.specs.Limits.{MAX-EVENTS, MAX-LOG-EVENTS, MAX-ROWS}
 use Rattle.refusals.specs.Table.{ROWS, EVENTS}
 use Rattle.refusals.specs.Results.{refused, bind}
@@ -25,7 +26,6 @@ use Rattle.logs.specs.Log.{logRows}
 use Rattle.logs.specs.LogRows.{take-word, first-row}
 use Rattle.logs.specs.LogTable.{length-logRows, each-below}
 use Rattle.rows.specs.Growth.{length-take}
-use Rattle.logs.specs.Taking.{drop-more}
 use Rattle.rows.specs.Flat.{length-rows}
 use Rattle.bundles.specs.Reading.{got, _>>_, require, byte, each, times, following, onward}
 use Rattle.bundles.specs.Readers.{anything, wordAfter, word, rowsInLimit}
