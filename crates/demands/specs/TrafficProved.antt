@@ -16,10 +16,10 @@ use Rattle.nets.specs.Words.{empty-prefix}
 use Rattle.nets.specs.Fits.{LogBelow}
 use Rattle.nets.specs.Rows.{→row, first-row, other-row}
 use Rattle.nets.specs.Traffic.{passes-exactly, traffic-most, traffic-first, traffic-some, traffic-few, words-most}
+use Rattle.rows.specs.Growth.{counts-none}
 use Rattle.rows.specs.Rows.{Row, rowsOf, none, cleared}
 use Rattle.logs.specs.Answers.{TABLE, freshSummary, freshAnswer, freshTable, takenAnswer, takenTable}
 use Rattle.logs.specs.Log.{logRow, logRows, Takes}
-use Rattle.logs.specs.LogRows.{counts-none}
 use Rattle.logs.specs.LogTable.{taken-below, taken-events, cleared-table, cleared-length, fresh-passed, log-table}
 use Rattle.rows.specs.Visiting.{countsOf}
 use Rattle.logs.specs.declared.Summary.{Summary}

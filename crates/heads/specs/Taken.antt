@@ -9,6 +9,7 @@ use native.Mathlib.Omega.{arith}
 use lib.ListN.{length, getD, drop, length-replicate}
 use borrow.Author.Tests.{le-leb, lt-leb, ltb-true}
 use Rattle.laws.specs.Every.{Every}
+use Rattle.laws.specs.Parts.{drop-more}
 use Rattle.limits.specs.Limits.{MAX-EVENTS, MAX-LOG-EVENTS, MAX-ROWS}
 use Rattle.refusals.specs.Table.{ROWS}
 use Rattle.refusals.specs.Results.{refused, bind}
@@ -24,7 +25,6 @@ use Rattle.logs.specs.Log.{logRows}
 use Rattle.logs.specs.LogRows.{take-word, first-row}
 use Rattle.logs.specs.LogTable.{length-logRows}
 use Rattle.rows.specs.Growth.{length-take}
-use Rattle.logs.specs.Taking.{drop-more}
 use Rattle.rows.specs.Flat.{length-rows}
 use Rattle.bundles.specs.Reading.{got, _>>_, following, onward}
 use Rattle.bundles.specs.Readers.{wordAfter, word, rowsInLimit}

@@ -11,6 +11,7 @@ use borrow.Author.Tests.{le-leb, lt-leb}
 use Rattle.laws.specs.Booleans.{impossible}
 use Rattle.laws.specs.Lists.{all}
 use Rattle.laws.specs.Scans.{firstFailing, failing-all, failing-some}
+use Rattle.laws.specs.Parts.{drop-more}
 use Rattle.limits.specs.Limits.{MAX-ROWS, rightSize}
 use Rattle.refusals.specs.Table.{PLACE-MISFIT, BYTES-FOLLOW, BUNDLE-LENGTH, NUMBERS-SHORT}
 use Rattle.refusals.specs.Results.{value, refused, bind}
@@ -20,7 +21,6 @@ use Rattle.rows.specs.Rows.{ROW, withRows, cleared, Holds}
 use Rattle.logs.specs.Answers.{TABLE}
 use Rattle.logs.specs.Log.{logRows}
 use Rattle.rows.specs.Flat.{holds-with}
-use Rattle.logs.specs.Taking.{drop-more}
 use Rattle.bundles.specs.Reading.{Read, got, item, Reader, andThen, _>>=_, _>>_, give, require, each, onward}
 use Rattle.bundles.specs.Layout.{CertificateFields, Head, Contents, wrongIn, fitsIn, toNet, toBundle, wordsIn}
 use Rattle.bundles.specs.Readers.{head, rowsInLimit, bundleSize, headOf, logIn, netIn}

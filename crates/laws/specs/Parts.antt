@@ -115,3 +115,9 @@ module _ {A : Type 0} where
   getD-padded [] (suc k) (suc i) d = getD-padded [] k i d
   getD-padded (x ∷ l) k zero d = refl
   getD-padded (x ∷ l) k (suc i) d = getD-padded l k i d
+
+-- lists that agree from m on agree from a later index on
+pub drop-more : (m n : ℕ) (a b : List ℕ) → m ≤ n → drop m a ≡ drop m b → drop n a ≡ drop n b
+drop-more m n a b h e =
+    let split : n ≡ m + (n - m) = omega arith in
+    rw (split, ← drop-drop (n - m) m a, ← drop-drop (n - m) m b, e)

@@ -18,7 +18,7 @@ use Rattle.refusals.specs.declared.Refusal.{Refusal}
 use Rattle.nets.specs.Events.{firstBad, none-bad}
 use Rattle.rows.specs.Rows.{rowsOf, none, Added}
 use Rattle.logs.specs.Answers.{TABLE, rightEventCount, rightSummary, takenOf, rowsAfter, wordTaken, takenAnswer, takenTable}
-use Rattle.logs.specs.Takable.{Takable}
+use Rattle.taking.specs.Takable.{Takable}
 use Rattle.rows.specs.Flat.{length-rows, holds-with}
 use Rattle.rows.specs.Growth.{length-take}
 use Rattle.logs.specs.declared.Summary.{Summary}

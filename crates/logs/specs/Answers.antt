@@ -1,7 +1,7 @@
 -- What a fresh summary and a taken word answer, and what they leave in the table.
 use mathlib.Core.Bool.{Bool, _&&_}
 use mathlib.Core.List.{List}
-use Prim.Native.Nat.{ℕ, _+_, _*_}
+use Prim.Native.Nat.{ℕ, _+_}
 use lib.ListN.{length}
 use lib.Dec.{leb, ltb}
 use Rattle.laws.specs.Lists.{all}
@@ -11,14 +11,11 @@ use Rattle.refusals.specs.Results.{Result, value, refused, _>>_, require}
 use Rattle.refusals.specs.Answers.{refusal}
 use Rattle.nets.specs.Events.{firstBad}
 use Rattle.nets.specs.Nets.{Word}
-use Rattle.rows.specs.Rows.{ROW, Row, rowsOf, withRows, takeWord, none, cleared}
+pub use Rattle.rows.specs.Rows.{TABLE}
+use Rattle.rows.specs.Rows.{Row, rowsOf, withRows, takeWord, none, cleared}
 use Rattle.logs.specs.declared.Summary.{Summary}
 use Rattle.logs.specs.declared.Taken.{Taken}
 use Rattle.logs.specs.declared.Taken.the-variants.{Next, Refused}
-
--- the numbers that a table has at least
-abbrev pub TABLE : ℕ
-TABLE = ROW * MAX-ROWS
 
 -- 1 to 12 events
 unfoldable pub rightEventCount : ℕ → Bool

@@ -1,9 +1,4 @@
 pub mod Answers
-pub mod Takable
-pub mod Prefixes
-pub mod Numbering
-pub mod Noting
-pub mod Taking
 pub mod AnswerLaws
 pub mod Log
 pub mod LogRows

@@ -21,6 +21,7 @@ use Rattle.nets.specs.Rows.{→row, rows-distinct, addRow-old, addRow-new, addR
 use Rattle.nets.specs.CountLaws.{counts-snoc}
 use Rattle.nets.specs.LogLaws.{rows-snoc, allowed-snoc}
 use Rattle.nets.specs.Traffic.{traffic-empty, traffic-empty-other, traffic-next, traffic-next-other, traffic-row}
+use Rattle.rows.specs.Growth.{counts-none}
 use Rattle.rows.specs.Rows.{MAX-TRAFFIC, Row, findRow, newRow, present, oneMore, passedOnce, visit, marked, updateAt, follow, addEvent, takeWord, none}
 use Rattle.logs.specs.Log.{maskAt, trafficAt, logRow, logRows, takeLog}
 use Rattle.rows.specs.Visiting.{countsOf, found-member, present-found, present-new, visit-is, update-here, update-later}
@@ -249,10 +250,6 @@ ready-first log = record {
   here = traffic-empty MAX-EVENTS log;
   other = traffic-empty-other MAX-EVENTS log;
 }
-
-pub counts-none : none ≡ counts MAX-EVENTS []
-unfolding counts tabulate occurrences
-counts-none = refl
 
 -- one word more
 pub take-word : (log : Log) (w : Word) → Below MAX-EVENTS w → takeWord (logRows log) none w ≡ logRows (log ++ w ∷ [])

@@ -13,6 +13,7 @@ use borrow.Author.Tests.{leb-true}
 use Rattle.laws.specs.Every.{Every}
 use Rattle.laws.specs.Bits.{bit, maskOf, maskOf-same, maskOf-bit}
 use Rattle.laws.specs.Scans.{all-failing}
+use Rattle.laws.specs.Parts.{drop-more}
 use Rattle.limits.specs.Limits.{MAX-EVENTS, MAX-LOG-EVENTS, MAX-ROWS}
 use Rattle.refusals.specs.Results.{passed}
 use Rattle.nets.specs.Events.{firstBad, EventsBelow, none-bad, each-below}
@@ -27,7 +28,6 @@ use Rattle.logs.specs.Log.{takeLog, maskAt, trafficAt, logRow, logRows, 
 use Rattle.rows.specs.Flat.{length-rows, rows-flat, length-numbers, rowAt-numbers, counts-rowAt}
 use Rattle.rows.specs.Visiting.{countsOf, visit-cases, length-visit, counts-follow}
 use Rattle.rows.specs.Growth.{length-addEvent, visit-le}
-use Rattle.logs.specs.Taking.{drop-more}
 use Rattle.logs.specs.LogRows.{log-rows}
 use Rattle.logs.specs.declared.Summary.{Summary}
 use Rattle.logs.specs.declared.Taken.the-variants.{Next}

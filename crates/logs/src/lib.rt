@@ -1,6 +1,4 @@
 // The log table and its summary: taking a log word by word. The contracts cite specs/Rows.antt and specs/Answers.antt.
-pub mod words; // a word taken
-
 use limits::MAX_EVENTS;
 use limits::MAX_LOG_EVENTS;
 use limits::MAX_ROWS;
@@ -12,7 +10,7 @@ use refusals::Refusal;
 use refusals::STATE_RANGE;
 use refusals::VALUE;
 use rows::ROW;
-use words::add_alone;
+use taking::add_alone;
 ghost use mathlib.Core.Path.{_≡_};
 ghost use Prim.Native.Nat.{_≤_};
 ghost use lib.ListN.{length};

@@ -1,5 +1,5 @@
 -- How many rows a word adds: as many as it has prefixes with no row, since no two prefixes of a word have the same counts.
-use mathlib.Core.Path.{_≡_, ap, _∙_}
+use mathlib.Core.Path.{_≡_, refl, ap, _∙_}
 use mathlib.Core.Logic.{⊎-elim}
 use mathlib.Core.Bool.{Bool, true, false, not, cond}
 use mathlib.Core.List.{List, [], _∷_, _++_}
@@ -10,12 +10,23 @@ use lib.ListN.{length, getD, length-set}
 use lib.Dec.{ltb, leb·suc-suc}
 use borrow.Author.Tests.{lt-ltb}
 use Rattle.laws.specs.Booleans.{true-or-false}
-use Rattle.laws.specs.Lists.{equal, equal-true}
+use Rattle.laws.specs.Lists.{tabulate, equal, equal-true}
 use Rattle.laws.specs.Scans.{firstFailing}
 use Rattle.limits.specs.Limits.{MAX-EVENTS}
+use Rattle.nets.specs.Nets.{Word, occurrences, counts}
+use Rattle.nets.specs.CountLaws.{counts-snoc}
 use Rattle.nets.specs.Events.{EventsBelow}
-use Rattle.rows.specs.Rows.{Row, findRow, newRow, visit, follow, addEvent, takeWord, absent, newRows}
+use Rattle.rows.specs.Rows.{Row, findRow, newRow, visit, follow, addEvent, takeWord, none, absent, newRows}
 use Rattle.rows.specs.Visiting.{countsOf, absent-same, visit-cases, length-visit, counts-follow, length-follow}
+
+-- the counts of the empty word, and of a word with an event more
+pub counts-none : none ≡ counts MAX-EVENTS []
+unfolding counts tabulate occurrences
+counts-none = refl
+
+pub counts-more : (u : Word) (e : ℕ) → e < MAX-EVENTS → counts MAX-EVENTS (u ++ e ∷ []) ≡ addEvent (counts MAX-EVENTS u) e
+unfolding addEvent
+counts-more u e h = counts-snoc MAX-EVENTS u e h
 
 -- the number of events that v counts
 pub total : List ℕ → ℕ

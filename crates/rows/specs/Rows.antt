@@ -8,7 +8,7 @@ use lib.Dec.{ltb}
 use Rattle.laws.specs.Lists.{equal}
 use Rattle.laws.specs.Scans.{firstFailing}
 use Rattle.laws.specs.Bits.{withBit}
-use Rattle.limits.specs.Limits.{MAX-EVENTS}
+use Rattle.limits.specs.Limits.{MAX-EVENTS, MAX-ROWS}
 use Rattle.nets.specs.Nets.{Word, Counts, at}
 
 -- ---- How rows lie in a table
@@ -19,6 +19,10 @@ ROW = 14
 
 abbrev pub TRAFFIC : ℕ
 TRAFFIC = 13
+
+-- the numbers that a table has at least
+abbrev pub TABLE : ℕ
+TABLE = ROW * MAX-ROWS
 
 -- a row: a count vector, the mask of its allowed steps, and how many words passed it
 pub record Row : Type 0 where

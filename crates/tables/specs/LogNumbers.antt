@@ -12,7 +12,7 @@ use lib.Seq.{getD-take, getD-drop, drop-at}
 use Rattle.laws.specs.Booleans.{no-false, lt-or-le}
 use Rattle.laws.specs.Lists.{getD-map, getD-member}
 use Rattle.laws.specs.Every.{Every, every-intro}
-use Rattle.laws.specs.Parts.{getD-padded}
+use Rattle.laws.specs.Parts.{getD-padded, drop-more}
 use Rattle.laws.specs.Bits.{bit, bit-above, maskOf-lt}
 use Rattle.limits.specs.Limits.{MAX-EVENTS, MAX-ROWS}
 use Rattle.nets.specs.Nets.{Word, Log, Counts, Step, counts, at, rows, allowed, traffic}
@@ -25,7 +25,6 @@ use Rattle.rows.specs.Rows.{ROW, MAX-TRAFFIC, Row, rowsOf, withRows, newRow, cl
 use Rattle.logs.specs.Answers.{TABLE}
 use Rattle.logs.specs.Log.{logRow, logRows}
 use Rattle.rows.specs.Visiting.{countsOf}
-use Rattle.logs.specs.Taking.{drop-more}
 use Rattle.tables.specs.Leaving.{onRow, maskOn}
 use Rattle.tables.specs.Passing.{trafficOn}
 use Rattle.logs.specs.LogTable.{Twelve, read-with, rest-with, length-with, length-logRows, logRows-is, logRow-mask, logRow-traffic, logRow-bit}

@@ -18,12 +18,13 @@ use Rattle.nets.specs.Events.{each-below}
 use Rattle.nets.specs.Nets.{Word, Counts, counts, beginnings}
 use Rattle.nets.specs.Words.{Begins}
 use Rattle.nets.specs.Fits.{Below}
+use Rattle.rows.specs.Growth.{counts-none}
 use Rattle.rows.specs.Rows.{ROW, TRAFFIC, Row, rowAt, rowsOf, withRows, findRow, newRow, oneMore, takeWord, none}
 use Rattle.logs.specs.Answers.{rowsAfter, takenAnswer, takenTable}
 use Rattle.logs.specs.AnswerLaws.{rightSummary-bounds}
 use Rattle.rows.specs.Flat.{length-rows, rows-at, counts-rowAt}
 use Rattle.rows.specs.Visiting.{countsOf}
-use Rattle.logs.specs.LogRows.{after, counts-none}
+use Rattle.logs.specs.LogRows.{after}
 use Rattle.tables.specs.Leaving.{missing, take-counts, onRow, maskOn, take-bits, Follows}
 use Rattle.tables.specs.Passing.{trafficOn, Passed, take-passed}
 use Rattle.logs.specs.LogTable.{Twelve, rows-twelve, take-twelve, read-with, rest-with, length-with, Took, took}

@@ -6,8 +6,7 @@ use lib.ListN.{length}
 use Rattle.limits.specs.Limits.{MAX-EVENTS, MAX-LOG-EVENTS, MAX-ROWS}
 use Rattle.nets.specs.Events.{EventsBelow}
 use Rattle.nets.specs.Nets.{Word}
-use Rattle.rows.specs.Rows.{ROW}
-use Rattle.logs.specs.Answers.{TABLE}
+use Rattle.rows.specs.Rows.{ROW, TABLE}
 
 -- the word w may be taken into the k rows of the table t
 pub record Takable (k : ℕ) (t : List ℕ) (w : Word) : Type 0 where

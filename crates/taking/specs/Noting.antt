@@ -10,7 +10,7 @@ use Rattle.limits.specs.Limits.{MAX-EVENTS}
 use Rattle.rows.specs.Rows.{Row, addEvent, absent, rowOr, newRows, numbered, none}
 use Rattle.rows.specs.Index.{key, multiplier}
 use Rattle.rows.specs.IndexLaws.{key-none, key-addEvent}
-use Rattle.logs.specs.Prefixes.{Counted, counted-none, counted-addEvent, count-again, count-end}
+use Rattle.taking.specs.Prefixes.{Counted, counted-none, counted-addEvent, count-again, count-end}
 use Rattle.rows.specs.Growth.{new-le}
 
 -- after i events of w: ns has the rows of the prefixes so far, the prefix has the counts v and their key, and the next new row is k

@@ -1,9 +1,9 @@
--- `logs::words::number_row` meets its contract.
+-- `taking::number_row` meets its contract.
 use borrow.Author.Needs.{needs}
 use native.Mathlib.Omega.{arith}
 use Rattle.rows.specs.Storing.{absent-found, absent-new, row-found, row-next}
-use Rattle.logs.proofs.words.number_row.Statement.{statement}
-use Rattle.logs.proofs.words.number_row.Tie as tie
+use Rattle.taking.proofs.number_row.Statement.{statement}
+use Rattle.taking.proofs.number_row.Tie as tie
 
 returns : tie.Need-returns
 returns c =

@@ -4,12 +4,13 @@ use mathlib.Core.List.{List, []}
 use Prim.Native.Nat.{ℕ, _+_, _*_, _-_, _<_, _≤_}
 use native.Mathlib.Omega.{arith}
 use lib.ListN.{length, getD, drop}
-use lib.Seq.{drop-drop, getD-drop}
+use lib.Seq.{getD-drop}
+use Rattle.laws.specs.Parts.{drop-more}
 use Rattle.limits.specs.Limits.{MAX-EVENTS}
 use Rattle.rows.specs.Rows.{ROW, Row, rowsOf, findRow, visit, follow, addEvent, takeWord, none, Holds}
 use Rattle.rows.specs.Flat.{length-rows, held}
-use Rattle.logs.specs.Prefixes.{Counted, counted-none, counted-addEvent, take-again, take-end}
-use Rattle.logs.specs.Numbering.{used, used-first, use-again}
+use Rattle.taking.specs.Prefixes.{Counted, counted-none, counted-addEvent, take-again, take-end}
+use Rattle.taking.specs.Numbering.{used, used-first, use-again}
 use Rattle.rows.specs.Visiting.{length-visit, length-follow}
 use Rattle.rows.specs.Growth.{visit-le}
 
@@ -27,12 +28,6 @@ pub record Taking (t₀ w ns : List ℕ) (all : List Row) (t : List ℕ) (k : �
 pub taking-none : (t₀ w ns : List ℕ) (k : ℕ) → ROW * k ≤ length t₀ → ns ≡ used (rowsOf k t₀) none w → Taking t₀ w ns (takeWord (rowsOf k t₀) none w) t₀ k none 0
 taking-none t₀ w ns k h noted =
     record { passed = omega arith; counted = counted-none; size = refl; room = h; rest = refl; leads = refl; noted = noted }
-
--- lists that agree from m on agree from a later index on
-pub drop-more : (m n : ℕ) (a b : List ℕ) → m ≤ n → drop m a ≡ drop m b → drop n a ≡ drop n b
-drop-more m n a b h e =
-    let split : n ≡ m + (n - m) = omega arith in
-    rw (split, ← drop-drop (n - m) m a, ← drop-drop (n - m) m b, e)
 
 module _ (t₀ w ns : List ℕ) (all : List Row) (t : List ℕ) (k : ℕ) (v : List ℕ) (i : ℕ) (taking : Taking t₀ w ns all t k v i) where
   -- the row of the prefix

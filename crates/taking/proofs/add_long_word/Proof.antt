@@ -1,10 +1,10 @@
--- `logs::words::add_long_word` meets its contract.
+-- `taking::add_long_word` meets its contract.
 use borrow.Author.Needs.{needs}
 use native.Mathlib.Omega.{arith}
-use Rattle.logs.specs.Takable.{takable-room}
+use Rattle.taking.specs.Takable.{takable-room}
 use Rattle.rows.specs.IndexLaws.{index-none}
-use Rattle.logs.proofs.words.add_long_word.Statement.{statement}
-use Rattle.logs.proofs.words.add_long_word.Tie as tie
+use Rattle.taking.proofs.add_long_word.Statement.{statement}
+use Rattle.taking.proofs.add_long_word.Tie as tie
 
 index-rows-requires : tie.Need-index-rows-requires
 index-rows-requires c κs =

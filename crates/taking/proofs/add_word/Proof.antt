@@ -1,4 +1,4 @@
--- `logs::words::add_word` meets its contract.
+-- `taking::add_word` meets its contract.
 use borrow.Author.Needs.{needs}
 use mathlib.Core.Path.{_≡_, refl, sym, ap, _∙_}
 use mathlib.Core.List.{List}
@@ -10,9 +10,9 @@ use denote.Ref.{now}
 use Rattle.rows.specs.Rows.{rowsOf, takeWord, none}
 use Rattle.rows.specs.Flat.{length-rows, held}
 use Rattle.rows.specs.Growth.{length-take}
-use Rattle.logs.specs.Numbering.{used, numbered-used, used-whole}
-use Rattle.logs.proofs.words.add_word.Statement.{statement}
-use Rattle.logs.proofs.words.add_word.Tie as tie
+use Rattle.taking.specs.Numbering.{used, numbered-used, used-whole}
+use Rattle.taking.proofs.add_word.Statement.{statement}
+use Rattle.taking.proofs.add_word.Tie as tie
 
 number-rows-requires : tie.Need-number-rows-requires
 number-rows-requires c κs = c .before .before .before .before .before .before .pre

@@ -1,4 +1,4 @@
--- `logs::words::number_rows` meets its contract.
+-- `taking::number_rows` meets its contract.
 use borrow.Author.Needs.{needs}
 use Prim.Native.Nat.{_-_, _<_}
 use mathlib.Core.Path.{_∙_}
@@ -6,10 +6,10 @@ use native.Mathlib.Omega.{arith}
 use lib.ListN.{length, getD}
 use Rattle.limits.specs.Limits.{MAX-EVENTS}
 use Rattle.rows.specs.Rows.{rowsOf}
-use Rattle.logs.specs.Takable.{takable-room}
-use Rattle.logs.specs.Noting.{Noting, noting-none, noting-again, noting-end}
-use Rattle.logs.proofs.words.number_rows.Statement.{statement}
-use Rattle.logs.proofs.words.number_rows.Tie as tie
+use Rattle.taking.specs.Takable.{takable-room}
+use Rattle.taking.specs.Noting.{Noting, noting-none, noting-again, noting-end}
+use Rattle.taking.proofs.number_rows.Statement.{statement}
+use Rattle.taking.proofs.number_rows.Tie as tie
 
 abbrev Inv-loop : tie.InvT-loop
 Inv-loop table rows word index numbers₀ counts₀ key₀ next₀ i₀ numbers counts key next i =

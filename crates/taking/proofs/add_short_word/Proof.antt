@@ -1,9 +1,9 @@
--- `logs::words::add_short_word` meets its contract.
+-- `taking::add_short_word` meets its contract.
 use borrow.Author.Needs.{needs}
 use native.Mathlib.Omega.{arith}
 use Rattle.rows.specs.IndexLaws.{index-short}
-use Rattle.logs.proofs.words.add_short_word.Statement.{statement}
-use Rattle.logs.proofs.words.add_short_word.Tie as tie
+use Rattle.taking.proofs.add_short_word.Statement.{statement}
+use Rattle.taking.proofs.add_short_word.Tie as tie
 
 add-word-requires : tie.Need-add-word-requires
 add-word-requires c κs =

@@ -15,9 +15,9 @@ ghost use Prim.Native.Nat.{_+_, _*_, _<_, _≤_};
 ghost use lib.ListN.{length, getD, set, take};
 ghost use Rattle.limits.specs.Limits.{MAX-EVENTS, MAX-ROWS};
 ghost use Rattle.rows.specs.Rows.{ROW, addEvent, findRow, rowsOf, visit, follow, absent, rowOr, newRows, numbered, takeWord, none, Holds, Added};
-ghost use Rattle.logs.specs.Numbering.{used, wholeRow};
+ghost use Rattle.taking.specs.Numbering.{used, wholeRow};
 ghost use Rattle.rows.specs.Index.{key as keyOf, Index};
-ghost use Rattle.logs.specs.Takable.{Takable};
+ghost use Rattle.taking.specs.Takable.{Takable};
 
 // 1 for one more, else 0.
 fn one_if(more: bool) -> u16

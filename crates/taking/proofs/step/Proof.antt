@@ -1,9 +1,9 @@
--- `logs::words::step` meets its contract.
+-- `taking::step` meets its contract.
 use borrow.Author.Needs.{needs}
 use native.Mathlib.Omega.{arith}
 use Rattle.rows.specs.Storing.{row-below, followed}
-use Rattle.logs.proofs.words.step.Statement.{statement}
-use Rattle.logs.proofs.words.step.Tie as tie
+use Rattle.taking.proofs.step.Statement.{statement}
+use Rattle.taking.proofs.step.Tie as tie
 
 mark-row-requires : tie.Need-mark-row-requires
 mark-row-requires c κs =

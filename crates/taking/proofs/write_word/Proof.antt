@@ -1,4 +1,4 @@
--- `logs::words::write_word` meets its contract.
+-- `taking::write_word` meets its contract.
 use borrow.Author.Needs.{needs}
 use Prim.Native.Nat.{_+_, _-_, _<_}
 use mathlib.Core.Path.{_≡_, sym, _∙_}
@@ -7,10 +7,10 @@ use lib.ListN.{length, getD, take}
 use lib.Seq.{getD-take}
 use Rattle.limits.specs.Limits.{MAX-EVENTS}
 use Rattle.rows.specs.Rows.{rowsOf, findRow, takeWord, none}
-use Rattle.logs.specs.Takable.{takable-room}
-use Rattle.logs.specs.Taking.{Taking, taking-none, taking-row, taking-room, taking-again, taking-end}
-use Rattle.logs.proofs.words.write_word.Statement.{statement}
-use Rattle.logs.proofs.words.write_word.Tie as tie
+use Rattle.taking.specs.Takable.{takable-room}
+use Rattle.taking.specs.Taking.{Taking, taking-none, taking-row, taking-room, taking-again, taking-end}
+use Rattle.taking.proofs.write_word.Statement.{statement}
+use Rattle.taking.proofs.write_word.Tie as tie
 
 abbrev Inv-loop : tie.InvT-loop
 Inv-loop table₀ rows word numbers counts₀ k₀ i₀ table counts k i =

@@ -16,11 +16,9 @@ use Rattle.laws.specs.Scans.{failing-most, failing-found, failing-past}
 use Rattle.limits.specs.Limits.{MAX-EVENTS}
 use Rattle.nets.specs.Events.{EventsBelow}
 use Rattle.nets.specs.Nets.{Counts, Word, counts}
-use Rattle.nets.specs.CountLaws.{counts-snoc}
 use Rattle.rows.specs.Rows.{Row, findRow, newRow, visit, follow, addEvent, takeWord, none, absent, rowOr, numbered}
 use Rattle.rows.specs.Visiting.{countsOf, length-same, find-same, visit-cases, length-visit, find-visit, counts-follow, length-follow}
-use Rattle.logs.specs.LogRows.{counts-none}
-use Rattle.rows.specs.Growth.{total, total-addEvent, differ, below-tail, length-addEvent}
+use Rattle.rows.specs.Growth.{counts-none, counts-more, total, total-addEvent, differ, below-tail, length-addEvent}
 
 -- the rows that taking a word uses, from the prefix with counts v on
 unfoldable pub used : List Row → Counts → Word → List ℕ
@@ -31,11 +29,6 @@ pub used-first : (rs : List Row) (v : Counts) (w : Word) → getD (used rs v w) 
 unfolding used
 used-first rs v [] = refl
 used-first rs v (e ∷ w) = refl
-
--- the counts of a word with an event more
-counts-more : (u : Word) (e : ℕ) → e < MAX-EVENTS → counts MAX-EVENTS (u ++ e ∷ []) ≡ addEvent (counts MAX-EVENTS u) e
-unfolding addEvent
-counts-more u e h = counts-snoc MAX-EVENTS u e h
 
 -- the last of them is the row of the whole word
 used-last : (rs : List Row) (u w : Word) → EventsBelow MAX-EVENTS w

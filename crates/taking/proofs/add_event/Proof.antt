@@ -1,13 +1,13 @@
--- `logs::words::add_event` meets its contract.
+-- `taking::add_event` meets its contract.
 use borrow.Author.Needs.{needs}
 use mathlib.Core.Path.{_≡_, _∙_}
 use Prim.Native.Nat.{_+_, _-_, _≤_}
 use native.Mathlib.Omega.{arith}
 use lib.ListN.{length, getD}
 use Rattle.limits.specs.Limits.{MAX-EVENTS}
-use Rattle.logs.specs.Prefixes.{adding, adding-none, adding-more, adding-fits, adding-end}
-use Rattle.logs.proofs.words.add_event.Statement.{statement}
-use Rattle.logs.proofs.words.add_event.Tie as tie
+use Rattle.taking.specs.Prefixes.{adding, adding-none, adding-more, adding-fits, adding-end}
+use Rattle.taking.proofs.add_event.Statement.{statement}
+use Rattle.taking.proofs.add_event.Tie as tie
 
 abbrev Inv-loop : tie.InvT-loop
 Inv-loop counts₀ e i₀ counts i = (i ≤ MAX-EVENTS) × (length counts ≡ length counts₀) × (counts ≡ adding counts₀ e i)
