@@ -8,7 +8,7 @@ use std::path::{Path, PathBuf};
 /// The public calls: the crate, the file in its `src`, and the function.
 const CALLS: [(&str, &str, &str); 21] = [
     ("block", "lib.rt", "open"),
-    ("block", "lib.rt", "seal"),
+    ("sealing", "lib.rt", "seal"),
     ("logs", "lib.rt", "fresh"),
     ("logs", "lib.rt", "take"),
     ("judging", "lib.rt", "judge"),
@@ -16,8 +16,8 @@ const CALLS: [(&str, &str, &str); 21] = [
     ("pruning", "lib.rt", "prune"),
     ("screening", "lib.rt", "screen"),
     ("screening", "lib.rt", "screen_joined"),
-    ("demands", "lib.rt", "run"),
-    ("demands", "lib.rt", "run_both"),
+    ("files", "lib.rt", "run"),
+    ("files", "lib.rt", "run_both"),
     ("judge", "main.rt", "judge_file"),
     ("abi", "hov_block.rt", "hov_open"),
     ("abi", "hov_block.rt", "hov_seal"),
