@@ -9,5 +9,4 @@ pub mod Causes
 pub mod OtherBlocks
 pub mod SumLaws
 pub mod Alterations
-pub mod Rooms
 pub mod Whole

@@ -7,8 +7,7 @@ use denote.Ref.{now}
 use lib.Seq.{length-take-le}
 use Rattle.limits.specs.Limits.{MAX-BUNDLE-SIZE}
 use Rattle.refusals.specs.Results.{Result, bind}
-use Rattle.block.specs.Rooms.{open-fitted}
-use Rattle.block.specs.Whole.{open-whole}
+use Rattle.block.specs.Whole.{open-fitted, open-whole}
 use Rattle.logs.specs.Answers.{TABLE}
 use Rattle.verdicts.specs.Judging.{judged, verdictOf}
 use Rattle.judging.specs.Files.{fileJudged, fileVerdict}
