@@ -88,10 +88,10 @@ extern "C" {
 #endif
 
 /** The version, as text and in its three numbers. */
-#define HOV_VERSION "0.8.2"
+#define HOV_VERSION "0.9.0"
 #define HOV_VERSION_MAJOR 0
-#define HOV_VERSION_MINOR 8
-#define HOV_VERSION_PATCH 2
+#define HOV_VERSION_MINOR 9
+#define HOV_VERSION_PATCH 0
 
 /** Bytes of a block. */
 #define HOV_BLOCK_SIZE 512
@@ -149,9 +149,8 @@ extern "C" {
  * The numbers of the refusals.
  *
  * Each comment gives the cause, the spot that answer[0] then holds, and what
- * stays as it was. hov_judge_file refuses as open, and then as judge. No refusal
- * writes to an input; none writes to an output, but for those of hov_judge_file
- * that come after opening. hov_prune leaves the table as judge does.
+ * stays as it was. No refusal writes to an input or to an output. hov_prune
+ * leaves the table as judge does.
  *
  * This is the whole table, so that a number keeps its meaning when calls are
  * added.
@@ -385,27 +384,6 @@ uint32_t hov_take(size_t n, size_t rows, size_t events,
 uint32_t hov_judge(const uint8_t *bundle, size_t bundle_len,
                    uint16_t *table, size_t table_len,
                    uint64_t answer[4]);
-
-/**
- * Judges a sealed file: opens it as hov_open does, with the bundle written to
- * the front of the output, then judges that bundle as hov_judge does. table_len
- * counts numbers, not bytes.
- *
- * Returns HOV_OK when the bundle is accepted, with its four counts in answer[0]
- * to answer[3] and the rows of its log in the table, as for hov_judge.
- *
- * Or returns the first refusal that applies, with its spot in answer[0];
- * answer[1] to answer[3] stay as they were. Those of hov_open come first, in its
- * order, and leave the output and the table as they were. Then those of
- * hov_judge come in its order, and leave the table as it does; the bundle stays in
- * front of the output.
- *
- * An output of HOV_MAX_BUNDLE_SIZE bytes is long enough for every file.
- */
-uint32_t hov_judge_file(const uint8_t *file, size_t file_len,
-                        uint8_t *output, size_t output_len,
-                        uint16_t *table, size_t table_len,
-                        uint64_t answer[4]);
 
 /**
  * Prunes a bundle: judges it as hov_judge does and, when it is accepted, writes it

@@ -2,10 +2,7 @@
 use numbers::verdict::handed;
 ghost use mathlib.Core.Path.{_≡_};
 ghost use lib.ListN.{length};
-ghost use Rattle.refusals.specs.Answers.{fitted, written};
-ghost use Rattle.block.specs.File.{opened};
 ghost use Rattle.verdicts.specs.Judging.{verdict, verdictNumber, tableAfter};
-ghost use Rattle.judging.specs.Files.{fileVerdict, fileTable};
 ghost use Rattle.numbers.specs.Numbers.{withVerdict};
 
 // Judges a bundle. answer[0] to [3]: the rows, the allowed steps, and the certificates of kind 0 and of kind 1.
@@ -16,20 +13,4 @@ pub extern "C" fn hov_judge(bundle: &[u8], table: &mut [u16], answer: &mut [u64;
     ensures { λ _. ⌜ now (answer .exit) ≡ withVerdict (now (answer .entry)) (verdict (length (now (table .entry))) (now (bundle .entry))) ⌝ }
 {
     handed(judging::judge(bundle, table), answer)
-}
-
-// Judges a sealed file, whose bundle is then in front of the output. answer[0] to [3]: as for hov_judge.
-#[no_mangle]
-pub extern "C" fn hov_judge_file(
-    file: &[u8],
-    output: &mut [u8],
-    table: &mut [u16],
-    answer: &mut [u64; 4],
-) -> u32
-    ensures { λ r. ⌜ r ≡ verdictNumber (fileVerdict (now (file .entry)) (length (now (output .entry))) (length (now (table .entry)))) ⌝ }
-    ensures { λ _. ⌜ now (output .exit) ≡ written (opened (now (file .entry))) (now (output .entry)) ⌝ }
-    ensures { λ _. ⌜ now (table .exit) ≡ fileTable (fitted (opened (now (file .entry))) (length (now (output .entry)))) (now (table .entry)) ⌝ }
-    ensures { λ _. ⌜ now (answer .exit) ≡ withVerdict (now (answer .entry)) (fileVerdict (now (file .entry)) (length (now (output .entry))) (length (now (table .entry)))) ⌝ }
-{
-    handed(judging::judge_file(file, output, table), answer)
 }

@@ -1,5 +1,5 @@
 -- Samples of opening, sealing and the log table for the definitions: what is computed, with what is expected.
-use mathlib.Core.Path.{_≡_, refl, ap, _∙_}
+use mathlib.Core.Path.{_≡_, refl, ap}
 use mathlib.Core.Bool.{true}
 use mathlib.Core.List.{List, [], _∷_, _++_}
 use Prim.Native.Nat.{ℕ}
@@ -14,7 +14,7 @@ use Rattle.laws.specs.Sums.{weighted}
 use Rattle.laws.specs.Bits.{withBit}
 use Rattle.limits.specs.Limits.{rightSize}
 use Rattle.refusals.specs.Results.{Result, value, refused, bind, require}
-use Rattle.refusals.specs.Answers.{refusal, fitted}
+use Rattle.refusals.specs.Answers.{fitted}
 use Rattle.nets.specs.Nets.{Word}
 use Rattle.nets.specs.Events.{firstBad}
 use Rattle.sums.specs.Checksums.{plainSum, positionSum}
@@ -25,12 +25,9 @@ use Rattle.logs.specs.Answers.{TABLE, rightEventCount, rightSummary, takenOf, l
 use Rattle.logs.specs.declared.Summary.{Summary}
 use Rattle.logs.specs.declared.Taken.{Taken}
 use Rattle.logs.specs.declared.Taken.the-variants as taking
-use Rattle.verdicts.specs.Judging.{judged, verdictOf, verdict}
-use Rattle.verdicts.specs.declared.Verdict.the-variants as judging
-use Rattle.judging.specs.Files.{fileJudged, fileVerdict}
 use Rattle.demands.specs.BlockOrder.{withoutBlock, withBlockTwice}
 use Rattle.demands.specs.Alterations.{swapped, ThreeUncaught}
-use Rattle.demands.specs.Samples.{bytesA, countsA, computed}
+use Rattle.demands.specs.Samples.{bytesA}
 
 -- 0 and the bytes, or the refusal's number and spot
 ofResult : Result (List ℕ) → List ℕ
@@ -91,6 +88,11 @@ callSamples =
     ∷ (ofResult (sealed []), 4 ∷ 0 ∷ [])
     ∷ (ofResult (opened []), 1 ∷ 0 ∷ [])
     ∷ (ofResult (opened (take 511 fileA)), 1 ∷ 0 ∷ [])
+    -- into outputs: as long as the result, and a byte shorter, with 3 and the length needed
+    ∷ (ofResult (fitted (opened fileA) 53), 0 ∷ bytesA)
+    ∷ (ofResult (fitted (opened fileA) 52), 3 ∷ 53 ∷ [])
+    ∷ (ofResult (fitted (sealed bytesA) 512), 0 ∷ fileA)
+    ∷ (ofResult (fitted (sealed bytesA) 511), 3 ∷ 512 ∷ [])
     -- each fault of a block alone: its number; no byte used, a last block in the middle; its sums
     ∷ (ofResult (opened (block 1 bytesA)), 17 ∷ 0 ∷ [])
     ∷ (ofResult (opened (replicate 512 0)), 18 ∷ 0 ∷ [])
@@ -132,7 +134,7 @@ callSamples =
     ∷ []
 
 pub call-samples-hold : all (λ c. equal (c .0) (c .1)) callSamples ≡ true
-unfolding callSamples ofResult ofTaken bytesA fileA fileTwo sevens zeros rows001 twins twins0 tableAfter all any equal numberAt joined firstFalse firstFailing weighted withBit rightSize bind require firstBad plainSum positionSum padded summedBytes withSums block usedCount usedContents rightNumber rightCount rightPadding rightUse rightSums fault blockCount blockAt faultAt firstFaulty firstFault contentsAt bundleOf rightLength opened partAt sealedBlockAt blocksFor sealedFile sealed rowAt numbers rowsOf flat findRow present visit updateAt follow addEvent takeWord rightEventCount rightSummary takenOf logStarted freshAnswer wordTaken takenAnswer takenTable
+unfolding callSamples ofResult ofTaken fitted bytesA fileA fileTwo sevens zeros rows001 twins twins0 tableAfter all any equal numberAt joined firstFalse firstFailing weighted withBit rightSize bind require firstBad plainSum positionSum padded summedBytes withSums block usedCount usedContents rightNumber rightCount rightPadding rightUse rightSums fault blockCount blockAt faultAt firstFaulty firstFault contentsAt bundleOf rightLength opened partAt sealedBlockAt blocksFor sealedFile sealed rowAt numbers rowsOf flat findRow present visit updateAt follow addEvent takeWord rightEventCount rightSummary takenOf logStarted freshAnswer wordTaken takenAnswer takenTable
 call-samples-hold = refl
 
 -- the bundle of case A: its first three bytes, 2 2 1, are now 3 0 2. Neither sum changes
@@ -151,20 +153,3 @@ three-uncaught = record {
   opens = refl;
   differs = λ e. let first : _≡_ {A = ℕ} 3 2 = ap (λ (l : List ℕ). getD l 0 0) e in omega (arith, first);
 }
-
--- judging a file: A, sealed, into an output as long as the bundle, and into one that is a byte shorter
-fitsA : fitted (opened fileA) 53 ≡ value bytesA
-unfolding fitted bytesA fileA all equal numberAt joined firstFalse weighted bind require plainSum positionSum usedCount usedContents rightNumber rightCount rightPadding rightUse rightSums fault blockCount blockAt faultAt firstFaulty firstFault contentsAt bundleOf rightLength opened
-fitsA = refl
-
-pub judge-file-sample : fileVerdict fileA 53 TABLE ≡ judging.Accepted countsA
-unfolding fileVerdict fileJudged bind verdict
-judge-file-sample = ap (λ (m : Result (List ℕ)). verdictOf (bind m (λ b. judged TABLE b 0))) fitsA ∙ computed .acceptedA
-
-shortA : fitted (opened fileA) 52 ≡ refused 3 53
-unfolding fitted bytesA fileA all equal numberAt joined firstFalse weighted bind require plainSum positionSum usedCount usedContents rightNumber rightCount rightPadding rightUse rightSums fault blockCount blockAt faultAt firstFaulty firstFault contentsAt bundleOf rightLength opened
-shortA = refl
-
-pub judge-file-short-sample : fileVerdict fileA 52 TABLE ≡ judging.Refused (refusal 3 53)
-unfolding fileVerdict fileJudged bind verdictOf
-judge-file-short-sample = ap (λ (m : Result (List ℕ)). verdictOf (bind m (λ b. judged TABLE b 0))) shortA

@@ -17,7 +17,7 @@ use Rattle.laws.specs.Numbers.{Bytes}
 use Rattle.laws.specs.Parts.{front}
 use Rattle.limits.specs.Limits.{MAX-PLACES, MAX-TERMS}
 use Rattle.refusals.specs.Results.{Result, value}
-use Rattle.refusals.specs.Answers.{fitted, answer, written, numberOf}
+use Rattle.refusals.specs.Answers.{answer, written, numberOf}
 use Rattle.refusals.specs.Laws.{Ends}
 use Rattle.refusals.specs.declared.Refusal.{Refusal}
 use Rattle.refusals.specs.declared.Written.the-variants as writing
@@ -39,7 +39,6 @@ use Rattle.verdicts.specs.Judging.{verdict, verdictNumber, tableAfter}
 use Rattle.verdicts.specs.Acceptance.{AcceptedAs}
 use Rattle.verdicts.specs.declared.Tally.{Tally}
 use Rattle.verdicts.specs.declared.Verdict.the-variants as judging
-use Rattle.judging.specs.Files.{fileVerdict, fileTable}
 use Rattle.screening.specs.Screening.{screened, screenedJoined, screenedNumber}
 use Rattle.screening.specs.Screens.{Readable, Screenable}
 use Rattle.screening.specs.Joins.{JoinReadable}
@@ -80,16 +79,17 @@ pub record Demand1 : Type 0 where
   pub refusals-of-take : (s : Summary) (table : List ℕ) (w : Word) → among (takenNumber (takenAnswer s table w)) (0 ∷ 5 ∷ 16 ∷ 8 ∷ 7 ∷ 9 ∷ []) ≡ true
   pub refusals-of-judge : (tableSize : ℕ) (b : List ℕ)
       → among (verdictNumber (verdict tableSize b)) (0 ∷ 4 ∷ 5 ∷ 6 ∷ 7 ∷ 8 ∷ 9 ∷ 10 ∷ 11 ∷ 12 ∷ 13 ∷ []) ≡ true
-  pub refusals-of-judge-file : (file : List ℕ) (room tableSize : ℕ)
-      → among (verdictNumber (fileVerdict file room tableSize)) (0 ∷ 1 ∷ 17 ∷ 18 ∷ 2 ∷ 3 ∷ 4 ∷ 5 ∷ 6 ∷ 7 ∷ 8 ∷ 9 ∷ 10 ∷ 11 ∷ 12 ∷ 13 ∷ []) ≡ true
   pub refusals-of-screen : (b : List ℕ) (w : Word) → among (screenedNumber (screened b w)) (0 ∷ 256 ∷ 14 ∷ 4 ∷ 6 ∷ 7 ∷ 8 ∷ 15 ∷ []) ≡ true
   pub refusals-of-join : (first second : List ℕ) (w : Word)
       → among (screenedNumber (screenedJoined first second w)) (0 ∷ 256 ∷ 14 ∷ 4 ∷ 6 ∷ 7 ∷ 8 ∷ 19 ∷ 15 ∷ []) ≡ true
   pub refusals-of-prune : (tableSize : ℕ) (b : List ℕ) (room : ℕ)
       → among (numberOf (answer (pruning tableSize b) room)) (0 ∷ 4 ∷ 5 ∷ 6 ∷ 7 ∷ 8 ∷ 9 ∷ 10 ∷ 11 ∷ 12 ∷ 13 ∷ 3 ∷ []) ≡ true
-  -- no refusal of opening, sealing or pruning writes to an output; a result stands in front of it, and the rest is left
+  -- 'No refusal writes to an output': one line for all calls that are lent one. These are open, seal and prune: each answers
+  -- `answer result (length output)` and leaves `written result output`, where the result is `opened file`, `sealed b` or `pruning (length table) b`.
+  -- (`run` and `run_both` of crates/files lend theirs to open, and hand its answer on.)
   pub refused-output : (result : Result (List ℕ)) (output : List ℕ) (r : Refusal) → answer result (length output) ≡ writing.Refused r
       → written result output ≡ output
+  -- a result stands in front of the output, and the rest is left
   pub result-output : (result : Result (List ℕ)) (output : List ℕ) (n : ℕ) → answer result (length output) ≡ writing.Length n
       → (new : List ℕ) × (result ≡ value new) × (n ≡ length new) × (written result output ≡ front new output)
   pub result-rest : (result : Result (List ℕ)) (output : List ℕ) (n : ℕ) → answer result (length output) ≡ writing.Length n
@@ -120,13 +120,6 @@ pub record Demand1 : Type 0 where
       → tableAfter b table ≡ withRows (logRows (logIn b)) (cleared TABLE table)
   pub accepted-numbers : (table b : List ℕ) → Bytes b → (c : Tally) → verdict (length table) b ≡ judging.Accepted c
       → LogLeft (eventsIn b) (logIn b) table (tableAfter b table)
-  -- judging a file leaves the output as opening does, `written (opened file) output`. Of one that does not open into it the answer is opening's
-  -- refusal, and the table is left; of one that opens it is the verdict on the bundle in front of the output, and the table is left as by the judge
-  pub file-refused : (file output table : List ℕ) (r : Refusal) → answer (opened file) (length output) ≡ writing.Refused r
-      → (fileVerdict file (length output) (length table) ≡ judging.Refused r) × (fileTable (fitted (opened file) (length output)) table ≡ table)
-  pub file-opened : (file output table : List ℕ) (n : ℕ) → answer (opened file) (length output) ≡ writing.Length n
-      → (fileVerdict file (length output) (length table) ≡ verdict (length table) (take n (written (opened file) output)))
-      × (fileTable (fitted (opened file) (length output)) table ≡ tableAfter (take n (written (opened file) output)) table)
 
 -- ---- DEMAND 2: 'With long enough buffers lent, a bundle is accepted exactly when it keeps the layout and limits and, by the region
 -- definitions of Badouel and Schlachter, its net permits every log word and each wrong continuation is refused by the place its

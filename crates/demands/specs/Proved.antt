@@ -19,7 +19,6 @@ use Rattle.verdicts.specs.Acceptance.{accepted-exactly}
 use Rattle.verdicts.specs.RefusalNumbers.{judge-numbers, refused-judge}
 use Rattle.verdicts.specs.Judging.{verdictNumber}
 use Rattle.verdicts.specs.declared.Tally.{Tally}
-use Rattle.judging.specs.Files.{judge-file-numbers, file-refused, file-opened}
 use Rattle.screening.specs.Screening.{screenedNumber}
 use Rattle.screening.specs.RefusalNumbers.{screen-numbers, join-numbers}
 use Rattle.screening.specs.Screens.{permitted-exactly, stopped-exactly, readable-exactly, screenable-head, replay-permits, replay-stops}
@@ -50,7 +49,6 @@ demand-1 = record {
   refusals-of-fresh = fresh-numbers;
   refusals-of-take = take-numbers;
   refusals-of-judge = judge-numbers;
-  refusals-of-judge-file = judge-file-numbers;
   refusals-of-screen = screen-numbers;
   refusals-of-join = join-numbers;
   refusals-of-prune = prune-numbers;
@@ -68,8 +66,6 @@ demand-1 = record {
   refused-judge = refused-judge;
   accepted-judge = λ table b bytes c e. table-left b bytes (length table) c e table refl;
   accepted-numbers = λ table b bytes c e. numbers-left b bytes (length table) c e table refl;
-  file-refused = file-refused;
-  file-opened = file-opened;
 }
 
 pub demand-2 : Demand2

@@ -1,4 +1,4 @@
--- The verdict on a sealed file, with an output for every bundle and a whole table.
+-- The verdict on a sealed file, with room for every bundle and a whole table.
 use mathlib.Core.List.{List}
 use Prim.Native.Nat.{ℕ}
 use Rattle.refusals.specs.Results.{_>>=_}

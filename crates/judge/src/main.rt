@@ -48,7 +48,7 @@ fn judge_file(buffer: &[u8], n: usize) -> Verdict
 {
     let mut bundle = [0u8; MAX_BUNDLE_SIZE];
     let mut table = [0u16; TABLE];
-    judging::judge_file(&buffer[..n], &mut bundle, &mut table)
+    judging::files::judge_file(&buffer[..n], &mut bundle, &mut table)
 }
 
 // Writes the line that the program owes the sealed file that came to a buffer, its first n bytes, in front of the output. Its length.

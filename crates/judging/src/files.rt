@@ -8,15 +8,16 @@ ghost use Rattle.refusals.specs.Answers.{fitted, written};
 ghost use Rattle.block.specs.File.{opened};
 ghost use Rattle.judging.specs.Files.{fileVerdict, fileTable};
 
-// The verdict on a sealed file: opens it into the output, then judges the bundle in front of the output with the table.
-// Refuses with 1, then 17, 18 or 2, then 3, and then both stay as they were; then with 4 to 13 as `judge`, and the bundle stays in front of the output.
-pub fn judge_file(file: &[u8], output: &mut [u8], table: &mut [u16]) -> Verdict
-    ensures { λ r. ⌜ r ≡ fileVerdict (now (file .entry)) (length (now (output .entry))) (length (now (table .entry))) ⌝ }
-    ensures { λ _. ⌜ now (output .exit) ≡ written (opened (now (file .entry))) (now (output .entry)) ⌝ }
-    ensures { λ _. ⌜ now (table .exit) ≡ fileTable (fitted (opened (now (file .entry))) (length (now (output .entry)))) (now (table .entry)) ⌝ }
+// The verdict on a sealed file, whose bundle stands in front of the room afterwards, accepted or not. Inner function, of the program: the room is
+// its own, and no output.
+// Refuses with 1, then 17, 18 or 2, then 3, and room and table stay as they were; then as `judge`.
+pub fn judge_file(file: &[u8], room: &mut [u8], table: &mut [u16]) -> Verdict
+    ensures { λ r. ⌜ r ≡ fileVerdict (now (file .entry)) (length (now (room .entry))) (length (now (table .entry))) ⌝ }
+    ensures { λ _. ⌜ now (room .exit) ≡ written (opened (now (file .entry))) (now (room .entry)) ⌝ }
+    ensures { λ _. ⌜ now (table .exit) ≡ fileTable (fitted (opened (now (file .entry))) (length (now (room .entry)))) (now (table .entry)) ⌝ }
 {
-    match block::open(file, output) {
+    match block::open(file, room) {
         Written::Refused(refusal) => Verdict::Refused(refusal),
-        Written::Length(size) => judge(&output[..size], table),
+        Written::Length(size) => judge(&room[..size], table),
     }
 }

@@ -1,9 +1,8 @@
 // Judging a bundle. The contracts cite crate verdicts' definitions.
-pub mod files; // judging a sealed file
+pub mod files; // judging a sealed file: an inner function
 
 use certificates::Certified;
 use certificates::certify;
-pub use files::judge_file;
 use fitting::first_misfit;
 use heads::HeadTaken;
 use heads::TakenHead;

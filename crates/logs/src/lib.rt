@@ -1,4 +1,4 @@
-// The log table and its summary: taking a log word by word. The contracts cite specs/Rows.antt and specs/Answers.antt.
+// The log table and its summary: taking a log word by word. The contracts cite specs/Answers.antt, and specs/Rows.antt of `rows`.
 use limits::MAX_EVENTS;
 use limits::MAX_LOG_EVENTS;
 use limits::MAX_ROWS;

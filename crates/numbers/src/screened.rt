@@ -4,7 +4,7 @@ ghost use mathlib.Core.Path.{_≡_};
 ghost use Rattle.screening.specs.Screening.{screenedNumber};
 ghost use Rattle.numbers.specs.Numbers.{withScreened};
 
-// Hands the answer of screening out as numbers.
+// Hands the answer of screening out as numbers. Inner function.
 pub fn handed(screened: Screened, answer: &mut [u64; 4]) -> u32
     ensures { λ r. ⌜ r ≡ screenedNumber screened ⌝ }
     ensures { λ _. ⌜ now (answer .exit) ≡ withScreened (now (answer .entry)) screened ⌝ }

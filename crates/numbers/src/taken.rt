@@ -4,7 +4,7 @@ ghost use mathlib.Core.Path.{_≡_};
 ghost use Rattle.logs.specs.Answers.{takenNumber};
 ghost use Rattle.numbers.specs.Numbers.{withTaken};
 
-// Hands an answer on a log out as numbers.
+// Hands an answer on a log out as numbers. Inner function.
 pub fn handed(taken: Taken, answer: &mut [u64; 4]) -> u32
     ensures { λ r. ⌜ r ≡ takenNumber taken ⌝ }
     ensures { λ _. ⌜ now (answer .exit) ≡ withTaken (now (answer .entry)) taken ⌝ }

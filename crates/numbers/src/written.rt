@@ -4,7 +4,7 @@ ghost use mathlib.Core.Path.{_≡_};
 ghost use Rattle.refusals.specs.Answers.{numberOf};
 ghost use Rattle.numbers.specs.Numbers.{withValue};
 
-// Hands an answer out as numbers.
+// Hands an answer out as numbers. Inner function.
 pub fn handed(written: Written, answer: &mut [u64; 4]) -> u32
     ensures { λ r. ⌜ r ≡ numberOf written ⌝ }
     ensures { λ _. ⌜ now (answer .exit) ≡ withValue (now (answer .entry)) written ⌝ }

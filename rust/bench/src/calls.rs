@@ -1,13 +1,11 @@
 //! The calls that are timed, but for those of [`crate::pruning`] and [`crate::words`]. A
-//! further one is a further entry in [`on_files`], [`on_logs`], [`on_bundles`] or
-//! [`on_sealed_bundles`].
+//! further one is a further entry in [`on_files`], [`on_logs`] or [`on_bundles`].
 
 use differential::bundles::SAMPLE_A;
 use differential::limits::{Size, LARGEST, MIDDLE};
 use differential::rng::Rng;
 use hovmekhar::{
-    Summary, CONTENTS_SIZE, MAX_BLOCKS, MAX_BUNDLE_SIZE, MAX_FILE_SIZE, MAX_LOG_EVENTS, MAX_ROWS,
-    TABLE_SIZE,
+    Summary, CONTENTS_SIZE, MAX_BLOCKS, MAX_FILE_SIZE, MAX_LOG_EVENTS, MAX_ROWS, TABLE_SIZE,
 };
 use std::hint::black_box;
 
@@ -114,26 +112,6 @@ pub fn on_bundles() -> Vec<Call<Vec<u8>, u16>> {
             prepare: || with_table(bundle_of(LARGEST)),
             ours: judge_ours,
             reference: judge_reference,
-        },
-    ]
-}
-
-/// Judging of sealed files whose bundles are accepted.
-pub fn on_sealed_bundles() -> Vec<Call<Sealed, u16>> {
-    vec![
-        Call {
-            name: "judge file",
-            size: "1 block, 5 rows",
-            prepare: || with_table(sealed(&SAMPLE_A)),
-            ours: judge_file_ours,
-            reference: judge_file_reference,
-        },
-        Call {
-            name: "judge file",
-            size: "128 blocks, 256 rows",
-            prepare: || with_table(sealed(&bundle_of(LARGEST))),
-            ours: judge_file_ours,
-            reference: judge_file_reference,
         },
     ]
 }
@@ -263,33 +241,4 @@ fn judge_reference(buffers: &mut Buffers<Vec<u8>, u16>) -> Option<usize> {
 /// A bundle of this size, the same in every run.
 fn bundle_of(size: Size) -> Vec<u8> {
     size.certified(&mut Rng::new(0)).bundle.bytes()
-}
-
-/// A sealed file, and an output for its bundle.
-pub struct Sealed {
-    file: Vec<u8>,
-    bundle: Vec<u8>,
-}
-
-/// The sealed file of a bundle, and an output that is long enough for every file.
-fn sealed(bundle: &[u8]) -> Sealed {
-    Sealed {
-        file: hovmekhar::seal_vec(bundle).expect("the bundle has an allowed length"),
-        bundle: vec![0; MAX_BUNDLE_SIZE],
-    }
-}
-
-/// Opens and judges, and returns the sum of the counts.
-fn judge_file_ours(buffers: &mut Buffers<Sealed, u16>) -> Option<usize> {
-    let Sealed { file, bundle } = &mut buffers.input;
-    let table = black_box(&mut buffers.output);
-    let counts = hovmekhar::judge_file(black_box(file), black_box(bundle), table).ok()?;
-    Some(counts.rows + counts.allowed + counts.by_place + counts.by_weights)
-}
-
-fn judge_file_reference(buffers: &mut Buffers<Sealed, u16>) -> Option<usize> {
-    let Sealed { file, bundle } = &mut buffers.input;
-    let table = black_box(&mut buffers.output);
-    let counts = reference::judge_file(black_box(file), black_box(bundle), table).ok()?;
-    Some(counts.rows + counts.allowed + counts.by_place + counts.by_weights)
 }

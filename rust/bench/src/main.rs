@@ -39,9 +39,6 @@ fn main() {
     for call in calls::on_bundles() {
         print(&call);
     }
-    for call in calls::on_sealed_bundles() {
-        print(&call);
-    }
     for call in pruning::on_bundles() {
         print(&call);
     }

@@ -3,7 +3,7 @@
 use crate::names::shown;
 use crate::output::{self, Trouble};
 use crate::{files, Status};
-use hovmekhar::{Refusal, Tally, MAX_BUNDLE_SIZE, MAX_FILE_SIZE, TABLE_SIZE};
+use hovmekhar::{Refusal, Tally, MAX_FILE_SIZE};
 use std::collections::BTreeMap;
 use std::ffi::{OsStr, OsString};
 use std::sync::atomic::{AtomicUsize, Ordering};
@@ -51,43 +51,22 @@ fn worker_count(files: usize) -> usize {
 /// Judges one file after the other that no other worker has taken, until there is
 /// none or nobody prints any more.
 fn work(names: &[OsString], next: &AtomicUsize, sender: Sender<Judged>) {
-    let mut buffers = Buffers::new();
+    let mut buffer = Vec::with_capacity(MAX_FILE_SIZE + 1);
     loop {
         let number = next.fetch_add(1, Ordering::Relaxed);
         let Some(name) = names.get(number) else {
             return;
         };
-        if sender.send((number, buffers.judge(name))).is_err() {
+        if sender.send((number, judge_one(name, &mut buffer))).is_err() {
             return;
         }
     }
 }
 
-/// What a worker lends to the library, for one file after the other.
-struct Buffers {
-    file: Vec<u8>,
-    bundle: Vec<u8>,
-    table: Vec<u16>,
-}
-
-impl Buffers {
-    fn new() -> Self {
-        Self {
-            file: Vec::with_capacity(MAX_FILE_SIZE + 1),
-            bundle: vec![0; MAX_BUNDLE_SIZE],
-            table: vec![0; TABLE_SIZE],
-        }
-    }
-
-    fn judge(&mut self, name: &OsStr) -> Result<Verdict, Trouble> {
-        files::read_into(name, MAX_FILE_SIZE + 1, &mut self.file)?;
-        let Self {
-            file,
-            bundle,
-            table,
-        } = self;
-        Ok(hovmekhar::judge_file(file, bundle, table))
-    }
+/// Judges one file, read in place of what the buffer held.
+fn judge_one(name: &OsStr, buffer: &mut Vec<u8>) -> Result<Verdict, Trouble> {
+    files::read_into(name, MAX_FILE_SIZE + 1, buffer)?;
+    Ok(hovmekhar::judge_file_vec(buffer).map(|judged| judged.tally))
 }
 
 /// Prints each line as soon as it and all before it are there.

@@ -9,19 +9,12 @@ use differential::bundle_faults::{altered, BundleFault};
 use differential::bundles::Field;
 use differential::faults::{BlockFault, LengthFault};
 use differential::files::{build, Filling, BLOCK, MAX_BUNDLE_SIZE};
+use differential::judging::reference_verdict;
 use differential::limits::{LARGEST, MIDDLE, MOST_WORDS};
-use differential::logs::TABLE;
 use differential::nets::{small_certified, Certified};
 use differential::rng::Rng;
-use differential::run::{Outcome, Run};
+use differential::run::Run;
 use reference::{log_rows, Refusal, Tally};
-
-/// What the reference says to a file.
-fn reference_verdict(file: &[u8]) -> Outcome<Tally> {
-    let mut bundle = vec![0; MAX_BUNDLE_SIZE];
-    let mut table = vec![0; TABLE];
-    reference::judge_file(file, &mut bundle, &mut table)
-}
 
 /// Looks at a file: the verdict is the reference's, and it is explained. Returns the
 /// lines of its page, with the refusal if there is one.

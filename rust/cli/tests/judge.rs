@@ -4,9 +4,9 @@ mod support;
 
 use differential::bundle_faults::{altered, BundleFault};
 use differential::faults::{BlockFault, LengthFault};
-use differential::files::{build, MAX_BUNDLE_SIZE};
+use differential::files::build;
+use differential::judging::reference_verdict;
 use differential::limits::LARGEST;
-use differential::logs::TABLE;
 use differential::nets::small_certified;
 use differential::rng::Rng;
 use differential::run::Run;
@@ -71,9 +71,7 @@ fn any_file(run: &mut Run, case: usize) -> Vec<u8> {
 
 /// The line for a file of this name, by the reference.
 fn line(run: &mut Run, file: &[u8], name: &str) -> String {
-    let mut bundle = vec![0; MAX_BUNDLE_SIZE];
-    let mut table = vec![0; TABLE];
-    match reference::judge_file(file, &mut bundle, &mut table) {
+    match reference_verdict(file) {
         Ok(Tally {
             rows,
             allowed,

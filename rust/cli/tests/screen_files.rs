@@ -9,7 +9,7 @@ use differential::files::{build, MAX_BUNDLE_SIZE};
 use differential::rng::Rng;
 use differential::run::{Outcome, Run};
 use differential::screening::{any_net, MAX_WORD_EVENTS};
-use differential::vectors;
+use differential::vectors::{Argument, Cases};
 use reference::Screened;
 use std::fs;
 use std::path::{Path, PathBuf};
@@ -144,12 +144,18 @@ fn generated_faults() {
 fn cases_with_answers() {
     let place = Place::new("screen_cases_with_answers");
     let data = Path::new(env!("CARGO_MANIFEST_DIR")).join("../differential/tests/data/07.txt");
-    let cases = vectors::read(&fs::read_to_string(data).expect("the cases")).screen;
-    assert_eq!(cases.len(), 80);
-    for case in cases {
-        let done = place.screen(&build(&case.bundle), &case.word);
+    let cases = Cases::read(&fs::read_to_string(data).expect("the cases"));
+    let mut screened = 0;
+    for case in cases.of("screen") {
+        let [bundle, word] = case.arguments().map(Argument::bytes);
+        if bundle.is_empty() || bundle.len() > MAX_BUNDLE_SIZE {
+            continue; // No sealed file has such a bundle.
+        }
+        let done = place.screen(&build(&bundle), &word);
         let answer = done.output.split([':', '\n']).next().unwrap_or_default();
         let verdict = answer.strip_suffix(" file").unwrap_or(answer);
-        assert_eq!(verdict, case.line, "{done:?}");
+        assert_eq!(verdict, case.answer, "{done:?}");
+        screened += 1;
     }
+    assert_eq!(screened, 75);
 }

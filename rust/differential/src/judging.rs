@@ -32,6 +32,13 @@ pub fn judge(run: &mut Run, bundle: &[u8]) -> Outcome<Tally> {
     outcome
 }
 
+/// What the reference says to a sealed file: it is opened, then its bundle judged.
+pub fn reference_verdict(file: &[u8]) -> Outcome<Tally> {
+    let mut bundle = vec![0; MAX_BUNDLE_SIZE];
+    let length = reference::open(file, &mut bundle)?;
+    reference::judge(&bundle[..length], &mut [0; TABLE])
+}
+
 /// Reads a whole bundle. Gives back the counts and the table.
 fn accepted(fields: &mut Fields) -> Outcome<(Tally, Vec<u16>)> {
     let n = fields.within(1, 1, 12)?;

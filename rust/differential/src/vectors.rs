@@ -1,130 +1,144 @@
 //! Cases with their answers, from a file.
 //!
-//! A line is `judge FILE = ANSWER`, `prune BUNDLE = ANSWER`, `screen BUNDLE WORD = ANSWER`,
-//! `screen_joined FIRST SECOND WORD = ANSWER` or `log N WORD.. = ANSWER`, with bytes in
-//! hexadecimal, or a comment that starts with `#`. No bytes are written as `-`.
+//! A line is `CALL ARGUMENT.. = ANSWER`, or a comment that starts with `#`. Bytes are in
+//! hexadecimal, no bytes are `-`; many bytes are parts joined by `.`, of which
+//! `HEXxCOUNT` is a part that is repeated.
 
+use crate::logs::{ROW, TABLE};
 use crate::run::Outcome;
 use reference::{Refusal, Screened, Tally};
+use std::collections::BTreeMap;
 
-/// A sealed file, and the line that the program prints for it.
+/// What each number and each byte of lent memory is before a call.
+pub const LENT: u8 = 7;
+
+/// The most rows of a table that a file lists number by number.
+const MOST_LISTED: usize = 20;
+
+/// A call by its name, with what it is given and what it has to answer.
 #[derive(Clone, Debug, PartialEq, Eq)]
-pub struct JudgeCase {
-    /// The sealed file.
-    pub file: Vec<u8>,
-    /// The line, without its end.
-    pub line: String,
+pub struct Case {
+    call: String,
+    arguments: Vec<String>,
+    /// The answer in words, its bytes without parts.
+    pub answer: String,
 }
 
-/// A bundle, and the answer of pruning in words.
-#[derive(Clone, Debug, PartialEq, Eq)]
-pub struct PruneCase {
-    /// The bundle.
-    pub bundle: Vec<u8>,
-    /// The answer.
-    pub line: String,
-}
-
-/// A bundle and a word, and the answer in words.
-#[derive(Clone, Debug, PartialEq, Eq)]
-pub struct ScreenCase {
-    /// The bundle.
-    pub bundle: Vec<u8>,
-    /// The word.
-    pub word: Vec<u8>,
-    /// The answer.
-    pub line: String,
-}
-
-/// Two bundles and a word, and the answer in words.
-#[derive(Clone, Debug, PartialEq, Eq)]
-pub struct JoinedCase {
-    /// The bundle whose places stand in front.
-    pub first: Vec<u8>,
-    /// The other bundle.
-    pub second: Vec<u8>,
-    /// The word.
-    pub word: Vec<u8>,
-    /// The answer.
-    pub line: String,
-}
-
-/// The words of a log over `n` events, and what they leave in a fresh table.
-#[derive(Clone, Debug, PartialEq, Eq)]
-pub struct LogCase {
-    /// The event count.
-    pub n: usize,
-    /// The words.
-    pub words: Vec<Vec<u8>>,
-    /// The number of rows, and then the numbers of each row in turn.
-    pub line: String,
-}
-
-/// The cases of a file.
-#[derive(Clone, Debug, Default, PartialEq, Eq)]
-pub struct Cases {
-    /// Those for judging.
-    pub judge: Vec<JudgeCase>,
-    /// Those for pruning.
-    pub prune: Vec<PruneCase>,
-    /// Those for screening.
-    pub screen: Vec<ScreenCase>,
-    /// Those for screening with two nets.
-    pub screen_joined: Vec<JoinedCase>,
-    /// Those for the log table.
-    pub log: Vec<LogCase>,
-}
-
-/// Reads the text of a file.
-///
-/// # Panics
-///
-/// When a line is of no known form.
-pub fn read(text: &str) -> Cases {
-    let mut cases = Cases::default();
-    for line in text.lines().filter(|line| !line.starts_with('#')) {
-        let (call, answer) = line.split_once(" = ").expect("a case has an answer");
-        let words: Vec<&str> = call.split(' ').collect();
-        match words.as_slice() {
-            ["judge", file] => cases.judge.push(JudgeCase {
-                file: bytes(file),
-                line: answer.to_string(),
-            }),
-            ["prune", bundle] => cases.prune.push(PruneCase {
-                bundle: bytes(bundle),
-                line: answer.to_string(),
-            }),
-            ["screen", bundle, word] => cases.screen.push(ScreenCase {
-                bundle: bytes(bundle),
-                word: bytes(word),
-                line: answer.to_string(),
-            }),
-            ["screen_joined", first, second, word] => cases.screen_joined.push(JoinedCase {
-                first: bytes(first),
-                second: bytes(second),
-                word: bytes(word),
-                line: answer.to_string(),
-            }),
-            ["log", n, words @ ..] => cases.log.push(LogCase {
-                n: n.parse().expect("an event count"),
-                words: words.iter().map(|word| bytes(word)).collect(),
-                line: answer.to_string(),
-            }),
-            _ => panic!("no known form: {line}"),
+impl Case {
+    /// The arguments of a call that has so many.
+    pub fn arguments<const COUNT: usize>(&self) -> [Argument<'_>; COUNT] {
+        let arguments: Vec<_> = self.all().collect();
+        let count = arguments.len();
+        match arguments.try_into() {
+            Ok(arguments) => arguments,
+            Err(_) => panic!("{} has {COUNT} arguments, not {count}", self.call),
         }
     }
-    cases
+
+    /// The arguments of a call that has any number of them.
+    pub fn all(&self) -> impl Iterator<Item = Argument<'_>> {
+        self.arguments.iter().map(|text| Argument(text))
+    }
 }
 
-fn bytes(hexadecimal: &str) -> Vec<u8> {
-    if hexadecimal == "-" {
-        return Vec::new();
+/// An argument of a case.
+#[derive(Clone, Copy, Debug, PartialEq, Eq)]
+pub struct Argument<'c>(&'c str);
+
+impl Argument<'_> {
+    /// The argument as bytes.
+    pub fn bytes(self) -> Vec<u8> {
+        bytes(self.0)
     }
-    assert_eq!(hexadecimal.len() % 2, 0, "half a byte: {hexadecimal}");
-    (0..hexadecimal.len())
+
+    /// The argument as a number, or as a length.
+    pub fn number(self) -> usize {
+        self.0.parse().expect("a number")
+    }
+
+    /// Lent memory of this length.
+    pub fn lent<T: Clone + From<u8>>(self) -> Vec<T> {
+        vec![T::from(LENT); self.number()]
+    }
+}
+
+/// The cases of a file, by call.
+#[derive(Clone, Debug, Default, PartialEq, Eq)]
+pub struct Cases(BTreeMap<String, Vec<Case>>);
+
+impl Cases {
+    /// Reads the text of a file.
+    ///
+    /// # Panics
+    ///
+    /// When a line is no case.
+    pub fn read(text: &str) -> Self {
+        let mut cases = Self::default();
+        for line in text.lines().filter(|line| !line.starts_with('#')) {
+            let (call, answer) = line.split_once(" = ").expect("a case has an answer");
+            let mut words = call.split(' ').map(String::from);
+            let call = words.next().expect("a case has a call");
+            cases.0.entry(call.clone()).or_default().push(Case {
+                call,
+                arguments: words.collect(),
+                answer: without_parts(answer),
+            });
+        }
+        cases
+    }
+
+    /// How many cases each call has, in the order of their names.
+    pub fn counts(&self) -> Vec<(&str, usize)> {
+        let counts = self.0.iter();
+        counts
+            .map(|(call, cases)| (call.as_str(), cases.len()))
+            .collect()
+    }
+
+    /// The cases of a call.
+    ///
+    /// # Panics
+    ///
+    /// When there are none.
+    pub fn of(&self, call: &str) -> &[Case] {
+        let cases = self.0.get(call);
+        cases.unwrap_or_else(|| panic!("no case of {call}"))
+    }
+}
+
+fn bytes(text: &str) -> Vec<u8> {
+    match text {
+        "-" => Vec::new(),
+        _ => text.split('.').flat_map(part).collect(),
+    }
+}
+
+fn part(text: &str) -> Vec<u8> {
+    let (digits, count) = match text.split_once('x') {
+        Some((digits, count)) => (digits, count.parse().expect("a count")),
+        None => (text, 1),
+    };
+    assert_eq!(digits.len() % 2, 0, "half a byte: {digits}");
+    let bytes: Vec<u8> = (0..digits.len())
         .step_by(2)
-        .map(|i| u8::from_str_radix(&hexadecimal[i..i + 2], 16).expect("hexadecimal digits"))
-        .collect()
+        .map(|i| u8::from_str_radix(&digits[i..i + 2], 16).expect("hexadecimal digits"))
+        .collect();
+    bytes.repeat(count)
+}
+
+/// An answer whose bytes are each in one part: no word of an answer has a `.` or an `x`.
+fn without_parts(answer: &str) -> String {
+    let words = answer
+        .split(' ')
+        .map(|word| match word.contains(['.', 'x']) {
+            true => digits(&bytes(word)),
+            false => word.to_string(),
+        });
+    words.collect::<Vec<_>>().join(" ")
+}
+
+fn digits(bytes: &[u8]) -> String {
+    bytes.iter().map(|byte| format!("{byte:02x}")).collect()
 }
 
 /// The line that the program prints for this answer, without its end.
@@ -140,13 +154,10 @@ pub fn line(answer: Outcome<Tally>) -> String {
     }
 }
 
-/// The answer of pruning in words: the bytes that are written, in hexadecimal.
-pub fn pruned_line(answer: Outcome<Vec<u8>>) -> String {
+/// The answer of a call that writes bytes in words, with these bytes in hexadecimal.
+pub fn written_line(answer: Outcome<&[u8]>) -> String {
     match answer {
-        Ok(bytes) => {
-            let digits: String = bytes.iter().map(|byte| format!("{byte:02x}")).collect();
-            format!("written {digits}")
-        }
+        Ok(bytes) => format!("written {}", digits(bytes)),
         Err(refused) => refused_line(refused),
     }
 }
@@ -155,6 +166,37 @@ pub fn pruned_line(answer: Outcome<Vec<u8>>) -> String {
 pub fn rows_line(rows: usize, numbers: &[u16]) -> String {
     let numbers: Vec<String> = numbers.iter().map(ToString::to_string).collect();
     format!("{rows} {}", numbers.join(" "))
+}
+
+/// What a lent table holds after a call, in words: it is as it was; or its first 3,584
+/// numbers are zero; or they are the rows of a log and zeros behind them. The rest is as
+/// it was in any case.
+///
+/// # Panics
+///
+/// When it holds something else.
+pub fn table_line(table: &[u16], has_rows: bool) -> String {
+    let is_lent = |number: &u16| *number == u16::from(LENT);
+    if table.iter().all(is_lent) {
+        return "table kept".to_string();
+    }
+    let (front, rest) = table.split_at(TABLE);
+    assert!(rest.iter().all(is_lent), "changed beyond the table");
+    if !has_rows {
+        let is_zero = front.iter().all(|&number| number == 0);
+        assert!(is_zero, "neither kept nor zero: {front:?}");
+        return "table zero".to_string();
+    }
+    // Every row but row 0 counts an event.
+    let is_used = |row: &[u16]| row.iter().any(|&number| number > 0);
+    let last = front.chunks_exact(ROW).rposition(is_used);
+    let rows = 1 + last.unwrap_or(0);
+    if rows <= MOST_LISTED {
+        return format!("table {}", rows_line(rows, &front[..rows * ROW]));
+    }
+    let numbers = (1..).zip(front.iter().copied().map(u64::from));
+    let sum: u64 = numbers.map(|(i, number)| i * number).sum();
+    format!("table {rows} sum {sum}")
 }
 
 /// The answer of screening in words.

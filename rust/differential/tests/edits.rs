@@ -6,13 +6,12 @@ use std::fs;
 use std::path::{Path, PathBuf};
 
 /// The public calls: the crate, the file in its `src`, and the function.
-const CALLS: [(&str, &str, &str); 21] = [
+const CALLS: [(&str, &str, &str); 19] = [
     ("block", "lib.rt", "open"),
     ("sealing", "lib.rt", "seal"),
     ("logs", "lib.rt", "fresh"),
     ("logs", "lib.rt", "take"),
     ("judging", "lib.rt", "judge"),
-    ("judging", "files.rt", "judge_file"),
     ("pruning", "lib.rt", "prune"),
     ("screening", "lib.rt", "screen"),
     ("screening", "lib.rt", "screen_joined"),
@@ -24,7 +23,6 @@ const CALLS: [(&str, &str, &str); 21] = [
     ("abi", "hov_logs.rt", "hov_fresh"),
     ("abi", "hov_logs.rt", "hov_take"),
     ("abi", "hov_judging.rt", "hov_judge"),
-    ("abi", "hov_judging.rt", "hov_judge_file"),
     ("abi", "hov_pruning.rt", "hov_prune"),
     ("abi", "hov_screening.rt", "hov_screen"),
     ("abi", "hov_screening.rt", "hov_screen_joined"),

@@ -8,7 +8,7 @@ use differential::logs::TABLE;
 use differential::nets::small_certified;
 use differential::pruning::{prune_by_definitions, Idle, WITH_IDLE};
 use differential::run::{output_lengths, Outcome, Run};
-use hovmekhar::{Refusal, Tally, ROW_SIZE, TABLE_SIZE};
+use hovmekhar::{Judged, Refusal, Tally, ROW_SIZE, TABLE_SIZE};
 use std::error::Error;
 use std::fmt::Debug;
 
@@ -99,34 +99,40 @@ fn any_file(run: &mut Run) -> Vec<u8> {
     }
 }
 
-/// The calls on a sealed file: into lent buffers, and the one that never lacks
-/// room.
+/// A sealed file opened and judged: the refusal of either call, or the bundle, the counts
+/// and the rows.
 #[test]
 fn files_agree() {
     let mut run = Run::start("judge_wrapper::files_agree");
     for _ in 0..run.cases(1_000) {
         let file = any_file(&mut run);
-        let noise: Vec<u16> = run.rng.items(TABLE + 9);
-        let judged = run.judge_file(&file, MAX_BUNDLE_SIZE, &noise);
-
-        let mut output = run.rng.bytes(MAX_BUNDLE_SIZE);
-        let mut table = noise;
-        let result = hovmekhar::judge_file(&file, &mut output, &mut table);
-        assert_eq!(outcome(result), judged.outcome, "{run}");
-        assert!(table == judged.table, "{run}");
-        if let Ok(bundle) = hovmekhar::open_vec(&file) {
-            assert!(output[..bundle.len()] == bundle, "{run}");
-        }
-
+        let opened = run.open(&file, MAX_BUNDLE_SIZE);
         let result = hovmekhar::judge_file_vec(&file);
-        if let Ok((counts, rows)) = &result {
-            assert_eq!(rows.len(), counts.rows * ROW_SIZE, "{run}");
+        let length = match opened.outcome {
+            Ok(length) => length,
+            Err(refusal) => {
+                assert_eq!(refused(result), Err(refusal), "{run}");
+                continue;
+            }
+        };
+        let bundle = &opened.output[..length];
+        let noise: Vec<u16> = run.rng.items(TABLE);
+        let judged = run.judge(bundle, &noise);
+        if let Ok(Judged {
+            bundle: given,
+            tally,
+            rows,
+        }) = &result
+        {
+            assert!(given == bundle, "{run}");
+            assert_eq!(rows.len(), tally.rows * ROW_SIZE, "{run}");
             assert!(judged.table[..rows.len()] == *rows, "{run}");
         }
-        let result = outcome(result.map(|(counts, _)| counts));
+        let result = outcome(result.map(|judged| judged.tally));
         assert_eq!(result, judged.outcome, "{run}");
     }
-    run.finish(&[(0, 80), (1, 80), (17, 10), (18, 6), (2, 20), (7, 40)]);
+    // Each file that is opened, and each bundle that is accepted.
+    run.finish(&[(0, 500 + 80), (1, 80), (17, 10), (18, 6), (2, 20), (7, 40)]);
 }
 
 /// The calls that prune: into lent buffers of any length, and the one that never lacks

@@ -8,7 +8,7 @@ use differential::logs::random_word;
 use differential::nets::small_log;
 use differential::rng::Rng;
 use differential::run::Run;
-use hovmekhar::{Refusal, Screened, Tally};
+use hovmekhar::{Judged, Refusal, Screened, Tally};
 use reference::log_rows;
 use std::fs;
 use std::ops::Deref;
@@ -86,7 +86,7 @@ fn write_and_judge(directory: &Path, n: usize, words: &[Vec<u8>]) -> Tally {
     assert_eq!(files_in(directory), 1, "{log}: nothing else is left");
 
     let file = fs::read(&out).expect("the file is written");
-    let (tally, _) =
+    let Judged { bundle, tally, .. } =
         hovmekhar::judge_file_vec(&file).unwrap_or_else(|refusal| panic!("{log}: {refusal}"));
     let rows = log_rows(n, words);
     let allowed = rows.iter().flat_map(|row| &row.allowed).filter(|&&is| is);
@@ -98,7 +98,6 @@ fn write_and_judge(directory: &Path, n: usize, words: &[Vec<u8>]) -> Tally {
         head.push(word.len() as u8);
         head.extend(word);
     }
-    let bundle = hovmekhar::open_vec(&file).expect("it was judged");
     assert!(bundle.starts_with(&head), "{log}: other words");
 
     let line = format!(

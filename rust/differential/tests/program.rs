@@ -8,7 +8,8 @@ use differential::nets::small_certified;
 use differential::program::{errors_when_full, path, run, run_in_pieces, run_with, MAX_FILE_SIZE};
 use differential::rng::Rng;
 use differential::run::Run;
-use differential::{samples, vectors};
+use differential::samples;
+use differential::vectors::{line, Cases};
 use std::ffi::OsStr;
 use std::fs::File;
 use std::io::Seek;
@@ -146,11 +147,11 @@ fn generated_files() {
     for case in 0..run.cases(100) {
         let certified = small_certified(&mut run.rng);
         let file = build(&certified.bundle.bytes());
-        expect(&file, &vectors::line(Ok(certified.counts)));
+        expect(&file, &line(Ok(certified.counts)));
         run.count(0);
         let fault = BlockFault::ALL[case % BlockFault::ALL.len()];
         let (file, refused) = fault.file(&mut run.rng);
-        expect(&file, &vectors::line(Err(refused)));
+        expect(&file, &line(Err(refused)));
         run.count(refused.number);
     }
     run.finish(&[(0, 100), (17, 25), (18, 20), (2, 20)]);
@@ -159,9 +160,10 @@ fn generated_files() {
 /// The answers of another implementation.
 #[test]
 fn cases_with_answers() {
-    let cases = vectors::read(include_str!("data/07.txt")).judge;
-    assert_eq!(cases.len(), 120);
-    for case in cases {
-        expect(&case.file, &case.line);
+    let cases = Cases::read(include_str!("data/07.txt"));
+    assert_eq!(cases.of("judge").len(), 120);
+    for case in cases.of("judge") {
+        let [file] = case.arguments();
+        expect(&file.bytes(), &case.answer);
     }
 }

@@ -2,19 +2,14 @@
 //! described.
 
 use differential::files::{BLOCK, MAX_BUNDLE_SIZE};
-use differential::logs::TABLE;
+use differential::judging::reference_verdict;
 use differential::samples::{all, directory, Sample};
 use differential::vectors::line;
 use std::fs;
 
 /// The line that the program prints for a file, by the reference.
 fn reference_line(file: &[u8]) -> String {
-    let mut bundle = vec![0; MAX_BUNDLE_SIZE];
-    let mut table = vec![0; TABLE];
-    line(
-        reference::open(file, &mut bundle)
-            .and_then(|length| reference::judge(&bundle[..length], &mut table)),
-    )
+    line(reference_verdict(file))
 }
 
 #[test]

@@ -88,18 +88,18 @@ fn read_file(path: &Path) -> io::Result<Vec<u8>> {
     Ok(file)
 }
 
-/// The three calls, each with its line. Returns the status.
+/// Judging and screening, each with its line. Returns the status.
 fn answer(file: &[u8], word: &[u8], lines: &mut String) -> Result<u8, Refusal> {
-    let bundle = hovmekhar::open_vec(file)?;
+    let judged = hovmekhar::judge_file_vec(file)?;
     let Tally {
         rows,
         allowed,
         by_place,
         by_weights,
-    } = hovmekhar::judge_vec(&bundle)?.0;
+    } = judged.tally;
     *lines += &format!("accepted {rows} {allowed} {by_place} {by_weights}\n");
 
-    match hovmekhar::screen(&bundle, word)? {
+    match hovmekhar::screen(&judged.bundle, word)? {
         Screened::Permitted => {
             *lines += "permitted\n";
             Ok(PERMITTED)

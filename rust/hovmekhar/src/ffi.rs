@@ -48,16 +48,6 @@ unsafe extern "C" {
         answer: *mut u64,
     ) -> u32;
 
-    fn hov_judge_file(
-        file: *const u8,
-        file_len: usize,
-        output: *mut u8,
-        output_len: usize,
-        table: *mut u16,
-        table_len: usize,
-        answer: *mut u64,
-    ) -> u32;
-
     fn hov_prune(
         bundle: *const u8,
         bundle_len: usize,
@@ -166,26 +156,11 @@ pub fn judge(bundle: &[u8], table: &mut [u16], answer: &mut Answer) -> u32 {
     }
 }
 
-/// Calls `hov_judge_file`.
-pub fn judge_file(file: &[u8], output: &mut [u8], table: &mut [u16], answer: &mut Answer) -> u32 {
-    // SAFETY: As for `hov_open`, with the table as a further exclusive slice. Its
-    // length is in numbers, and any contents of it are allowed.
-    unsafe {
-        hov_judge_file(
-            file.as_ptr(),
-            file.len(),
-            output.as_mut_ptr(),
-            output.len(),
-            table.as_mut_ptr(),
-            table.len(),
-            answer.as_mut_ptr(),
-        )
-    }
-}
-
 /// Calls `hov_prune`.
 pub fn prune(bundle: &[u8], output: &mut [u8], table: &mut [u16], answer: &mut Answer) -> u32 {
-    // SAFETY: As for `hov_judge_file`, with the bundle in place of the file.
+    // SAFETY: As for `hov_open`, with the bundle in place of the file and the table
+    // as a further exclusive slice. Its length is in numbers, and any contents of it
+    // are allowed.
     unsafe {
         hov_prune(
             bundle.as_ptr(),

@@ -1,7 +1,7 @@
 //! Judging.
 
 use crate::ffi::{self, Answer};
-use crate::{Refusal, MAX_BUNDLE_SIZE, ROW_SIZE, TABLE_SIZE};
+use crate::{open_vec, Refusal, ROW_SIZE, TABLE_SIZE};
 
 /// The largest number of places in a net.
 pub const MAX_PLACES: usize = 64;
@@ -23,6 +23,18 @@ pub struct Tally {
     /// The wrong continuations with a certificate of kind 1: its weights show that
     /// no net that permits the log refuses them.
     pub by_weights: usize,
+}
+
+/// A sealed file that was accepted: its bundle, and what judging said of it.
+#[derive(Clone, Debug, PartialEq, Eq)]
+pub struct Judged {
+    /// The bundle, for [`screen`](crate::screen) and [`prune`](crate::prune): the
+    /// file need not be opened again.
+    pub bundle: Vec<u8>,
+    /// The counts.
+    pub tally: Tally,
+    /// The rows of the log, with [`ROW_SIZE`] numbers for each.
+    pub rows: Vec<u16>,
 }
 
 /// Judges a bundle: its log, its places and its certificates.
@@ -115,52 +127,41 @@ pub fn judge_vec(bundle: &[u8]) -> Result<(Tally, Vec<u16>), Refusal> {
     Ok((counts, table))
 }
 
-/// Opens a sealed file and judges its bundle, which is then in front of `output`;
-/// the rest of `output` stays as it was. The table is as [`judge`] leaves it.
-///
-/// An output of [`MAX_BUNDLE_SIZE`] bytes is long enough for every file.
+/// Opens a sealed file and judges its bundle, and returns both. Only an accepted
+/// bundle is returned; who wants a refused one, too, makes the two calls,
+/// [`open_vec`] and [`judge_vec`].
 ///
 /// # Errors
 ///
-/// As for [`open`](crate::open); `output` and `table` are then as they were. Else
-/// as for [`judge`], with the bundle in front of `output`.
+/// As for [`open_vec`], else as for [`judge_vec`].
 ///
 /// ```
-/// use hovmekhar::{Refusal, MAX_BUNDLE_SIZE, TABLE_SIZE};
+/// use hovmekhar::{Refusal, Screened};
 ///
 /// // One event and no word. The place has no token and the event takes one.
 /// let bundle = [1, 0, 1, 0, 0, 0, 0, 1, 0, 0, 0];
 /// let mut file = hovmekhar::seal_vec(&bundle)?;
-/// let mut output = [9; MAX_BUNDLE_SIZE];
-/// let mut table = [9; TABLE_SIZE];
-/// let counts = hovmekhar::judge_file(&file, &mut output, &mut table)?;
-/// assert_eq!(counts.by_place, 1);
-/// assert_eq!(output[..bundle.len()], bundle);
+/// let judged = hovmekhar::judge_file_vec(&file)?;
+/// assert_eq!(judged.tally.by_place, 1);
+/// assert_eq!(judged.bundle, bundle);
+///
+/// // The same bundle is screened.
+/// let screened = hovmekhar::screen(&judged.bundle, &[0])?;
+/// assert!(matches!(screened, Screened::Stopped { position: 0, .. }));
 ///
 /// file[4] ^= 1;
-/// let refusal = hovmekhar::judge_file(&file, &mut output, &mut table).unwrap_err();
+/// let refusal = hovmekhar::judge_file_vec(&file).unwrap_err();
 /// assert_eq!(refusal, Refusal { number: Refusal::BLOCK_SUMS, spot: 0 });
 /// # Ok::<(), Refusal>(())
 /// ```
-pub fn judge_file(file: &[u8], output: &mut [u8], table: &mut [u16]) -> Result<Tally, Refusal> {
-    let mut answer = Answer::default();
-    let number = ffi::judge_file(file, output, table, &mut answer);
-    counts_or_refusal(number, answer)
-}
-
-/// Judges a sealed file, and returns the counts and the rows of its log, with
-/// [`ROW_SIZE`] numbers for each.
-///
-/// # Errors
-///
-/// As for [`judge_file`], without [`Refusal::OUTPUT_SHORT`] and
-/// [`Refusal::NUMBERS_SHORT`].
-pub fn judge_file_vec(file: &[u8]) -> Result<(Tally, Vec<u16>), Refusal> {
-    let mut bundle = vec![0; MAX_BUNDLE_SIZE];
-    let mut table = vec![0; TABLE_SIZE];
-    let counts = judge_file(file, &mut bundle, &mut table)?;
-    table.truncate(counts.rows * ROW_SIZE);
-    Ok((counts, table))
+pub fn judge_file_vec(file: &[u8]) -> Result<Judged, Refusal> {
+    let bundle = open_vec(file)?;
+    let (tally, rows) = judge_vec(&bundle)?;
+    Ok(Judged {
+        bundle,
+        tally,
+        rows,
+    })
 }
 
 /// Reads what a call of the library returned: 0 and four counts, or a refusal's

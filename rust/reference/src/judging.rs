@@ -3,7 +3,7 @@
 //! A bundle holds a log, places, and a certificate for each wrong continuation,
 //! in this order. It is read once, field by field.
 
-use crate::blocks::{open, MAX_BUNDLE_SIZE};
+use crate::blocks::MAX_BUNDLE_SIZE;
 use crate::places::Place;
 use crate::reader::Reader;
 use crate::tables::{front, MASK, MAX_EVENTS, MAX_LOG_EVENTS, MAX_ROWS, ROW, TRAFFIC};
@@ -48,17 +48,6 @@ pub fn judge(bundle: &[u8], table: &mut [u16]) -> Result<Tally, Refusal> {
         table.fill(0);
     }
     verdict
-}
-
-/// Opens a sealed file and judges its bundle, which is then in front of `output`.
-///
-/// # Errors
-///
-/// As for [`open`]; `output` and `table` are then as they were. Else as for
-/// [`judge`], with the bundle in front of `output`.
-pub fn judge_file(file: &[u8], output: &mut [u8], table: &mut [u16]) -> Result<Tally, Refusal> {
-    let length = open(file, output)?;
-    judge(&output[..length], table)
 }
 
 fn read(mut reader: Reader, table: &mut [u16]) -> Result<Tally, Refusal> {

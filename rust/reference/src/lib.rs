@@ -4,9 +4,8 @@
 //! It is written from the product's rules alone and shares no code with the
 //! proved library, so that tests can compare the two. See [`open`] and [`seal`]
 //! for files, [`fresh`] and [`take`] for the log table, [`judge`] for bundles,
-//! [`judge_file`] for files with bundles, [`prune`] for bundles without idle places,
-//! [`screen`] for a word, [`screen_joined`] for a word on two nets. [`log_rows`] has the
-//! same rows without a table.
+//! [`prune`] for bundles without idle places, [`screen`] for a word, [`screen_joined`] for
+//! a word on two nets. [`log_rows`] has the same rows without a table.
 
 #![forbid(unsafe_code)]
 #![deny(missing_docs)]
@@ -21,7 +20,7 @@ mod screening;
 mod tables;
 
 pub use blocks::{open, seal};
-pub use judging::{judge, judge_file, Tally};
+pub use judging::{judge, Tally};
 pub use logs::{log_rows, Row};
 pub use pruning::prune;
 pub use screening::{screen, screen_joined, Screened};

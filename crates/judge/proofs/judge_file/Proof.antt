@@ -1,4 +1,4 @@
--- `judge::judge_file` meets its contract: the output is long enough for every bundle, and the buffer longer than every file.
+-- `judge::judge_file` meets its contract: there is room for every bundle, and the buffer is longer than every file.
 use mathlib.Core.Path.{sym, ap, _∙_}
 use mathlib.Core.List.{List}
 use Prim.Native.Nat.{ℕ}

@@ -4,7 +4,7 @@ use super::blocks::{self, Broken};
 use super::page::{count, Page};
 use super::reading::Reading;
 use crate::Status;
-use hovmekhar::{Refusal, Tally, BLOCK_SIZE, MAX_BUNDLE_SIZE, MAX_FILE_SIZE, TABLE_SIZE};
+use hovmekhar::{Refusal, Tally, BLOCK_SIZE, MAX_FILE_SIZE};
 
 /// A file, the library's verdict on it, and what was read of it.
 pub struct Look {
@@ -23,9 +23,11 @@ impl Look {
     /// is enough.
     #[must_use]
     pub fn at(file: &[u8]) -> Self {
-        let mut bundle = vec![0; MAX_BUNDLE_SIZE];
-        let mut table = vec![0; TABLE_SIZE];
-        let verdict = hovmekhar::judge_file(file, &mut bundle, &mut table);
+        // A refused bundle is read, too.
+        let bundle = hovmekhar::open_vec(file);
+        let judged = bundle.as_ref().map_err(|&refusal| refusal);
+        let judged = judged.and_then(|bundle| hovmekhar::judge_vec(bundle));
+        let verdict = judged.map(|(tally, _)| tally);
         let broken = match blocks::is_length(file.len()) {
             true => blocks::broken(file),
             false => Vec::new(),
@@ -34,7 +36,6 @@ impl Look {
             Err(refusal) if refusal.number == Refusal::BLOCK_NUMBER => blocks::order(file),
             _ => None,
         };
-        let bundle = hovmekhar::open_vec(file);
         Self {
             length: file.len(),
             verdict,
