@@ -53,10 +53,14 @@ pub open-numbers : (file : List ℕ) (room : ℕ) → among (numberOf (answer (o
 unfolding any
 open-numbers file = written-numbers (open-refuses file) refl
 
-abbrev sealNumbers : List ℕ
+abbrev pub sealNumbers : List ℕ
 sealNumbers = BUNDLE-LENGTH ∷ OUTPUT-SHORT ∷ []
+
+pub seal-refuses : (bundle : List ℕ) → Refuses sealNumbers (sealed bundle)
+unfolding sealed any
+seal-refuses bundle = refuses-then (refuses-require _ BUNDLE-LENGTH 0 (inr refl)) (λ u. refuses-value (sealedFile bundle))
 
 -- seal: a result, or 4 or 3
 pub seal-numbers : (bundle : List ℕ) (room : ℕ) → among (numberOf (answer (sealed bundle) room)) (0 ∷ sealNumbers) ≡ true
-unfolding sealed any
-seal-numbers bundle = written-numbers {numbers = sealNumbers} (refuses-then (refuses-require _ BUNDLE-LENGTH 0 (inr refl)) (λ u. refuses-value (sealedFile bundle))) refl
+unfolding any
+seal-numbers bundle = written-numbers (seal-refuses bundle) refl

@@ -14,17 +14,20 @@ use Rattle.laws.specs.Sums.{weighted}
 use Rattle.laws.specs.Bits.{withBit}
 use Rattle.limits.specs.Limits.{rightSize}
 use Rattle.refusals.specs.Results.{Result, value, refused, bind, require}
-use Rattle.refusals.specs.Answers.{fitted}
+use Rattle.refusals.specs.Answers.{refusal, fitted, answerOf, answer, numberOf, valueOf}
+use Rattle.refusals.specs.declared.Written.{Written}
 use Rattle.nets.specs.Nets.{Word}
 use Rattle.nets.specs.Events.{firstBad}
 use Rattle.sums.specs.Checksums.{plainSum, positionSum}
 use Rattle.block.specs.Block.{padded, summedBytes, withSums, block, usedCount, usedContents, rightNumber, rightCount, rightPadding, rightUse, rightSums, fault}
 use Rattle.block.specs.File.{blockCount, blockAt, faultAt, firstFaulty, firstFault, contentsAt, bundleOf, rightLength, opened, partAt, sealedBlockAt, blocksFor, sealedFile, sealed}
 use Rattle.rows.specs.Rows.{rowAt, numbers, rowsOf, flat, findRow, present, visit, updateAt, follow, addEvent, takeWord}
-use Rattle.logs.specs.Answers.{TABLE, rightEventCount, rightSummary, takenOf, logStarted, freshAnswer, wordTaken, takenAnswer, takenTable}
+use Rattle.logs.specs.Answers.{TABLE, rightEventCount, rightSummary, takenOf, logStarted, freshAnswer, wordTaken, takenAnswer, takenTable, takenNumber}
 use Rattle.logs.specs.declared.Summary.{Summary}
 use Rattle.logs.specs.declared.Taken.{Taken}
 use Rattle.logs.specs.declared.Taken.the-variants as taking
+use Rattle.verdicts.specs.declared.Verdict.the-variants as judging
+use Rattle.numbers.specs.Numbers.{withValue, withTaken}
 use Rattle.demands.specs.BlockOrder.{withoutBlock, withBlockTwice}
 use Rattle.demands.specs.Alterations.{swapped, ThreeUncaught}
 use Rattle.demands.specs.Samples.{bytesA}
@@ -38,6 +41,13 @@ ofResult (refused number spot) = number ∷ spot ∷ []
 ofTaken : Taken → List ℕ
 ofTaken (taking.Next s) = 0 ∷ s .n ∷ s .rows ∷ s .events ∷ []
 ofTaken (taking.Refused r) = r .number ∷ r .spot ∷ []
+
+-- what a call for C returns, then the four numbers of `answer`, which held 10, 11, 12 and 13
+handedWritten : Written → List ℕ
+handedWritten a = numberOf a ∷ withValue (10 ∷ 11 ∷ 12 ∷ 13 ∷ []) a
+
+handedTaken : Taken → List ℕ
+handedTaken a = takenNumber a ∷ withTaken (10 ∷ 11 ∷ 12 ∷ 13 ∷ []) a
 
 -- case A, sealed: one block, number 0, 53 bytes used, S = 85, W = 991
 unfoldable pub fileA : List ℕ
@@ -131,10 +141,16 @@ callSamples =
     ∷ (ofTaken (takenAnswer (summary 2 1 1024) zeros (2 ∷ [])), 8 ∷ 0 ∷ [])
     ∷ (ofTaken (takenAnswer (summary 2 256 0) zeros (1 ∷ 2 ∷ [])), 7 ∷ 1 ∷ [])
     ∷ (ofTaken (takenAnswer (summary 2 256 0) zeros (1 ∷ [])), 9 ∷ 0 ∷ [])
+    -- as C gets them: a length, and the length needed; n, rows and events; a spot
+    ∷ (handedWritten (answer (opened fileA) 53), 0 ∷ 53 ∷ 11 ∷ 12 ∷ 13 ∷ [])
+    ∷ (handedWritten (answer (sealed bytesA) 511), 3 ∷ 512 ∷ 11 ∷ 12 ∷ 13 ∷ [])
+    ∷ (handedTaken (freshAnswer 2 sevens), 0 ∷ 2 ∷ 1 ∷ 0 ∷ 13 ∷ [])
+    ∷ (handedTaken (takenAnswer (summary 2 1 0) zeros (0 ∷ 0 ∷ 1 ∷ [])), 0 ∷ 2 ∷ 4 ∷ 3 ∷ 13 ∷ [])
+    ∷ (handedTaken (takenAnswer (summary 2 256 0) zeros (1 ∷ 2 ∷ [])), 7 ∷ 1 ∷ 11 ∷ 12 ∷ 13 ∷ [])
     ∷ []
 
 pub call-samples-hold : all (λ c. equal (c .0) (c .1)) callSamples ≡ true
-unfolding callSamples ofResult ofTaken fitted bytesA fileA fileTwo sevens zeros rows001 twins twins0 tableAfter all any equal numberAt joined firstFalse firstFailing weighted withBit rightSize bind require firstBad plainSum positionSum padded summedBytes withSums block usedCount usedContents rightNumber rightCount rightPadding rightUse rightSums fault blockCount blockAt faultAt firstFaulty firstFault contentsAt bundleOf rightLength opened partAt sealedBlockAt blocksFor sealedFile sealed rowAt numbers rowsOf flat findRow present visit updateAt follow addEvent takeWord rightEventCount rightSummary takenOf logStarted freshAnswer wordTaken takenAnswer takenTable
+unfolding callSamples ofResult ofTaken handedWritten handedTaken numberOf valueOf answerOf answer fitted takenNumber withValue withTaken bytesA fileA fileTwo sevens zeros rows001 twins twins0 tableAfter all any equal numberAt joined firstFalse firstFailing weighted withBit rightSize bind require firstBad plainSum positionSum padded summedBytes withSums block usedCount usedContents rightNumber rightCount rightPadding rightUse rightSums fault blockCount blockAt faultAt firstFaulty firstFault contentsAt bundleOf rightLength opened partAt sealedBlockAt blocksFor sealedFile sealed rowAt numbers rowsOf flat findRow present visit updateAt follow addEvent takeWord rightEventCount rightSummary takenOf logStarted freshAnswer wordTaken takenAnswer takenTable
 call-samples-hold = refl
 
 -- the bundle of case A: its first three bytes, 2 2 1, are now 3 0 2. Neither sum changes

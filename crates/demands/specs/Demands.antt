@@ -1,6 +1,7 @@
 -- The user's three demands, as types: the summary. Proved.antt proves each of them; docs/ASSURANCE.md says how to read them.
 -- A page for each group of calls says exactly when which refusal meets a call, and at which spot, in the words of the requirements: Opening.antt
--- (open, seal), Tables.antt (fresh, take, and what stands in a table), Judging.antt and Screening.antt. Here they are gathered by name. A page for
+-- (open, seal), Tables.antt (fresh, take, and what stands in a table), Judging.antt and Screening.antt; Boundary.antt says what the calls for C and
+-- Rust return and put in `answer`. Here they are gathered by name. A page for
 -- each change request says what it promised beyond that: BlockOrder.antt (request 1), Shortfalls.antt (2), Sealing.antt (3), Alterations.antt (4),
 -- Traffic.antt (5), Joining.antt (6), Pruning.antt (7; the refusals of prune stand there, too). The demands are stated with the requests'
 -- changes in them.
@@ -8,13 +9,15 @@
 use mathlib.Core.Path.{_≡_}
 use mathlib.Core.Bool.{true, false, not}
 use mathlib.Core.Logic.{_↔_}
-use mathlib.Core.List.{List, [], _∷_, _++_}
+use mathlib.Core.List.{List, [], _∷_, _++_, List·Memᴰ}
 use Prim.Native.Nat.{ℕ, _*_, _≤_, _<_}
 use lib.Dec.{T}
 use lib.ListN.{length, take, drop}
+use Rattle.laws.specs.Distinct.{Cardinality}
 use Rattle.laws.specs.Lists.{among}
 use Rattle.laws.specs.Numbers.{Bytes}
 use Rattle.laws.specs.Parts.{front}
+use Rattle.laws.specs.Sorting.{Sorted}
 use Rattle.limits.specs.Limits.{MAX-PLACES, MAX-TERMS}
 use Rattle.refusals.specs.Results.{Result, value}
 use Rattle.refusals.specs.Answers.{answer, written, numberOf}
@@ -22,18 +25,22 @@ use Rattle.refusals.specs.Laws.{Ends}
 use Rattle.refusals.specs.declared.Refusal.{Refusal}
 use Rattle.refusals.specs.declared.Written.the-variants as writing
 use Rattle.block.specs.File.{opened, sealed, blocksFor}
-use Rattle.nets.specs.Nets.{Word, Log, Net, join, stepAfter, permits, firstRefusing, shortfallOf, rows, eventCount}
-use Rattle.nets.specs.Words.{Prefix, EveryNetPermits}
+use Rattle.nets.specs.Nets.{Word, Log, Net, Step, join, stepAfter, netPermits, permits, firstRefusing, shortfallOf, rows, wrongContinuations, eventCount}
+use Rattle.nets.specs.Words.{Prefix, Follows, EveryNetPermits}
+use Rattle.nets.specs.Tallies.{PrefixCounts, WrongContinuation}
+use Rattle.nets.specs.Order.{Before}
 use Rattle.nets.specs.Comparison.{Contained}
 use Rattle.nets.specs.Screening.{FirstRefused, shortfallAt}
 use Rattle.nets.specs.TokenGame.{placesOf}
-use Rattle.nets.specs.SeparationProblems.{Complete, Suboptimal}
+use Rattle.nets.specs.Regions.{Constraint, Region}
+use Rattle.nets.specs.SeparationProblems.{SeparationProblem, SolvedIn, Complete, Suboptimal}
+use Rattle.nets.specs.RegionCertificates.{ByRegions}
 use Rattle.rows.specs.Rows.{withRows, cleared}
 use Rattle.logs.specs.Answers.{TABLE, freshAnswer, freshTable, takenAnswer, takenTable, takenNumber}
 use Rattle.logs.specs.Log.{logRows, Takes}
 use Rattle.logs.specs.declared.Summary.{Summary}
 use Rattle.logs.specs.declared.Taken.the-variants as taking
-use Rattle.bundles.specs.Layout.{Head, Contents}
+use Rattle.bundles.specs.Layout.{Head, Contents, InLimits, toBundle, bytesOf}
 use Rattle.bundles.specs.Readers.{headOf, eventsIn, logIn, netIn}
 use Rattle.verdicts.specs.Judging.{verdict, verdictNumber, tableAfter}
 use Rattle.verdicts.specs.Acceptance.{AcceptedAs}
@@ -50,6 +57,7 @@ use Rattle.demands.specs.Tables.{FreshExactly, TakeExactly, TakeLeaves, 
 use Rattle.demands.specs.Judging.{JudgeExactly, FieldsExactly}
 use Rattle.demands.specs.Screening.{ScreenExactly, JoinExactly}
 use Rattle.demands.specs.Pruning.{PruneExactly}
+use Rattle.demands.specs.Boundary.{Boundary}
 
 -- ---- DEMAND 1: 'every call on every input ends in a result or in a refusal from the numbered table, touches no memory but the buffers
 -- lent to it, and leaves in each of them exactly what the table says.'
@@ -68,6 +76,8 @@ pub record Demand1 : Type 0 where
   pub join-exactly : (first second : List ℕ) (w : Word) → JoinExactly first second w
   pub prune-exactly : (tableSize : ℕ) (b : List ℕ) (room : ℕ) → Bytes b → PruneExactly tableSize b room
   pub fields-exactly : (b : List ℕ) (at : ℕ) → FieldsExactly b at
+  -- what the calls for C and Rust return, 0 for a result alone and 256 for a stop alone, and which number stands where in `answer`
+  pub boundary : Boundary
   -- the limits that no other line says by a numeral: 64 places, 64 terms
   pub counts-most : (MAX-PLACES ≡ 64) × (MAX-TERMS ≡ 64)
   -- the number of a refusal is one of the call's line, 0 is that of a result, 256 that of a stop
@@ -127,11 +137,34 @@ pub record Demand1 : Type 0 where
 -- definitions. Screening names a readable word's first refused step, or permits when there is none. Sealing and opening, so lent, undo
 -- each other.'
 
+-- 'the four counts are those of the definitions': each is the number of what it counts, for a log and a net over n events and the counts c
+pub record FourCounts (n : ℕ) (log : Log) (net : Net) (c : Tally) : Type 0 where
+  -- 'A row is a distinct v', the count vector of some prefix
+  pub row-count : Cardinality (PrefixCounts n log) (c .rows)
+  -- '.. some prefix with these counts is followed by e in the log. .. These .. are the allowed steps.'
+  pub allowed-count : Cardinality (Follows n log) (c .allowed)
+  -- 'A pair of row and event with its bit clear is a wrong continuation': those of kind 0 are the ones that the net refuses,
+  pub kind-0 : Cardinality (λ s. WrongContinuation n log s × T (not (netPermits n net s))) (c .«by_place»)
+  -- those of kind 1 the ones that it permits
+  pub kind-1 : Cardinality (λ s. WrongContinuation n log s × T (netPermits n net s)) (c .«by_weights»)
+
 pub record Demand2 : Type 0 where
   pub accepted : (tableSize : ℕ) → 3584 ≤ tableSize → (b : List ℕ) → Bytes b → (c : Tally) → (verdict tableSize b ≡ judging.Accepted c)
       ↔ ((d : Contents) × AcceptedAs b c d)
   -- the event count, log and net that the lines below and demand 3 speak of are, of an accepted bundle, those of its contents
   pub head : (b : List ℕ) → Bytes b → (c : Tally) (d : Contents) → AcceptedAs b c d → headOf b ≡ d .head
+  pub counts : (tableSize : ℕ) (b : List ℕ) → Bytes b → (c : Tally) → verdict tableSize b ≡ judging.Accepted c
+      → FourCounts (eventsIn b) (logIn b) (netIn b) c
+  -- the same in the terms of Badouel and Schlachter alone: every place is a region of the log, and each separation problem that is no constraint
+  -- is, in their order, witnessed by the region of the place that its certificate lists, or has in it weights that meet the inequalities
+  pub by-regions : (tableSize : ℕ) → 3584 ≤ tableSize → (b : List ℕ) → Bytes b → ((c : Tally) × (verdict tableSize b ≡ judging.Accepted c))
+      ↔ ((d : Contents) × (b ≡ bytesOf d) × InLimits d × ByRegions (toBundle d))
+  -- the wrong continuations are these problems; one that is a constraint too, by another prefix with its counts, is witnessed by no region
+  pub problems : (n : ℕ) (log : Log) (s : Step) → List·Memᴰ s (wrongContinuations n log)
+      ↔ (SeparationProblem n (Prefix log) s × (Constraint n (Prefix log) s → ⊥))
+  pub unsolvable : (n : ℕ) (log : Log) (s : Step) → Constraint n (Prefix log) s → SolvedIn n (Region n (Prefix log)) s → ⊥
+  -- 'Rows are numbered by first occurrence', 'their order is by row, then event'
+  pub order : (n : ℕ) (log : Log) → Sorted (Before n log) (wrongContinuations n log)
   -- 'by the region definitions of Badouel and Schlachter': its places are a complete set of regions of the log, so that on the prefixes with one
   -- event more it has the language of all regions (crates/nets/specs/SeparationProblems.antt)
   pub complete : (b : List ℕ) → Bytes b → (c : Tally) (d : Contents) → AcceptedAs b c d

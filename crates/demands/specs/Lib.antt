@@ -9,6 +9,7 @@ pub mod Shortfalls
 pub mod Joining
 pub mod Pruning
 pub mod Sealing
+pub mod Boundary
 pub mod Demands
 pub mod OpeningProved
 pub mod BlockOrderProved
@@ -19,8 +20,10 @@ pub mod ScreeningProved
 pub mod ShortfallsProved
 pub mod SealingProved
 pub mod Comparing
+pub mod Accepting
 pub mod PruningProved
 pub mod TrafficProved
+pub mod BoundaryProved
 pub mod Proved
 pub mod Samples
 pub mod JoiningProved

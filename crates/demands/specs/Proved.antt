@@ -14,6 +14,9 @@ use Rattle.logs.specs.RefusalNumbers.{fresh-numbers, take-numbers}
 use Rattle.logs.specs.AnswerLaws.{refused-table}
 use Rattle.logs.specs.LogTable.{log-table}
 use Rattle.nets.specs.Nets.{join}
+use Rattle.nets.specs.Words.{Prefix}
+use Rattle.nets.specs.Order.{wrong-sorted}
+use Rattle.nets.specs.SeparationProblems.{wrong-problem, constraint-unsolved}
 use Rattle.bundles.specs.Readers.{eventsIn, netIn}
 use Rattle.verdicts.specs.Acceptance.{accepted-exactly}
 use Rattle.verdicts.specs.RefusalNumbers.{judge-numbers, refused-judge}
@@ -30,6 +33,8 @@ use Rattle.demands.specs.TablesProved.{fresh-exactly, take-exactly, take
 use Rattle.demands.specs.JudgingProved.{judge-exactly, fields-exactly}
 use Rattle.demands.specs.ScreeningProved.{screen-exactly, join-exactly}
 use Rattle.demands.specs.PruningProved.{prune-exactly}
+use Rattle.demands.specs.BoundaryProved.{boundary}
+use Rattle.demands.specs.Accepting.{counts-are, regions-exactly}
 use Rattle.demands.specs.Comparing.{accepted-head, net-complete, net-suboptimal, table-left, numbers-left, compared}
 
 pub demand-1 : Demand1
@@ -44,6 +49,7 @@ demand-1 = record {
   join-exactly = join-exactly;
   prune-exactly = prune-exactly;
   fields-exactly = fields-exactly;
+  boundary = boundary;
   refusals-of-open = open-numbers;
   refusals-of-seal = seal-numbers;
   refusals-of-fresh = fresh-numbers;
@@ -72,6 +78,11 @@ pub demand-2 : Demand2
 demand-2 = record {
   accepted = accepted-exactly;
   head = accepted-head;
+  counts = λ tableSize b bytes c e. counts-are b bytes tableSize c e;
+  by-regions = λ tableSize long b bytes. regions-exactly b bytes tableSize long;
+  problems = wrong-problem;
+  unsolvable = λ n log s c h. constraint-unsolved n (Prefix log) s c (h .0) (h .1) (h .2);
+  order = wrong-sorted;
   complete = net-complete;
   suboptimal = net-suboptimal;
   permitted = permitted-exactly;

@@ -18,13 +18,14 @@ use Rattle.logs.specs.Answers.{TABLE}
 use Rattle.bundles.specs.Reading.{itemIn, require, field, byte, number, each, onward}
 use Rattle.bundles.specs.Layout.{toPlace, toNet, toTerm, toCertificate, toBundle}
 use Rattle.bundles.specs.Readers.{headIn, headOf, eventsIn, logIn, netIn, wordAfter, word, place, places, headAfter, head, bundleSize, bundleHead, readHead, term, weights, ofKind, certificate}
-use Rattle.verdicts.specs.Judging.{unsolved, solved, atEnd, afterHead, contents, judging, judged, verdictOf, verdict}
+use Rattle.verdicts.specs.Judging.{unsolved, solved, atEnd, afterHead, contents, judging, judged, verdictOf, verdict, verdictNumber}
 use Rattle.verdicts.specs.declared.Verdict.{Verdict}
 use Rattle.verdicts.specs.declared.Tally.{Tally}
 use Rattle.verdicts.specs.declared.Verdict.the-variants as verdicts
-use Rattle.screening.specs.Screening.{wordOn, screening, joining, replayed, screenedOf, screened, screenedJoined}
+use Rattle.screening.specs.Screening.{wordOn, screening, joining, replayed, screenedOf, screened, screenedJoined, screenedNumber}
 use Rattle.screening.specs.declared.Screened.{Screened}
 use Rattle.screening.specs.declared.Screened.the-variants as answers
+use Rattle.numbers.specs.Numbers.{withVerdict, withScreened}
 
 -- 0 and the four counts, or the refusal's number and spot
 ofVerdict : Verdict → List ℕ
@@ -36,6 +37,13 @@ ofScreened : Screened → List ℕ
 ofScreened answers.Permitted = 0 ∷ []
 ofScreened (answers.Stopped s) = 256 ∷ s .position ∷ s .place ∷ s .shortfall ∷ []
 ofScreened (answers.Refused r) = r .number ∷ r .spot ∷ []
+
+-- what a call for C returns, then the four numbers of `answer`, which held 10, 11, 12 and 13
+handedVerdict : Verdict → List ℕ
+handedVerdict v = verdictNumber v ∷ withVerdict (10 ∷ 11 ∷ 12 ∷ 13 ∷ []) v
+
+handedScreened : Screened → List ℕ
+handedScreened s = screenedNumber s ∷ withScreened (10 ∷ 11 ∷ 12 ∷ 13 ∷ []) s
 
 -- case A: 53 bytes
 unfoldable pub bytesA : List ℕ
@@ -51,6 +59,16 @@ bytesQ = 2 ∷ 0 ∷ 1 ∷ 0 ∷ 0 ∷ 0 ∷ 0 ∷ 0 ∷ 0 ∷ 1 ∷ 0 ∷ 0 ∷
 
 unfoldable pub bytesR : List ℕ
 bytesR = 2 ∷ 0 ∷ 2 ∷ 0 ∷ 0 ∷ 0 ∷ 0 ∷ 0 ∷ 0 ∷ 0 ∷ 0 ∷ 0 ∷ 0 ∷ 1 ∷ 0 ∷ 0 ∷ 0 ∷ 0 ∷ 0 ∷ 0 ∷ 0 ∷ 3 ∷ 0 ∷ []
+
+-- the log 1, 0 0 0 0 1 over 2 events: 1 is allowed at the start and after four 0, so every net permits it after one, two or three. Four different counts
+unfoldable pub bytesFour : List ℕ
+bytesFour =
+    2 ∷ 2 ∷ 1 ∷ 1 ∷ 5 ∷ 0 ∷ 0 ∷ 0 ∷ 0 ∷ 1 ∷ 2
+    ∷ 1 ∷ 0 ∷ 1 ∷ 0 ∷ 0 ∷ 0 ∷ 1 ∷ 0 ∷ 1 ∷ 0
+    ∷ 4 ∷ 0 ∷ 0 ∷ 0 ∷ 0 ∷ 0 ∷ 1 ∷ 0 ∷ 0 ∷ 0
+    ∷ 0 ∷ 0 ∷ 0 ∷ 0 ∷ 1 ∷ 4 ∷ 0 ∷ 2 ∷ 0 ∷ 0 ∷ 1 ∷ 3 ∷ 0 ∷ 5 ∷ 0 ∷ 1 ∷ 1 ∷ 0
+    ∷ 1 ∷ 2 ∷ 0 ∷ 2 ∷ 0 ∷ 0 ∷ 1 ∷ 1 ∷ 0 ∷ 5 ∷ 0 ∷ 1 ∷ 1 ∷ 0
+    ∷ 1 ∷ 4 ∷ 0 ∷ 2 ∷ 0 ∷ 0 ∷ 1 ∷ 1 ∷ 0 ∷ 5 ∷ 0 ∷ 1 ∷ 3 ∷ 0 ∷ 0 ∷ 1 ∷ 0 ∷ 0 ∷ 0 ∷ 0 ∷ []
 
 -- the log of I: prefixes 0 1 and 1 0 have the same counts, so 3 is allowed after 0 1
 logI : Log
@@ -68,6 +86,8 @@ samples =
     ∷ (ofScreened (screened bytesA (0 ∷ 0 ∷ 0 ∷ [])), 256 ∷ 2 ∷ 1 ∷ 1 ∷ [])
     -- E
     ∷ (ofVerdict (verdict TABLE (1 ∷ 0 ∷ 1 ∷ 0 ∷ 0 ∷ 0 ∷ 0 ∷ 1 ∷ 0 ∷ 0 ∷ 0 ∷ [])), 0 ∷ 1 ∷ 0 ∷ 1 ∷ 0 ∷ [])
+    -- four different counts: rows, allowed steps, kind 0, kind 1
+    ∷ (ofVerdict (verdict TABLE bytesFour), 0 ∷ 7 ∷ 6 ∷ 5 ∷ 3 ∷ [])
     -- F
     ∷ (ofVerdict (verdict TABLE (1 ∷ 0 ∷ 0 ∷ [])), 6 ∷ 3 ∷ [])
     -- G; it also isolates the third inequality, the only one that its empty sums do not meet
@@ -125,6 +145,13 @@ samples =
     ∷ (ofScreened (screenedJoined bytesQ (1 ∷ 0 ∷ []) (9 ∷ [])), 6 ∷ 2 ∷ [])
     ∷ (ofScreened (screenedJoined bytesQ (1 ∷ 0 ∷ 0 ∷ []) (9 ∷ [])), 19 ∷ 0 ∷ [])
     ∷ (ofScreened (screenedJoined bytesQ bytesR (1 ∷ 2 ∷ [])), 15 ∷ 1 ∷ [])
+    -- as C gets them: the four counts; a spot; a stop's position, place and shortfall, with one bundle and joined; permitted; a spot
+    ∷ (handedVerdict (verdict TABLE (2 ∷ 1 ∷ 1 ∷ 0 ∷ 1 ∷ 1 ∷ 0 ∷ 0 ∷ 0 ∷ 0 ∷ 0 ∷ 1 ∷ 0 ∷ 2 ∷ 0 ∷ 0 ∷ 0 ∷ 0 ∷ 0 ∷ 0 ∷ 0 ∷ [])), 0 ∷ 2 ∷ 1 ∷ 3 ∷ 0 ∷ [])
+    ∷ (handedVerdict (verdict TABLE (1 ∷ 0 ∷ 0 ∷ 1 ∷ 0 ∷ 0 ∷ 0 ∷ [])), 7 ∷ 4 ∷ 11 ∷ 12 ∷ 13 ∷ [])
+    ∷ (handedScreened (screened bytesR (0 ∷ 0 ∷ 0 ∷ 1 ∷ [])), 256 ∷ 3 ∷ 1 ∷ 2 ∷ 13 ∷ [])
+    ∷ (handedScreened (screenedJoined bytesA bytesR (0 ∷ 1 ∷ [])), 256 ∷ 1 ∷ 3 ∷ 2 ∷ 13 ∷ [])
+    ∷ (handedScreened (screened bytesA []), 0 ∷ 10 ∷ 11 ∷ 12 ∷ 13 ∷ [])
+    ∷ (handedScreened (screened bytesA (0 ∷ 2 ∷ [])), 15 ∷ 1 ∷ 11 ∷ 12 ∷ 13 ∷ [])
     ∷ []
 
 -- case A with a further word 0, and twice the numbers of its second place
@@ -162,7 +189,7 @@ pub record Computed : Type 0 where
   pub refuses10 : permits (eventsIn bytesA) (netIn bytesA) (1 ∷ 0 ∷ []) ≡ false
 
 pub computed : Computed
-unfolding ofVerdict ofScreened bytesA bytesQ bytesR logI samples all any keep tabulate equal numberAt firstFailing negativePart sumℤ same occurrences eventCount weighed beginnings prefixes addRow counts tokens surplus placePermits shortfall netPermits firstRefusing shortfallOf stoppedAt screenAfter screen rows allowed passes traffic rowSteps continuations allowedSteps wrongContinuations fits refusedBy weighsBefore weighsAfter weightsHold solves isByPlace tally firstBad flatMap bind results.require onward itemIn require field byte number each toPlace toNet toTerm toCertificate toBundle rightSize wordAfter word place places headAfter head bundleSize bundleHead readHead term weights ofKind certificate unsolved solved atEnd afterHead contents judging judged verdictOf verdict replayed wordOn screening joining screenedOf screened screenedJoined bytesA′ countsA headOf headIn permits permitsAfter
+unfolding ofVerdict ofScreened handedVerdict handedScreened verdictNumber withVerdict screenedNumber withScreened bytesA bytesQ bytesR bytesFour logI samples all any keep tabulate equal numberAt firstFailing negativePart sumℤ same occurrences eventCount weighed beginnings prefixes addRow counts tokens surplus placePermits shortfall netPermits firstRefusing shortfallOf stoppedAt screenAfter screen rows allowed passes traffic rowSteps continuations allowedSteps wrongContinuations fits refusedBy weighsBefore weighsAfter weightsHold solves isByPlace tally firstBad flatMap bind results.require onward itemIn require field byte number each toPlace toNet toTerm toCertificate toBundle rightSize wordAfter word place places headAfter head bundleSize bundleHead readHead term weights ofKind certificate unsolved solved atEnd afterHead contents judging judged verdictOf verdict replayed wordOn screening joining screenedOf screened screenedJoined bytesA′ countsA headOf headIn permits permitsAfter
 computed = record {
   samplesHold = refl;
   acceptedA = refl;

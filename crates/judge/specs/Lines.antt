@@ -42,3 +42,9 @@ pub verdict-sample : verdictLine (Accepted (record { rows = 5; allowed = 4; «by
     ≡ 97 ∷ 99 ∷ 99 ∷ 101 ∷ 112 ∷ 116 ∷ 101 ∷ 100 ∷ 32 ∷ 53 ∷ 32 ∷ 52 ∷ 32 ∷ 53 ∷ 32 ∷ 49 ∷ 10 ∷ []
 unfolding verdictLine line flatMap spaced decimal digitsIn lastDigit
 verdict-sample = refl
+
+-- four different counts, each in its place: `accepted 7 6 5 3`
+pub counts-sample : verdictLine (Accepted (record { rows = 7; allowed = 6; «by_place» = 5; «by_weights» = 3 }))
+    ≡ 97 ∷ 99 ∷ 99 ∷ 101 ∷ 112 ∷ 116 ∷ 101 ∷ 100 ∷ 32 ∷ 55 ∷ 32 ∷ 54 ∷ 32 ∷ 53 ∷ 32 ∷ 51 ∷ 10 ∷ []
+unfolding verdictLine line flatMap spaced decimal digitsIn lastDigit
+counts-sample = refl

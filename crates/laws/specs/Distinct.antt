@@ -1,7 +1,7 @@
--- Lists without duplicates, and their lengths.
+-- Lists without duplicates, their lengths, and how many elements a set has.
 use mathlib.Core.Path.{_≡_, refl, sym, ap, _∙_}
 use mathlib.Core.Bool.{Bool, true, false, cond}
-use mathlib.Core.Logic.{_⊎_, inl, inr, ⊎-elim}
+use mathlib.Core.Logic.{_↔_, Iff·trans, _⊎_, inl, inr, ⊎-elim}
 use mathlib.Core.List.{List, [], _∷_, _++_, flatMap, List·Memᴰ, List·Memᴰ·head, List·Memᴰ·tail, List·Memᴰ·cases-cons, Memᴰ·cast, List·Memᴰ·append-cases}
 use Prim.Native.Nat.{ℕ, zero, suc, _≤_, zero-le, suc-le-suc}
 use native.Mathlib.Nat.{le-antisymm, le-trans, le-of-eq, suc-inj, suc-ne-zero}
@@ -77,3 +77,23 @@ module _ {A B : Type 0} (f : A → List B) where
     where
       clash : (y : B) → List·Memᴰ y (f x) → List·Memᴰ y (flatMap f l) → ⊥
       clash y m k = let r = flatMap-member f l k in d .0 (Memᴰ·cast (apart x (r .0) y m (r .2)) (r .1))
+
+-- k is the cardinality of the set of all x with P: the length of a list that has them, nothing else, and each once
+pub record Cardinality {A : Type 0} (P : A → Type 0) (k : ℕ) : Type 0 where
+  pub listed : List A
+  pub once : Distinct listed
+  pub members : (x : A) → List·Memᴰ x listed ↔ P x
+  pub size : length listed ≡ k
+
+module _ {A : Type 0} {P : A → Type 0} where
+  -- there is one such number
+  pub cardinality-unique : (j k : ℕ) → Cardinality P j → Cardinality P k → j ≡ k
+  cardinality-unique j k a b =
+      sym (a .size)
+      ∙ distinct-same-length (a .listed) (b .listed) (a .once) (b .once)
+      (λ x m. b .members x .1 (a .members x .0 m)) (λ x m. a .members x .1 (b .members x .0 m))
+      ∙ b .size
+
+  -- and it is that of the same set, said otherwise
+  pub cardinality-same : {Q : A → Type 0} {k : ℕ} → ((x : A) → P x ↔ Q x) → Cardinality P k → Cardinality Q k
+  cardinality-same same a = record { listed = a .listed; once = a .once; members = λ x. Iff·trans (a .members x) (same x); size = a .size }

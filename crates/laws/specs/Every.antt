@@ -1,4 +1,4 @@
--- Every member of a list is so, or each element behind those before it, as a type; their laws.
+-- Every member of a list is so, each element behind those before it, or two lists element by element, as types; their laws.
 use mathlib.Core.Path.{refl, sym, subst}
 use mathlib.Core.Logic.{_↔_}
 use mathlib.Core.List.{List, [], _∷_, _++_, append-nil, List·Memᴰ, List·Memᴰ·head, List·Memᴰ·tail}
@@ -74,3 +74,13 @@ module _ {A : Type 0} where
   each-map P Q L shorter f l m h =
       let both = each-last Q (λ k. L k × Each P k) (λ k r q. (shorter k r (q .0), each-shorter P k r (q .1))) in
       both .1 (λ k x q. f k x (q .0) (each-snoc P k x .0 (q .1) .1)) l (m, h)
+
+-- ---- two lists element by element
+
+module _ {A B : Type 0} where
+  -- they have as many elements, and each of the first is so with that of the second at its place
+  abbrev pub Pointwise : (A → B → Type 0) → List A → List B → Type 0
+  Pointwise R [] [] = Unit {0}
+  Pointwise R [] (y ∷ ys) = ⊥
+  Pointwise R (x ∷ xs) [] = ⊥
+  Pointwise R (x ∷ xs) (y ∷ ys) = R x y × Pointwise R xs ys

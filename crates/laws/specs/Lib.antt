@@ -3,6 +3,7 @@ pub mod Lists
 pub mod Every
 pub mod Keeping
 pub mod Distinct
+pub mod Sorting
 pub mod Parts
 pub mod Pieces
 pub mod Scans

@@ -3,7 +3,7 @@ use mathlib.Core.Path.{_≡_}
 use mathlib.Core.Bool.{true}
 use mathlib.Core.List.{List, [], _∷_}
 use Prim.Native.Nat.{ℕ}
-use Rattle.laws.specs.Lists.{any, among}
+use Rattle.laws.specs.Lists.{among}
 use Rattle.refusals.specs.Table.{NUMBERS-SHORT, VALUE, EVENTS, ROWS, STATE-RANGE}
 use Rattle.refusals.specs.Results.{Result, value, refused, numberIn, Refuses, refuses-end, refuses-test, numbers-listed}
 use Rattle.nets.specs.Nets.{Word}
@@ -16,17 +16,24 @@ unfolding takenNumber takenOf numberIn
 answered numbers (value s) r = numbers-listed r
 answered numbers (refused number spot) r = numbers-listed r
 
-abbrev freshNumbers : List ℕ
+abbrev pub freshNumbers : List ℕ
 freshNumbers = NUMBERS-SHORT ∷ STATE-RANGE ∷ []
 
-pub fresh-numbers : (n : ℕ) (t : List ℕ) → among (takenNumber (freshAnswer n t)) (0 ∷ freshNumbers) ≡ true
-unfolding freshAnswer logStarted any
-fresh-numbers n t = answered freshNumbers (logStarted n t) (refuses-test _ _ _ (refuses-test _ _ _ (refuses-end _)))
+pub fresh-refuses : (n : ℕ) (t : List ℕ) → Refuses freshNumbers (logStarted n t)
+unfolding logStarted
+fresh-refuses n t = refuses-test _ _ _ (refuses-test _ _ _ (refuses-end _))
 
-abbrev takeNumbers : List ℕ
+pub fresh-numbers : (n : ℕ) (t : List ℕ) → among (takenNumber (freshAnswer n t)) (0 ∷ freshNumbers) ≡ true
+unfolding freshAnswer
+fresh-numbers n t = answered freshNumbers (logStarted n t) (fresh-refuses n t)
+
+abbrev pub takeNumbers : List ℕ
 takeNumbers = NUMBERS-SHORT ∷ STATE-RANGE ∷ EVENTS ∷ VALUE ∷ ROWS ∷ []
 
+pub take-refuses : (s : Summary) (t : List ℕ) (w : Word) → Refuses takeNumbers (wordTaken s t w)
+unfolding wordTaken
+take-refuses s t w = refuses-test _ _ _ (refuses-test _ _ _ (refuses-test _ _ _ (refuses-test _ _ _ (refuses-test _ _ _ (refuses-end _)))))
+
 pub take-numbers : (s : Summary) (t : List ℕ) (w : Word) → among (takenNumber (takenAnswer s t w)) (0 ∷ takeNumbers) ≡ true
-unfolding takenAnswer wordTaken any
-take-numbers s t w =
-    answered takeNumbers (wordTaken s t w) (refuses-test _ _ _ (refuses-test _ _ _ (refuses-test _ _ _ (refuses-test _ _ _ (refuses-test _ _ _ (refuses-end _))))))
+unfolding takenAnswer
+take-numbers s t w = answered takeNumbers (wordTaken s t w) (take-refuses s t w)

@@ -14,11 +14,11 @@ use Rattle.nets.specs.Fits.{Fits}
 use Rattle.nets.specs.Weights.{Weighs, weighed-permits}
 
 module _ (n : ℕ) (log : Log) (s : Step) (w : Weights) (h : T (weightsHold n log s w)) where
-  terms-allowed : (t : Term) → List·Memᴰ t (w .terms) → T (allowed n log (t .step))
+  pub terms-allowed : (t : Term) → List·Memᴰ t (w .terms) → T (allowed n log (t .step))
   unfolding weightsHold
   terms-allowed t m = all-member (λ t. allowed n log (t .step)) (w .terms) (search (and-l, and-r)) m
 
-  weighs : Weighs n s (w .k) (w .terms)
+  pub weighs : Weighs n s (w .k) (w .terms)
   unfolding weightsHold weighsBefore weighsAfter
   weighs = record {
     positive = leb→le 1 (w .k) (search (and-l, and-r));

@@ -12,6 +12,8 @@ pub mod Joining
 pub mod Scaling
 pub mod Acceptance
 pub mod Comparison
+pub mod Tallies
+pub mod Order
 pub mod CountLaws
 pub mod Events
 pub mod Markings
@@ -19,6 +21,7 @@ pub mod LogLaws
 pub mod TokenGame
 pub mod Regions
 pub mod SeparationProblems
+pub mod RegionCertificates
 pub mod ParikhClosure
 pub mod Wide
 pub mod Traffic

@@ -31,7 +31,7 @@ module _ (old : List Counts) (v : Counts) where
       go true e = member→ v old (subst T (sym e) tt)
       go false e = Memᴰ·append-right old (List·Memᴰ·head refl)
 
-  addRow-cases : {x : Counts} → List·Memᴰ x (addRow old v) → List·Memᴰ x old ⊎ (x ≡ v)
+  pub addRow-cases : {x : Counts} → List·Memᴰ x (addRow old v) → List·Memᴰ x old ⊎ (x ≡ v)
   unfolding addRow
   addRow-cases {x} m = go (member v old) m
     where
@@ -107,7 +107,7 @@ module _ (n : ℕ) (log : Log) where
       apart (x ∷ l) d zero some there q = absurd (omega arith)
       apart (x ∷ l) d (suc r) some there q = d .0 (Memᴰ·cast (sym q) (getD-member l r [] (omega arith)))
 
-  rowSteps→ : (v : Counts) (s : Step) → List·Memᴰ s (rowSteps n v) → (s .row ≡ v) × (s .event < n)
+  pub rowSteps→ : (v : Counts) (s : Step) → List·Memᴰ s (rowSteps n v) → (s .row ≡ v) × (s .event < n)
   unfolding rowSteps
   rowSteps→ v s m =
       let r = tabulate-inverse n (λ e. record { row = v; event = e }) m in

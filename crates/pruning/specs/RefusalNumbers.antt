@@ -14,7 +14,7 @@ use Rattle.pruning.specs.Pruning.{pruning}
 abbrev pub pruneNumbers : List ℕ
 pruneNumbers = judgeNumbers ++ OUTPUT-SHORT ∷ []
 
-pruning-refuses : (tableSize : ℕ) (b : List ℕ) → Refuses pruneNumbers (pruning tableSize b)
+pub pruning-refuses : (tableSize : ℕ) (b : List ℕ) → Refuses pruneNumbers (pruning tableSize b)
 unfolding pruning all any
 pruning-refuses tableSize b = refuses-then (refuses-wider tt (judged-refuses tableSize .only b 0)) (λ i. refuses-value _)
 

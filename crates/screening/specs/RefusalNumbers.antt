@@ -16,18 +16,18 @@ use Rattle.bundles.specs.HeadReading.{head-refuses}
 use Rattle.screening.specs.Screening.{STOPPED, screening, joining, replayed, screenedOf, screened, screenedJoined, screenedNumber}
 use Rattle.screening.specs.Causes.{word-refuses}
 
-abbrev behindNumbers : List ℕ
+abbrev pub behindNumbers : List ℕ
 behindNumbers = BUNDLE-LENGTH ∷ BUNDLE-END ∷ VALUE ∷ EVENTS ∷ WORD-EVENT ∷ []
 
-screening-refuses : (b : List ℕ) (w : Word) → Refuses (WORD-LENGTH ∷ behindNumbers) (screening b w)
+pub screening-refuses : (b : List ℕ) (w : Word) → Refuses (WORD-LENGTH ∷ behindNumbers) (screening b w)
 unfolding screening all any
 screening-refuses b w = refuses-test (leb (length w) MAX-WORD-EVENTS) WORD-LENGTH MAX-WORD-EVENTS
     (refuses-then (refuses-wider tt (head-refuses b)) (λ h. refuses-wider tt (word-refuses w (h .events) (toNet h))))
 
-abbrev joinNumbers : List ℕ
+abbrev pub joinNumbers : List ℕ
 joinNumbers = BUNDLE-LENGTH ∷ BUNDLE-END ∷ VALUE ∷ EVENTS ∷ EVENT-COUNTS ∷ WORD-EVENT ∷ []
 
-joining-refuses : (first second : List ℕ) (w : Word) → Refuses (WORD-LENGTH ∷ joinNumbers) (joining first second w)
+pub joining-refuses : (first second : List ℕ) (w : Word) → Refuses (WORD-LENGTH ∷ joinNumbers) (joining first second w)
 unfolding joining all any
 joining-refuses first second w = refuses-test (leb (length w) MAX-WORD-EVENTS) WORD-LENGTH MAX-WORD-EVENTS
     (refuses-then (refuses-wider tt (head-refuses first)) (λ one.

@@ -21,6 +21,9 @@ use Rattle.verdicts.specs.declared.Verdict.the-variants.{Accepted, Refus
 pub record Computed : Type 0 where
   -- E: one row, no allowed step, one certificate of kind 0
   pub acceptedE : verdict TABLE (1 ∷ 0 ∷ 1 ∷ 0 ∷ 0 ∷ 0 ∷ 0 ∷ 1 ∷ 0 ∷ 0 ∷ 0 ∷ []) ≡ Accepted (record { rows = 1; allowed = 0; «by_place» = 1; «by_weights» = 0 })
+  -- the log of the word 0 over 2 events: four different counts. One place refuses each wrong continuation: 2 rows, 1 allowed step, 3 of kind 0
+  pub acceptedFour : verdict TABLE (2 ∷ 1 ∷ 1 ∷ 0 ∷ 1 ∷ 1 ∷ 0 ∷ 0 ∷ 0 ∷ 0 ∷ 0 ∷ 1 ∷ 0 ∷ 2 ∷ 0 ∷ 0 ∷ 0 ∷ 0 ∷ 0 ∷ 0 ∷ 0 ∷ [])
+      ≡ Accepted (record { rows = 2; allowed = 1; «by_place» = 3; «by_weights» = 0 })
   -- E, and a byte behind it
   pub refused13 : verdict TABLE (1 ∷ 0 ∷ 1 ∷ 0 ∷ 0 ∷ 0 ∷ 0 ∷ 1 ∷ 0 ∷ 0 ∷ 0 ∷ 0 ∷ []) ≡ Refused (refusal BYTES-FOLLOW 11)
   -- a place that does not fit
@@ -30,4 +33,4 @@ pub record Computed : Type 0 where
 
 pub computed : Computed
 unfolding all any keep tabulate equal numberAt sumℤ firstFailing rightSize bind same occurrences eventCount weighed beginnings prefixes addRow counts tokens surplus placePermits rows allowed rowSteps continuations allowedSteps wrongContinuations fits refusedBy weighsBefore weighsAfter weightsHold solves isByPlace tally flatMap onward require field byte number each toPlace toNet toTerm toCertificate toBundle wordAfter word place places headAfter head bundleSize term weights ofKind certificate unsolved solved atEnd afterHead contents judging judged verdictOf verdict
-computed = record { acceptedE = refl; refused13 = refl; refused10 = refl; refusedG = refl }
+computed = record { acceptedE = refl; acceptedFour = refl; refused13 = refl; refused10 = refl; refusedG = refl }
