@@ -5,14 +5,15 @@ use mathlib.Core.Path.{_≡_}
 use mathlib.Core.Bool.{true}
 use mathlib.Core.Logic.{_↔_, _⊎_}
 use mathlib.Core.List.{List, [], _∷_}
-use Prim.Native.Nat.{ℕ, _≤_, _<_}
+use Prim.Native.Nat.{ℕ, _+_, _≤_, _<_}
 use lib.ListN.{length, getD}
 use Rattle.laws.specs.Lists.{among}
 use Rattle.refusals.specs.Results.{refused}
 use Rattle.refusals.specs.Answers.{refusal}
-use Rattle.nets.specs.Nets.{Word}
+use Rattle.nets.specs.Nets.{Word, Log, eventCount}
 use Rattle.bundles.specs.Layout.{Head, HeadInFront}
 use Rattle.bundles.specs.Readers.{head, anyRows, eventsIn}
+use Rattle.beginnings.specs.Beginnings.{BeginsHead, InFront, HeadEnds, HeadDeparts, WordDue, lengthByte}
 use Rattle.screening.specs.Screening.{screened, screenedJoined}
 use Rattle.screening.specs.Screens.{Readable}
 use Rattle.screening.specs.declared.Screened.the-variants as screening
@@ -28,6 +29,18 @@ pub record ScreenExactly (b : List ℕ) (w : Word) : Type 0 where
   -- 6, 7 and 8 are those of the reader of the head, field by field as for the judge
   pub fields : (number : ℕ) → among number (6 ∷ 7 ∷ 8 ∷ []) ≡ true → (spot : ℕ) → (screened b w ≡ screening.Refused (refusal number spot))
       ↔ ((length w ≤ 65535) × (1 ≤ length b) × (length b ≤ 64512) × (head anyRows b 0 ≡ refused number spot))
+  -- .. and without the reader, of heads within their limits (crates/beginnings/specs/Beginnings.antt).
+  -- 'bundle ends before or inside a field | 6 | offset of the field': all that is there is a beginning of some head, and no whole head
+  pub short : ((spot : ℕ) × (screened b w ≡ screening.Refused (refusal 6 spot)))
+      ↔ ((length w ≤ 65535) × (1 ≤ length b) × (length b ≤ 64512) × BeginsHead b × (InFront b → ⊥))
+  pub ends : (spot : ℕ) → screened b w ≡ screening.Refused (refusal 6 spot) → HeadEnds b spot
+  -- 'value outside its range .. | 7', 'events would pass 1,024 | 8': before the byte at the offset it is such a beginning, with it no longer
+  pub departs : (spot : ℕ) → ((screened b w ≡ screening.Refused (refusal 7 spot)) ⊎ (screened b w ≡ screening.Refused (refusal 8 spot)))
+      ↔ ((length w ≤ 65535) × (1 ≤ length b) × (length b ≤ 64512) × HeadDeparts b spot × (InFront b → ⊥))
+  -- 'events would pass 1,024 | 8 | offset of the length byte': behind the words of `log`, with the length byte of the next one
+  pub events-pass : (spot : ℕ) → (screened b w ≡ screening.Refused (refusal 8 spot))
+      ↔ ((length w ≤ 65535) × (1 ≤ length b) × (length b ≤ 64512) × ((n : ℕ) × (log : Log) × (size : ℕ) × (rest : List ℕ) × WordDue b n log (size ∷ rest)
+      × (1024 < eventCount log + size) × (spot ≡ lengthByte log)))
   -- 'screened event not below n | 15 | its position': the first one; the bundle is the bytes of a head in its limits, then any rest
   pub event : (spot : ℕ) → (screened b w ≡ screening.Refused (refusal 15 spot))
       ↔ ((length w ≤ 65535) × (length b ≤ 64512) × ((h : Head) × (rest : List ℕ) × HeadInFront b h rest
