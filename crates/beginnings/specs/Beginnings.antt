@@ -5,8 +5,7 @@ use mathlib.Core.List.{List, [], _∷_, _++_, flatMap}
 use Prim.Native.Nat.{ℕ, _+_, _≤_, _<_}
 use lib.ListN.{length, getD, take}
 use Rattle.laws.specs.Every.{Every}
-use Rattle.limits.specs.Limits.{MAX-EVENTS, MAX-LOG-EVENTS}
-use Rattle.nets.specs.Nets.{Log, eventCount}
+use Rattle.nets.specs.Nets.{Word, Log, eventCount, rows}
 use Rattle.bundles.specs.Layout.{Head, WordInLimits, HeadInLimits, HeadInFront, CertificateInLimits, wordBytes, headBytes, certificateBytes, rowsIn}
 
 -- l is a beginning of the bytes of some value within its limits
@@ -71,13 +70,31 @@ CertificateDeparts h l p = Departs (BeginsCertificate h) l p 1 ⊎ (Departs (Beg
 -- ---- A word that is due: l is n, the word count, then fewer words, those of `log`, within their limits, then `rest`
 
 pub record WordDue (l : List ℕ) (n : ℕ) (log : Log) (rest : List ℕ) : Type 0 where
-  pub events : (1 ≤ n) × (n ≤ MAX-EVENTS)
+  pub events : (1 ≤ n) × (n ≤ 12)
   pub count : ℕ
   pub layout : l ≡ n ∷ count ∷ (flatMap wordBytes log ++ rest)
   pub fewer : length log < count
   pub words : Every (WordInLimits n) log
-  pub logEvents : eventCount log ≤ MAX-LOG-EVENTS
+  pub logEvents : eventCount log ≤ 1024
 
 -- the offset of its length byte
 abbrev pub lengthByte : Log → ℕ
 lengthByte log = length (flatMap wordBytes log) + 2
+
+-- with its length byte the events pass 1,024
+pub record EventsPass (l : List ℕ) (n : ℕ) (log : Log) (p : ℕ) : Type 0 where
+  pub size : ℕ
+  pub rest : List ℕ
+  pub due : WordDue l n log (size ∷ rest)
+  pub over : 1024 < eventCount log + size
+  pub offset : p ≡ lengthByte log
+
+-- it is there, within its limits, and with it the rows pass 256
+pub record RowsPass (l : List ℕ) (n : ℕ) (log : Log) (p : ℕ) : Type 0 where
+  pub word : Word
+  pub rest : List ℕ
+  pub due : WordDue l n log (wordBytes word ++ rest)
+  pub limits : WordInLimits n word
+  pub events : eventCount log + length word ≤ 1024
+  pub over : 256 < length (rows n (log ++ word ∷ []))
+  pub offset : p ≡ lengthByte log

@@ -13,20 +13,21 @@ use Rattle.laws.specs.Lists.{any}
 use Rattle.laws.specs.Numbers.{Bytes, bytes-append, bytes-take}
 use Rattle.limits.specs.Limits.{MAX-ROWS}
 use Rattle.refusals.specs.Table.{BUNDLE-END}
-use Rattle.refusals.specs.Results.{refused, bind}
+use Rattle.refusals.specs.Results.{refused}
 use Rattle.nets.specs.Nets.{rows, prefixes, addRow}
 use Rattle.nets.specs.LogLaws.{rows-longer}
-use Rattle.bundles.specs.Reading.{got, Reader, onward, _>>=_, give, byte}
-use Rattle.bundles.specs.Layout.{PlaceFields, CertificateFields, kind0, kind1, Head, HeadInLimits, CertificateInLimits, certificateBytes, rowsIn, wordsIn}
+use Rattle.bundles.specs.Reading.{got, give, byte}
+use Rattle.bundles.specs.Layout.{CertificateFields, kind0, kind1, Head, HeadInLimits, CertificateInLimits, certificateBytes, rowsIn}
+use Rattle.bundles.specs.Layout.{wordsIn}
 use Rattle.bundles.specs.Readers.{ofKind, certificate}
 use Rattle.bundles.specs.ReadingLaws.{Law, field-got}
 use Rattle.bundles.specs.LayoutLaws.{law-certificate}
 use Rattle.bundles.specs.Bytes.{bytes-certificate}
 use Rattle.bundles.specs.Causes.{andThen-refused, field-refused}
-use Rattle.beginnings.specs.Beginnings.{Begins, BeginsCertificate, Departs, NoPlace, NoRow, CertificateEnds, CertificateDeparts}
-use Rattle.beginnings.specs.Locals.{local-certificate, local-kind, local-ofKind}
-use Rattle.beginnings.specs.Filling.{Filled, Fills, filled-behind, filled-law}
-use Rattle.beginnings.specs.Fillings.{Never, fills-weights, fills-listed}
+use Rattle.beginnings.specs.Beginnings.{BeginsCertificate, Departs, NoPlace, NoRow, CertificateEnds, CertificateDeparts}
+use Rattle.beginnings.specs.Locals.{local-certificate, local-kind}
+use Rattle.beginnings.specs.Filling.{Filled, filled-behind, filled-law}
+use Rattle.beginnings.specs.Fillings.{fills-weights, fills-listed}
 use Rattle.beginnings.specs.Stops.{filled-begins, ends-at, cut-at, departs-at}
 
 no-item : {A : Type 0} (l : List A) → length l < 1 → l ≡ []
@@ -39,7 +40,8 @@ unfolding rows prefixes addRow flatMap any
 some-row h = rows-longer (h .events) [] (wordsIn h)
 
 -- a certificate is refused at its first byte, or behind it
-pub from-first : (h : Head) (done l : List ℕ) (k spot : ℕ) → certificate h (done ++ l) (length done) ≡ refused k spot → (p : ℕ) × (spot ≡ length done + p)
+pub from-first : (h : Head) (done l : List ℕ) (k spot : ℕ) → certificate h (done ++ l) (length done) ≡ refused k spot
+    → (p : ℕ) × (spot ≡ length done + p)
 from-first h done l k spot e =
     let s = local-certificate h .stop (done ++ l) (length done) k spot (omega (arith, length-append done l)) e in
     (spot - length done, omega (arith, s .from))
@@ -78,14 +80,16 @@ module _ (h : Head) (limits : HeadInLimits h) (rowCount : length (rowsIn h) ≤ 
     -- how a certificate is refused with 6: it can be filled; or it is of kind 0, and there is no place; or inside a row's number
     Refused6 : List ℕ → ℕ → Type 0
     Refused6 l p = Filled (certificate h) (done ++ l) (length done) ⊎ (NoPlace h l p
-        ⊎ (((rest : List ℕ) × (l ≡ 1 ∷ rest)) × (length (done ++ l) ≡ length done + p + 1) × (length (rowsIn h) ≤ getD (done ++ l) (length done + p) 0)))
+        ⊎ (((rest : List ℕ) × (l ≡ 1 ∷ rest)) × (length (done ++ l) ≡ length done + p + 1)
+        × (length (rowsIn h) ≤ getD (done ++ l) (length done + p) 0)))
 
     module _ (l : List ℕ) (p : ℕ) (bytes : Bytes (done ++ l)) where
       start : length done ≤ length (done ++ l)
       start = omega (arith, length-append done l)
 
       -- kind 0
-      of-place : (mid : ℕ) → byte (λ kind. leb kind 1) (done ++ l) (length done) ≡ got 0 mid → ofKind h 0 (done ++ l) mid ≡ refused BUNDLE-END (length done + p) → Refused6 l p
+      of-place : (mid : ℕ) → byte (λ kind. leb kind 1) (done ++ l) (length done) ≡ got 0 mid
+          → ofKind h 0 (done ++ l) mid ≡ refused BUNDLE-END (length done + p) → Refused6 l p
       unfolding Refused6 certificate ofKind byte
       of-place mid is q =
           let k = kind-read l 0 mid is in
@@ -94,7 +98,8 @@ module _ (h : Head) (limits : HeadInLimits h) (rowCount : length (rowsIn h) ≤ 
           (λ stops. let at = field-refused 1 _ (λ j. ltb j (length (h .places))) (done ++ l) mid BUNDLE-END (length done + p) .0 stops .0 in
           inr (inl (record { places = no-item (h .places) none; kind = k .2; number = omega (arith, at, k .1) })))
           (λ (j, end, _, never). impossible cc)
-          (andThen-refused (done ++ l) (byte (λ j. ltb j (length (h .places))) (done ++ l) mid) (λ j. give (kind0 j)) BUNDLE-END (length done + p) .0 q))
+          (andThen-refused (done ++ l) (byte (λ j. ltb j (length (h .places))) (done ++ l) mid) (λ j. give (kind0 j)) BUNDLE-END
+          (length done + p) .0 q))
           (λ place. ⊎-elim
           (λ t. inl (filled-behind (local-kind h) (ofKind h) (done ++ l) (length done) 0 mid start is t))
           (λ (end, never). absurd never)
@@ -102,7 +107,8 @@ module _ (h : Head) (limits : HeadInLimits h) (rowCount : length (rowsIn h) ≤ 
           (lt-or-le (length (h .places)) 1)
 
       -- kind 1
-      of-weights : (mid : ℕ) → byte (λ kind. leb kind 1) (done ++ l) (length done) ≡ got 1 mid → ofKind h 1 (done ++ l) mid ≡ refused BUNDLE-END (length done + p) → Refused6 l p
+      of-weights : (mid : ℕ) → byte (λ kind. leb kind 1) (done ++ l) (length done) ≡ got 1 mid
+          → ofKind h 1 (done ++ l) mid ≡ refused BUNDLE-END (length done + p) → Refused6 l p
       unfolding Refused6 certificate
       of-weights mid is q = ⊎-elim
           (λ t. inl (filled-behind (local-kind h) (ofKind h) (done ++ l) (length done) 1 mid start is t))
@@ -121,7 +127,8 @@ module _ (h : Head) (limits : HeadInLimits h) (rowCount : length (rowsIn h) ≤ 
           (λ (kind, mid, is, q). by kind mid is q)
           (andThen-refused (done ++ l) (byte (λ kind. leb kind 1) (done ++ l) (length done)) (ofKind h) BUNDLE-END (length done + p) .0 e)
         where
-          by : (kind mid : ℕ) → byte (λ kind. leb kind 1) (done ++ l) (length done) ≡ got kind mid → ofKind h kind (done ++ l) mid ≡ refused BUNDLE-END (length done + p) → Refused6 l p
+          by : (kind mid : ℕ) → byte (λ kind. leb kind 1) (done ++ l) (length done) ≡ got kind mid
+              → ofKind h kind (done ++ l) mid ≡ refused BUNDLE-END (length done + p) → Refused6 l p
           by zero mid is q = of-place mid is q
           by (suc zero) mid is q = of-weights mid is q
           by (suc (suc k)) mid is q = absurd (omega (arith, kind-read l (suc (suc k)) mid is .0))
@@ -159,14 +166,16 @@ module _ (h : Head) (limits : HeadInLimits h) (rowCount : length (rowsIn h) ≤ 
         apart : ((rest : List ℕ) × (l ≡ 1 ∷ rest)) → ((rest : List ℕ) × (l ≡ 0 ∷ rest)) → ⊥
         apart (_, one) (_, none) = let same : _≡_ {A = ℕ} 0 1 = ap (λ (t : List ℕ). getD t 0 0) (sym none ∙ one) in omega (arith, same)
 
-        no-row : ((rest : List ℕ) × (l ≡ 1 ∷ rest)) → length (done ++ l) ≡ length done + p + 1 → length (rowsIn h) ≤ getD (done ++ l) (length done + p) 0 → NoRow h l p
+        no-row : ((rest : List ℕ) × (l ≡ 1 ∷ rest)) → length (done ++ l) ≡ length done + p + 1
+            → length (rowsIn h) ≤ getD (done ++ l) (length done + p) 0 → NoRow h l p
         no-row kind half low = record {
           half = omega (arith, half, length-append done l);
           before = ⊎-elim (λ s. s) (λ none. absurd (apart kind (kind-whole l p 0 (none .kind)))) (before l p BUNDLE-END bytes e);
           low = subst (λ (x : ℕ). length (rowsIn h) ≤ x) (getD-append-add done l p 0) low;
         }
 
-    pub certificate-departs : (l : List ℕ) (p k : ℕ) → (k ≡ BUNDLE-END → ⊥) → Bytes (done ++ l) → certificate h (done ++ l) (length done) ≡ refused k (length done + p)
+    pub certificate-departs : (l : List ℕ) (p k : ℕ) → (k ≡ BUNDLE-END → ⊥) → Bytes (done ++ l)
+        → certificate h (done ++ l) (length done) ≡ refused k (length done + p)
         → CertificateDeparts h l p
     certificate-departs l p k other bytes e =
         let front = subst Bytes (take-append-seam done l) (bytes-take (length done) (done ++ l) bytes) in

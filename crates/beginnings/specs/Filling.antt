@@ -1,11 +1,10 @@
 -- A bundle that ends too early can be filled up: with more bytes behind it, it is read to its end.
 use mathlib.Core.Path.{_≡_, refl, sym, ap, ap₂, _∙_, subst}
-use mathlib.Core.Bool.{Bool, true, false}
+use mathlib.Core.Bool.{Bool, true}
 use mathlib.Core.Logic.{_⊎_, inl, inr, ⊎-elim}
 use mathlib.Core.List.{List, [], _∷_, _++_, append-assoc, append-nil}
 use Prim.Native.Nat.{ℕ, zero, suc, _+_, _*_, _/_, _%_, _≤_, _<_}
 use native.Mathlib.Nat.{mod-eq-of-lt}
-use native.Mathlib.Numerals.{add-one}
 use native.Mathlib.Omega.{arith}
 use lib.Dec.{T}
 use lib.ListN.{length, getD, drop, length-append, drop-of-length-le}
@@ -17,7 +16,7 @@ use Rattle.refusals.specs.Results.{refused, bind}
 use Rattle.bundles.specs.Reading.{got, Reader, onward, _>>=_, give, offset, require, byte, number, each, times}
 use Rattle.bundles.specs.ReadingLaws.{Part, Law, andThen-got, field-got, law-byte, law-number}
 use Rattle.bundles.specs.Causes.{andThen-refused, field-refused}
-use Rattle.beginnings.specs.Local.{alike-less, alike-more, Local, local-offset}
+use Rattle.beginnings.specs.Local.{alike-less, alike-more, Local}
 
 -- with `more` behind it, b is read from `at` to its end
 pub record Filled {A : Type 0} (r : Reader A) (b : List ℕ) (at : ℕ) : Type 0 where
@@ -37,7 +36,8 @@ pub record Fills {A : Type 0} (Half : ℕ → Type 0) (r : Reader A) (P : A → 
 
 module _ {Size : ℕ → Type 0} {A B : Type 0} {r : Reader A} (local : Local Size r) where
   -- the first is filled, then the second
-  filled-then : (f : A → Reader B) (b : List ℕ) (at : ℕ) (s : Filled r b at) → Filled (f (s .item)) (b ++ s .more) (length (b ++ s .more)) → Filled (r >>= f) b at
+  filled-then : (f : A → Reader B) (b : List ℕ) (at : ℕ) (s : Filled r b at) → Filled (f (s .item)) (b ++ s .more) (length (b ++ s .more))
+      → Filled (r >>= f) b at
   unfolding bind onward
   filled-then f b at s t =
       let whole = append-assoc b (s .more) (t .more) in
@@ -46,12 +46,14 @@ module _ {Size : ℕ → Type 0} {A B : Type 0} {r : Reader A} (local : Local Si
         bytes = subst Bytes whole (t .bytes);
         item = t .item;
         read = subst (λ (l : List ℕ). (r >>= f) l at ≡ got (t .item) (length l)) whole
-            (rw (local .read (b ++ s .more) ((b ++ s .more) ++ t .more) at (s .item) (length (b ++ s .more)) (s .read) (alike-more (b ++ s .more) (t .more)))
+            (rw (local .read (b ++ s .more) ((b ++ s .more) ++ t .more) at (s .item) (length (b ++ s .more)) (s .read)
+            (alike-more (b ++ s .more) (t .more)))
             (t .read));
       }
 
   -- the first is there, and the second is filled
-  pub filled-behind : (f : A → Reader B) (b : List ℕ) (at : ℕ) (x : A) (mid : ℕ) → at ≤ length b → r b at ≡ got x mid → Filled (f x) b mid → Filled (r >>= f) b at
+  pub filled-behind : (f : A → Reader B) (b : List ℕ) (at : ℕ) (x : A) (mid : ℕ) → at ≤ length b → r b at ≡ got x mid → Filled (f x) b mid
+      → Filled (r >>= f) b at
   unfolding bind onward
   filled-behind f b at x mid h is t = record {
     more = t .more;
@@ -60,7 +62,8 @@ module _ {Size : ℕ → Type 0} {A B : Type 0} {r : Reader A} (local : Local Si
     read = rw (local .read b (b ++ t .more) at x mid is (alike-less (local .within b at x mid is h) (alike-more b (t .more)))) (t .read);
   }
 
-  pub fills-then : {f : A → Reader B} {Half : ℕ → Type 0} {P : A → Type 0} {Q : B → Type 0} → Fills Half r P → ((x : A) → P x → Fills Half (f x) Q) → Fills Half (r >>= f) Q
+  pub fills-then : {f : A → Reader B} {Half : ℕ → Type 0} {P : A → Type 0} {Q : B → Type 0} → Fills Half r P → ((x : A) → P x
+      → Fills Half (f x) Q) → Fills Half (r >>= f) Q
   fills-then {f} {Half} {P} {Q} first rest = record {
     holds = λ b bytes at y next e.
         let s = andThen-got b (r b at) f y next e in
@@ -74,20 +77,30 @@ module _ {Size : ℕ → Type 0} {A B : Type 0} {r : Reader A} (local : Local Si
   }
     where
       on : (b : List ℕ) (at : ℕ) → Filled r b at → Filled (r >>= f) b at
-      on b at s = filled-then f b at s (rest (s .item) (first .holds (b ++ s .more) (s .bytes) at (s .item) _ (s .read)) .starts (b ++ s .more) (s .bytes))
+      on b at s = filled-then f b at s
+          (rest (s .item) (first .holds (b ++ s .more) (s .bytes) at (s .item) _ (s .read)) .starts (b ++ s .more) (s .bytes))
+
+-- no more is needed
+nothing-more : {A : Type 0} {r : Reader A} (b : List ℕ) → Bytes b → (x : A) → r b (length b) ≡ got x (length b) → Filled r b (length b)
+nothing-more {r = r} b bytes x e = record {
+  more = [];
+  bytes = rw append-nil bytes;
+  item = x;
+  read = subst (λ (l : List ℕ). r l (length b) ≡ got x (length l)) (sym (append-nil b)) e;
+}
 
 module _ {Half : ℕ → Type 0} where
   pub fills-give : {A : Type 0} {P : A → Type 0} (x : A) → P x → Fills Half (give x) P
   fills-give {A} {P} x p = record {
     holds = λ b bytes at y next e. let same : x ≡ y = cc in subst P same p;
-    starts = λ b bytes. record { more = []; bytes = rw append-nil bytes; item = x; read = ap (λ (l : List ℕ). got x (length l)) (sym (append-nil b)) };
+    starts = λ b bytes. nothing-more b bytes x refl;
     ends = λ b bytes at spot h e. impossible cc;
   }
 
   pub fills-offset : Fills Half offset (λ start. Unit {0})
   fills-offset = record {
     holds = λ b bytes at y next e. tt;
-    starts = λ b bytes. record { more = []; bytes = rw append-nil bytes; item = length b; read = ap (λ (l : List ℕ). got (length b) (length l)) (sym (append-nil b)) };
+    starts = λ b bytes. nothing-more b bytes (length b) refl;
     ends = λ b bytes at spot h e. impossible cc;
   }
 
@@ -97,14 +110,16 @@ module _ {Half : ℕ → Type 0} where
   fills-passed number spot = fills-give tt tt
 
   -- items for a list: what holds of those before is handed on
-  module _ {Size : ℕ → Type 0} {S A : Type 0} {r : S → List A → Reader A} {P : List A → Type 0} (local : (s : S) (before : List A) → Local Size (r s before))
+  module _ {Size : ℕ → Type 0} {S A : Type 0} {r : S → List A → Reader A} {P : List A → Type 0}
+      (local : (s : S) (before : List A) → Local Size (r s before))
       (every : (s : S) (before : List A) → P before → Fills Half (r s before) (λ x. P (before ++ x ∷ []))) where
     pub fills-each : (ss : List S) (before : List A) → P before → Fills Half (each r ss before) P
     unfolding each
     fills-each [] before p = fills-give before p
     fills-each (s ∷ ss) before p = fills-then (local s before) (every s before p) (λ x q. fills-each ss (before ++ x ∷ []) q)
 
-  pub fills-times : {Size : ℕ → Type 0} {A : Type 0} {r : Reader A} {P : A → Type 0} → Local Size r → Fills Half r P → (k : ℕ) → Fills Half (times k r) (λ xs. Unit {0})
+  pub fills-times : {Size : ℕ → Type 0} {A : Type 0} {r : Reader A} {P : A → Type 0} → Local Size r → Fills Half r P → (k : ℕ)
+      → Fills Half (times k r) (λ xs. Unit {0})
   fills-times {r = r} local one k = fills-each {P = λ xs. Unit {0}} (λ s before. local) (λ s before u. less one) _ [] tt
     where
       less : {Q : _ → Type 0} → Fills Half r Q → Fills Half r (λ x. Unit {0})
@@ -113,7 +128,10 @@ module _ {Half : ℕ → Type 0} where
 -- ---- by the law of a reader: a valid value is written behind the bundle
 
 pub part-end : (b x : List ℕ) → Part (b ++ x) (length b) x (length (b ++ x))
-part-end b x = record { bytes = drop-append-seam b x ∙ sym (ap (λ (l : List ℕ). x ++ l) (drop-length (b ++ x)) ∙ append-nil x); end = length-append b x }
+part-end b x = record {
+  bytes = drop-append-seam b x ∙ sym (ap (λ (l : List ℕ). x ++ l) (drop-length (b ++ x)) ∙ append-nil x);
+  end = length-append b x;
+}
 
 pub filled-law : {A : Type 0} {r : Reader A} {write : A → List ℕ} {Valid : A → Type 0} (b : List ℕ) (x : A) → Bytes (b ++ write x)
     → Law (b ++ write x) r write Valid → Valid x → Filled r b (length b)
@@ -154,7 +172,8 @@ module _ {Half : ℕ → Type 0} (inRange : ℕ → Bool) (good : ℕ) (allowed 
         filled-law b good bytes′ (law-number (b ++ le16 good) bytes′ inRange) (allowed, small)
 
     -- the high byte
-    number-half : (b : List ℕ) → Bytes b → (at up : ℕ) → length b ≡ at + 1 → up < 256 → T (inRange (getD b at 0 + 256 * up)) → Filled (number inRange) b at
+    number-half : (b : List ℕ) → Bytes b → (at up : ℕ) → length b ≡ at + 1 → up < 256 → T (inRange (getD b at 0 + 256 * up))
+        → Filled (number inRange) b at
     number-half b bytes at up end below t =
         let low : ℕ = getD b at 0 in
         let x : ℕ = low + 256 * up in
@@ -192,13 +211,15 @@ module _ {Half : ℕ → Type 0} (inRange : ℕ → Bool) (good : ℕ) (allowed 
           (q .1);
     }
       where
-        inside : (b : List ℕ) → Bytes b → (at spot : ℕ) → spot ≡ at → length b ≡ at + 1 → Filled (number inRange) b at ⊎ ((length b ≡ spot + 1) × Half (getD b spot 0))
+        inside : (b : List ℕ) → Bytes b → (at spot : ℕ) → spot ≡ at → length b ≡ at + 1
+            → Filled (number inRange) b at ⊎ ((length b ≡ spot + 1) × Half (getD b spot 0))
         inside b bytes at spot here end = ⊎-elim
             (λ (up, below, t). inl (number-half b bytes at up end below t))
             (λ half. inr (omega (arith, here, end), subst (λ (i : ℕ). Half (getD b i 0)) (sym here) half))
             (high (getD b at 0) (bytes at))
 
-        go : (b : List ℕ) → Bytes b → (at spot : ℕ) → spot ≡ at → at ≤ length b → length b < at + 2 → Filled (number inRange) b at ⊎ ((length b ≡ spot + 1) × Half (getD b spot 0))
+        go : (b : List ℕ) → Bytes b → (at spot : ℕ) → spot ≡ at → at ≤ length b → length b < at + 2
+            → Filled (number inRange) b at ⊎ ((length b ≡ spot + 1) × Half (getD b spot 0))
         go b bytes at spot here h short = ⊎-elim
             (λ less. let end : length b ≡ at = omega (arith, h, less) in inl (subst (Filled (number inRange) b) end (number-starts b bytes)))
             (λ most. inside b bytes at spot here (omega (arith, most, short)))

@@ -1,29 +1,30 @@
 -- The readers of a head and of a certificate can be filled (Filling.antt): by words without events, by zeros, by k = 1.
-use mathlib.Core.Path.{_≡_, refl, sym, ap, _∙_, subst}
+use mathlib.Core.Path.{_≡_, refl, subst}
 use mathlib.Core.Bool.{Bool, true, false, _&&_}
 use mathlib.Core.Logic.{_⊎_, inl, inr, ⊎-elim}
 use mathlib.Core.List.{List, [], _∷_, _++_}
-use Prim.Native.Nat.{ℕ, zero, suc, _+_, _*_, _≤_, _<_}
+use Prim.Native.Nat.{ℕ, _+_, _*_, _≤_, _<_}
 use native.Mathlib.Omega.{arith}
 use lib.Dec.{T, leb, ltb, leb→le, le→leb, lt→ltb}
 use lib.Ieee.Fits.{and-l, and-r}
 use lib.ListN.{length, getD}
-use Rattle.laws.specs.Booleans.{impossible, lt-or-le}
+use Rattle.laws.specs.Booleans.{lt-or-le}
 use Rattle.laws.specs.Every.{every-member}
 use Rattle.laws.specs.Numbers.{Bytes, bytes-append}
 use Rattle.limits.specs.Limits.{MAX-EVENTS, MAX-LOG-EVENTS, MAX-PLACES, MAX-TERMS}
 use Rattle.refusals.specs.Table.{BUNDLE-END, EVENTS, ROWS}
 use Rattle.refusals.specs.Results.{refused, bind}
-use Rattle.nets.specs.Nets.{Word, Log, eventCount}
+use Rattle.nets.specs.Nets.{Log, eventCount}
 use Rattle.nets.specs.LogLaws.{eventCount-snoc}
-use Rattle.bundles.specs.Reading.{Read, got, Reader, onward, _>>=_, _>>_, require, byte, number, times}
-use Rattle.bundles.specs.Layout.{Head, WordInLimits, wordBytes, rowsIn}
+use Rattle.bundles.specs.Reading.{got, onward, _>>_, require, byte, number, times}
+use Rattle.bundles.specs.Layout.{Head, wordBytes, rowsIn}
 use Rattle.bundles.specs.Readers.{anything, wordAfter, word, place, places, headAfter, head, anyRows, term, weights, ofKind}
 use Rattle.bundles.specs.LayoutLaws.{law-wordAfter}
 use Rattle.bundles.specs.Causes.{andThen-refused, field-refused}
 use Rattle.beginnings.specs.Local.{Local, local-offset, local-passed, local-byte, local-number, local-any, local-each, local-times}
 use Rattle.beginnings.specs.Locals.{OneByte, OneOrTwo, local-wordAfter, local-word, local-place, local-places, local-term}
-use Rattle.beginnings.specs.Filling.{Filled, Fills, filled-behind, filled-law, fills-then, fills-give, fills-offset, fills-passed, fills-each, fills-times, fills-byte, fills-number, bytes-one}
+use Rattle.beginnings.specs.Filling.{Filled, Fills, filled-behind, filled-law, fills-then, fills-give, fills-offset, fills-passed, fills-each}
+use Rattle.beginnings.specs.Filling.{fills-times, fills-byte, fills-number, bytes-one}
 
 -- any number, in a bundle where a low byte is never so
 fills-any : {Half : ℕ → Type 0} → Fills Half (number anything) (λ x. Unit {0})
@@ -37,7 +38,8 @@ Never low = ⊥
 
 -- the events of a word, which follow its length byte
 fills-events : (n : ℕ) → 1 ≤ n → (size : ℕ) → Fills Never (times size (byte (λ e. ltb e n))) (λ w. Unit {0})
-fills-events n some size = fills-times {Size = OneByte} (local-byte refl (λ e. ltb e n)) (fills-byte (λ e. ltb e n) 0 (lt→ltb 0 n some) (omega arith)) size
+fills-events n some size = fills-times {Size = OneByte} (local-byte refl (λ e. ltb e n))
+    (fills-byte (λ e. ltb e n) 0 (lt→ltb 0 n some) (omega arith)) size
 
 module _ (n : ℕ) (some : 1 ≤ n) (most : n ≤ 256) (count : ℕ) (few : count ≤ MAX-LOG-EVENTS) where
   -- by a word without events
@@ -57,7 +59,8 @@ module _ (n : ℕ) (some : 1 ≤ n) (most : n ≤ 256) (count : ℕ) (few : coun
   word-behind b bytes at spot size mid h is true t e =
       let local : Local OneByte (byte anything) = local-byte refl anything in
       ⊎-elim
-      (λ s. let whole = filled-behind local (λ k. require (leb (count + k) MAX-LOG-EVENTS) EVENTS at >> times k (byte (λ e. ltb e n))) b at size mid h is
+      (λ s. let whole = filled-behind local (λ k. require (leb (count + k) MAX-LOG-EVENTS) EVENTS at >> times k (byte (λ e. ltb e n))) b at size
+      mid h is
       (record { more = s .more; bytes = s .bytes; item = s .item; read = rw t (s .read) }) in
       record { more = whole .more; bytes = whole .bytes; item = whole .item; read = whole .read })
       (λ (end, never). absurd never)
@@ -79,7 +82,8 @@ module _ (n : ℕ) (some : 1 ≤ n) (most : n ≤ 256) (count : ℕ) (few : coun
   }
 
 -- a word, behind words with at most 1,024 events
-fills-word : (n : ℕ) → 1 ≤ n → n ≤ 256 → (log : Log) → eventCount log ≤ MAX-LOG-EVENTS → Fills Never (word (anyRows n) n log) (λ w. eventCount (log ++ w ∷ []) ≤ MAX-LOG-EVENTS)
+fills-word : (n : ℕ) → 1 ≤ n → n ≤ 256 → (log : Log) → eventCount log ≤ MAX-LOG-EVENTS
+    → Fills Never (word (anyRows n) n log) (λ w. eventCount (log ++ w ∷ []) ≤ MAX-LOG-EVENTS)
 unfolding word
 fills-word n some most log few =
     fills-then {Size = OneByte} local-offset fills-offset
@@ -106,14 +110,16 @@ unfolding headAfter eventCount
 fills-headAfter n some most =
     fills-then {Size = OneByte} (local-byte refl anything) (fills-byte anything 0 tt (omega arith))
     (λ count _. fills-then (local-each (λ s. local-word n) _ [])
-    (fills-each {P = λ log. eventCount log ≤ MAX-LOG-EVENTS} (λ s. local-word n) (λ s log few. fills-word n some (omega (arith, most)) log few) _ [] (omega arith))
+    (fills-each {P = λ log. eventCount log ≤ MAX-LOG-EVENTS} (λ s. local-word n)
+    (λ s log few. fills-word n some (omega (arith, most)) log few) _ [] (omega arith))
     (λ log _. fills-then (local-places n) (fills-places n)
     (λ ps _. fills-give _ tt)))
 
 pub fills-head : Fills Never (head anyRows) (λ h. Unit {0})
 unfolding head
 fills-head =
-    fills-then {Size = OneByte} (local-byte refl (λ n. leb 1 n && leb n MAX-EVENTS)) (fills-byte (λ n. leb 1 n && leb n MAX-EVENTS) 1 tt (omega arith))
+    fills-then {Size = OneByte} (local-byte refl (λ n. leb 1 n && leb n MAX-EVENTS))
+    (fills-byte (λ n. leb 1 n && leb n MAX-EVENTS) 1 tt (omega arith))
     (λ n t. fills-headAfter n (leb→le 1 n (and-l (leb 1 n) (leb n MAX-EVENTS) t)) (leb→le n MAX-EVENTS (and-r (leb 1 n) (leb n MAX-EVENTS) t)))
 
 -- ---- a certificate, behind a head with an event and a row
@@ -134,7 +140,8 @@ module _ (h : Head) where
         (λ event _. fills-then {Size = OneOrTwo} local-any fills-any (λ weight _. fills-give _ tt)))
       where
         high : (low : ℕ) → low < 256 → ((up : ℕ) × (up < 256) × T (ltb (low + 256 * up) (length (rowsIn h)))) ⊎ NoSuchRow low
-        high low small = ⊎-elim (λ less. inl (0, omega arith, lt→ltb (low + 256 * 0) (length (rowsIn h)) (omega (arith, less)))) inr (lt-or-le low (length (rowsIn h)))
+        high low small = ⊎-elim (λ less. inl (0, omega arith, lt→ltb (low + 256 * 0) (length (rowsIn h)) (omega (arith, less)))) inr
+            (lt-or-le low (length (rowsIn h)))
 
     pub fills-weights : Fills NoSuchRow (ofKind h 1) (λ c. Unit {0})
     unfolding ofKind weights
@@ -148,5 +155,6 @@ module _ (h : Head) where
   pub fills-listed : 1 ≤ length (h .places) → Fills Never (ofKind h 0) (λ c. Unit {0})
   unfolding ofKind
   fills-listed place =
-      fills-then {Size = OneOrTwo} (local-byte (inl refl) (λ j. ltb j (length (h .places)))) (fills-byte (λ j. ltb j (length (h .places))) 0 (lt→ltb 0 _ place) (omega arith))
+      fills-then {Size = OneOrTwo} (local-byte (inl refl) (λ j. ltb j (length (h .places))))
+      (fills-byte (λ j. ltb j (length (h .places))) 0 (lt→ltb 0 _ place) (omega arith))
       (λ j _. fills-give _ tt)

@@ -8,7 +8,7 @@ use native.Mathlib.Nat.{zero-add}
 use native.Mathlib.Omega.{arith}
 use borrow.Author.Tests.{eqb-true}
 use lib.Dec.{eqb}
-use lib.ListN.{length, take, drop, take-append-drop}
+use lib.ListN.{take, drop, take-append-drop}
 use lib.Seq.{take-take}
 use Rattle.laws.specs.Booleans.{impossible, true-or-false, lt-or-le}
 use Rattle.laws.specs.Lists.{any, among}
@@ -16,9 +16,9 @@ use Rattle.laws.specs.Numbers.{Bytes, bytes-take}
 use Rattle.refusals.specs.Table.{BUNDLE-END, ROWS}
 use Rattle.refusals.specs.Results.{Result, value, refused, bind}
 use Rattle.nets.specs.Nets.{Word, Log, eventCount}
-use Rattle.bundles.specs.Reading.{Read, item, Reader, onward, andThen, give, require, each}
+use Rattle.bundles.specs.Reading.{Read, item, onward, andThen, give, require, each}
 use Rattle.bundles.specs.Layout.{Head, HeadInLimits, headBytes}
-use Rattle.bundles.specs.Readers.{firstByte, anything, wordAfter, word, places, headAfter, head, anyRows}
+use Rattle.bundles.specs.Readers.{firstByte, wordAfter, word, headAfter, head, anyRows}
 use Rattle.bundles.specs.ReadingLaws.{Law, law-same}
 use Rattle.bundles.specs.LayoutLaws.{law-head}
 use Rattle.bundles.specs.Limits.{head→limits, limits→head, got→front, front→got}
@@ -26,7 +26,6 @@ use Rattle.bundles.specs.Refusing.{reader-head}
 use Rattle.bundles.specs.Bytes.{bytes-head}
 use Rattle.beginnings.specs.Beginnings.{BeginsHead, InFront, HeadEnds, HeadDeparts}
 use Rattle.beginnings.specs.Locals.{local-head}
-use Rattle.beginnings.specs.Filling.{Filled}
 use Rattle.beginnings.specs.Fillings.{fills-head}
 use Rattle.beginnings.specs.Stops.{begins-less, filled-begins, ends-at, cut-at, departs-at}
 
@@ -55,13 +54,16 @@ module _ {A B : Type 0} where
 module _ (rowsFit : ℕ → Log → Bool) (b : List ℕ) where
   unlimited-word : (n : ℕ) (log : Log) (at : ℕ) → Unlimited (word (rowsFit n) n log b at) (word (anyRows n) n log b at)
   unfolding word bind onward require
-  unlimited-word n log at = unlimited-bind (wordAfter n (eventCount log) b at) (wordAfter n (eventCount log) b at) _ _ (inl refl) (elim [ item w next ↦ tested w next (rowsFit n (log ++ w ∷ [])) ])
+  unlimited-word n log at = unlimited-bind (wordAfter n (eventCount log) b at) (wordAfter n (eventCount log) b at) _ _ (inl refl)
+      (elim [ item w next ↦ tested w next (rowsFit n (log ++ w ∷ [])) ])
     where
-      tested : (w : Word) (next : ℕ) (ok : Bool) → Unlimited (andThen (require ok ROWS at b next) (λ u. give w) b) (andThen (require true ROWS at b next) (λ u. give w) b)
+      tested : (w : Word) (next : ℕ) (ok : Bool)
+          → Unlimited (andThen (require ok ROWS at b next) (λ u. give w) b) (andThen (require true ROWS at b next) (λ u. give w) b)
       tested w next true = inl refl
       tested w next false = inr (at, refl)
 
-  unlimited-each : (n : ℕ) {S : Type 0} (ss : List S) (log : Log) (at : ℕ) → Unlimited (each (λ s. word (rowsFit n) n) ss log b at) (each (λ s. word (anyRows n) n) ss log b at)
+  unlimited-each : (n : ℕ) {S : Type 0} (ss : List S) (log : Log) (at : ℕ)
+      → Unlimited (each (λ s. word (rowsFit n) n) ss log b at) (each (λ s. word (anyRows n) n) ss log b at)
   unfolding each onward
   unlimited-each n [] log at = inl refl
   unlimited-each n (s ∷ ss) log at = unlimited-bind (word (rowsFit n) n log b at) (word (anyRows n) n log b at) _ _ (unlimited-word n log at)
@@ -120,7 +122,10 @@ sooner b j k less s = subst BeginsHead (take-take j k b less) (shorter j (take k
 one-offset : (b : List ℕ) (s t : ℕ) → HeadDeparts b s → HeadDeparts b t → s ≡ t
 one-offset b s t d e = ⊎-elim
     (λ less. absurd (d .behind (sooner b (s + 1) t (omega (arith, less)) (e .before))))
-    (λ most. ⊎-elim (λ less. absurd (e .behind (sooner b (t + 1) s (omega (arith, less)) (d .before)))) (λ least. omega (arith, most, least)) (lt-or-le t s))
+    (λ most. ⊎-elim
+    (λ less. absurd (e .behind (sooner b (t + 1) s (omega (arith, less)) (d .before))))
+    (λ least. omega (arith, most, least))
+    (lt-or-le t s))
     (lt-or-le s t)
 
 -- the numbers of a head's refusals
@@ -154,22 +159,27 @@ module _ (b : List ℕ) (bytes : Bytes b) where
     where
       go : (m : Read Head) → head anyRows b 0 ≡ m → (k : ℕ) × (spot : ℕ) × (head anyRows b 0 ≡ refused k spot) × ((k ≡ 6) ⊎ ((k ≡ 7) ⊎ (k ≡ 8)))
       go (value (item h next)) e = absurd (none (h, drop next b, got→front anyRows (λ n. tt) (λ n log more t. tt) b bytes h next e .0))
-      go (refused k spot) e = (k, spot, e, three k (reader-head {numbers = 6 ∷ 7 ∷ 8 ∷ []} refl refl refl anyRows (λ n log. inl refl) .only b 0 .only k spot e))
+      go (refused k spot) e =
+          let refuses = reader-head {numbers = 6 ∷ 7 ∷ 8 ∷ []} refl refl refl anyRows (λ n log. inl refl) in
+          (k, spot, e, three k (refuses .only b 0 .only k spot e))
 
   -- 6: the bundle is a beginning of some head, and no whole one
   pub head-6 : ((spot : ℕ) × (head anyRows b 0 ≡ refused 6 spot)) ↔ (BeginsHead b × (InFront b → ⊥))
   head-6 = ((λ (spot, e). (head-ends b bytes spot e .beginning, not-front 6 spot e)), (λ (s, none). go s (stopped none)))
     where
-      go : BeginsHead b → (k : ℕ) × (spot : ℕ) × (head anyRows b 0 ≡ refused k spot) × ((k ≡ 6) ⊎ ((k ≡ 7) ⊎ (k ≡ 8))) → (spot : ℕ) × (head anyRows b 0 ≡ refused 6 spot)
+      go : BeginsHead b → (k : ℕ) × (spot : ℕ) × (head anyRows b 0 ≡ refused k spot) × ((k ≡ 6) ⊎ ((k ≡ 7) ⊎ (k ≡ 8)))
+          → (spot : ℕ) × (head anyRows b 0 ≡ refused 6 spot)
       go s (k, spot, e, which) = ⊎-elim
           (λ six. (spot, e ∙ ap (λ (n : ℕ). refused n spot) six))
-          (λ other. absurd (head-departs b bytes spot k (⊎-elim (λ is six. omega (arith, is, six)) (λ is six. omega (arith, is, six)) other) e .behind (shorter (spot + 1) b s)))
+          (λ other. let apart = ⊎-elim (λ is six. omega (arith, is, six)) (λ is six. omega (arith, is, six)) other in
+          absurd (head-departs b bytes spot k apart e .behind (shorter (spot + 1) b s)))
           which
 
   -- 7 or 8 at an offset: there it departs from every head, and has no whole one in front
   pub head-7-8 : (spot : ℕ) → ((head anyRows b 0 ≡ refused 7 spot) ⊎ (head anyRows b 0 ≡ refused 8 spot)) ↔ (HeadDeparts b spot × (InFront b → ⊥))
   head-7-8 spot = (
-    ⊎-elim (λ e. (head-departs b bytes spot 7 (λ e. omega (arith, e)) e, not-front 7 spot e)) (λ e. (head-departs b bytes spot 8 (λ e. omega (arith, e)) e, not-front 8 spot e)),
+    ⊎-elim (λ e. (head-departs b bytes spot 7 (λ e. omega (arith, e)) e, not-front 7 spot e))
+        (λ e. (head-departs b bytes spot 8 (λ e. omega (arith, e)) e, not-front 8 spot e)),
     (λ (d, none). go d (stopped none)),
   )
     where

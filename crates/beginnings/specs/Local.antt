@@ -1,20 +1,20 @@
 -- What a reader answers depends on the bytes that it has read: up to the offset behind an item, up to the end of a field that is refused.
-use mathlib.Core.Path.{_≡_, refl, sym, ap, _∙_, subst}
-use mathlib.Core.Bool.{Bool, true, false, false≢true}
+use mathlib.Core.Path.{_≡_, refl, sym, _∙_, subst}
+use mathlib.Core.Bool.{Bool, true, false≢true}
 use mathlib.Core.Logic.{_⊎_, inl, inr, ⊎-elim}
 use mathlib.Core.List.{List, [], _∷_, _++_}
-use Prim.Native.Nat.{ℕ, zero, suc, _+_, _*_, _≤_, _<_}
-use native.Mathlib.Nat.{le-trans, le-refl}
+use Prim.Native.Nat.{ℕ, _+_, _≤_, _<_}
+use native.Mathlib.Nat.{le-trans}
 use native.Mathlib.Omega.{arith}
-use lib.ListN.{length, getD, take, length-append, length-take, List·getD-append}
+use lib.ListN.{length, getD, take, length-append, List·getD-append}
 use lib.Seq.{getD-take, length-take-le}
 use Rattle.laws.specs.Booleans.{impossible}
 use Rattle.laws.specs.Numbers.{numberAt}
-use Rattle.refusals.specs.Table.{BUNDLE-END, VALUE}
+use Rattle.refusals.specs.Table.{BUNDLE-END}
 use Rattle.refusals.specs.Results.{refused, bind}
 use Rattle.bundles.specs.Reading.{got, Reader, onward, _>>=_, _>>_, give, offset, require, field, byte, number, each, times}
 use Rattle.bundles.specs.Readers.{anything}
-use Rattle.bundles.specs.ReadingLaws.{andThen-got, require-got, field-got, field-there}
+use Rattle.bundles.specs.ReadingLaws.{andThen-got, field-got, field-there}
 use Rattle.bundles.specs.Causes.{andThen-refused, field-refused}
 
 -- ---- two bundles that begin alike
@@ -58,7 +58,8 @@ module _ (Size : ℕ → Type 0) where
     pub to : spot ≤ length b
     pub cut : (c : List ℕ) → Alike spot b c → length c ≡ spot → r c at ≡ refused BUNDLE-END spot
     pub cause : ((k ≡ BUNDLE-END) × (length b ≤ spot + 1))
-        ⊎ ((k ≡ BUNDLE-END → ⊥) × ((size : ℕ) × Size size × (spot + size ≤ length b) × ((c : List ℕ) → Alike (spot + size) b c → r c at ≡ refused k spot)))
+        ⊎ ((k ≡ BUNDLE-END → ⊥) × ((size : ℕ) × Size size × (spot + size ≤ length b)
+        × ((c : List ℕ) → Alike (spot + size) b c → r c at ≡ refused k spot)))
 
   pub record Local {A : Type 0} (r : Reader A) : Type 0 where
     pub forth : (b : List ℕ) (at : ℕ) (x : A) (next : ℕ) → r b at ≡ got x next → at ≤ next
@@ -100,7 +101,8 @@ module _ {Size : ℕ → Type 0} where
     }
 
     -- and so is one of the second, behind what the first one read
-    pub stop-second : (f : A → Reader B) (b : List ℕ) (at k spot : ℕ) (x : A) (mid : ℕ) → r b at ≡ got x mid → Stop Size (f x) b mid k spot → Stop Size (r >>= f) b at k spot
+    pub stop-second : (f : A → Reader B) (b : List ℕ) (at k spot : ℕ) (x : A) (mid : ℕ) → r b at ≡ got x mid → Stop Size (f x) b mid k spot
+        → Stop Size (r >>= f) b at k spot
     unfolding bind onward
     stop-second f b at k spot x mid is s = record {
       from = le-trans (first .forth b at x mid is) (s .from);
@@ -186,7 +188,8 @@ module _ {Size : ℕ → Type 0} where
 
   pub local-byte : Size 1 → (inRange : ℕ → Bool) → Local Size (byte inRange)
   unfolding byte
-  local-byte one inRange = local-field 1 (omega arith) (omega arith) (λ b at. getD b at 0) (λ b c at same. same .same at (omega arith)) inRange (inl one)
+  local-byte one inRange = local-field 1 (omega arith) (omega arith) (λ b at. getD b at 0)
+      (λ b c at same. same .same at (omega arith)) inRange (inl one)
 
   pub local-number : (inRange : ℕ → Bool) → Size 2 ⊎ ((x : ℕ) → inRange x ≡ true) → Local Size (number inRange)
   unfolding number

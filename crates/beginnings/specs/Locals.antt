@@ -1,24 +1,24 @@
 -- The readers of a head and of a certificate answer by the bytes that they have read (Local.antt).
-use mathlib.Core.Path.{_≡_, refl, sym, ap, _∙_}
+use mathlib.Core.Path.{_≡_, refl, sym, _∙_}
 use mathlib.Core.Bool.{Bool, true, false}
 use mathlib.Core.Logic.{_⊎_, inl, inr, ⊎-elim}
-use mathlib.Core.List.{List, [], _∷_, _++_}
-use Prim.Native.Nat.{ℕ, zero, suc, _+_, _≤_, _<_}
+use mathlib.Core.List.{List, []}
+use Prim.Native.Nat.{ℕ, zero, suc, _+_, _≤_}
 use native.Mathlib.Nat.{le-trans}
 use native.Mathlib.Omega.{arith}
 use lib.Dec.{leb, ltb}
 use lib.ListN.{length, getD}
-use Rattle.laws.specs.Booleans.{impossible}
-use Rattle.limits.specs.Limits.{MAX-LOG-EVENTS, MAX-PLACES, MAX-TERMS}
+use Rattle.limits.specs.Limits.{MAX-LOG-EVENTS}
 use Rattle.refusals.specs.Table.{BUNDLE-END, EVENTS, ROWS}
 use Rattle.refusals.specs.Results.{refused, bind}
 use Rattle.nets.specs.Nets.{Log, eventCount}
-use Rattle.bundles.specs.Reading.{Read, got, Reader, onward, _>>=_, _>>_, give, offset, require, byte, times}
+use Rattle.bundles.specs.Reading.{Read, got, Reader, onward, _>>=_, _>>_, offset, require, byte}
 use Rattle.bundles.specs.Layout.{Head, rowsIn}
 use Rattle.bundles.specs.Readers.{anything, wordAfter, word, place, places, headAfter, head, anyRows, term, weights, ofKind, certificate}
 use Rattle.bundles.specs.ReadingLaws.{andThen-got, require-got, field-got}
 use Rattle.bundles.specs.Causes.{andThen-refused, field-refused}
-use Rattle.beginnings.specs.Local.{Alike, alike-less, Stop, Local, local-give, local-offset, local-passed, local-then, local-each, local-times, local-byte, local-number, local-any, stop-first, stop-second}
+use Rattle.beginnings.specs.Local.{alike-less, Stop, Local, local-give, local-offset, local-passed, local-then, local-each}
+use Rattle.beginnings.specs.Local.{local-times, local-byte, local-number, local-any, stop-first, stop-second}
 
 -- ---- a byte that is tested before what follows, and refused at its own offset
 
@@ -69,7 +69,8 @@ module _ {Size : ℕ → Type 0} (one : Size 1) {A : Type 0} (ok : ℕ → Bool)
       }
 
   -- and where what follows stops
-  stop-behind : (b : List ℕ) (at k spot x mid : ℕ) → at ≤ length b → byte anything b at ≡ got x mid → (t : Bool) → ok x ≡ t → behind at x b mid ≡ refused k spot
+  stop-behind : (b : List ℕ) (at k spot x mid : ℕ) → at ≤ length b → byte anything b at ≡ got x mid → (t : Bool) → ok x ≡ t
+      → behind at x b mid ≡ refused k spot
       → Stop Size (byte anything >>= behind at) b at k spot
   stop-behind b at k spot x mid h is false t e = stop-tested b at k spot x mid is t e
   stop-behind b at k spot x mid h is true t e =
@@ -124,7 +125,8 @@ local-wordAfter n count = local-tested refl (λ size. leb (count + size) MAX-LOG
 
 pub local-word : (n : ℕ) (log : Log) → Local OneByte (word (anyRows n) n log)
 unfolding word
-local-word n log = local-then local-offset (λ start. local-then (local-wordAfter n (eventCount log)) (λ w. local-then (local-passed ROWS start) (λ u. local-give w)))
+local-word n log = local-then local-offset
+    (λ start. local-then (local-wordAfter n (eventCount log)) (λ w. local-then (local-passed ROWS start) (λ u. local-give w)))
 
 pub local-place : (n : ℕ) → Local OneByte (place n)
 unfolding place
@@ -155,7 +157,8 @@ module _ (h : Head) where
 
   pub local-term : Local OneOrTwo (term (h .events) (length (rowsIn h)))
   unfolding term
-  local-term = local-then (local-number _ (inl (inr refl))) (λ row. local-then (local-byte one _) (λ event. local-then local-any (λ weight. local-give _)))
+  local-term = local-then (local-number _ (inl (inr refl)))
+      (λ row. local-then (local-byte one _) (λ event. local-then local-any (λ weight. local-give _)))
 
   pub local-ofKind : (kind : ℕ) → Local OneOrTwo (ofKind h kind)
   unfolding ofKind weights

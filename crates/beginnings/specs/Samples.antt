@@ -55,5 +55,6 @@ samples =
 
 pub samples-hold : all (λ s. equal (s .0) (s .1)) samples ≡ true
 unfolding samples headStop certificateStop stop oneWord head headAfter word wordAfter place places term weights ofKind certificate
-    field byte number require each bind onward numberAt eventCount rows prefixes addRow beginnings counts occurrences same flatMap tabulate all any equal
+    field byte number require each bind onward numberAt eventCount rows prefixes addRow
+    beginnings counts occurrences same flatMap tabulate all any equal
 samples-hold = refl

@@ -1,20 +1,20 @@
 -- Where a reader stops, by the bytes that it should read: from its law (what it reads is what is written), its being local and its being filled.
 use mathlib.Core.Path.{_≡_, refl, sym, ap, _∙_, subst}
 use mathlib.Core.Logic.{_⊎_, inl, inr, ⊎-elim}
-use mathlib.Core.List.{List, [], _∷_, _++_, append-assoc, append-nil}
-use Prim.Native.Nat.{ℕ, _+_, _≤_, _<_}
+use mathlib.Core.List.{List, _++_, append-assoc, append-nil}
+use Prim.Native.Nat.{ℕ, _+_, _≤_}
 use native.Mathlib.Nat.{add-assoc}
 use native.Mathlib.Omega.{arith}
-use lib.ListN.{length, getD, take, drop, length-append}
-use lib.Seq.{drop-length, drop-append-seam, take-append-add, length-take-le, take-append-seam}
+use lib.ListN.{length, take, drop, length-append}
+use lib.Seq.{drop-length, drop-append-seam, take-append-add, length-take-le}
 use Rattle.laws.specs.Booleans.{impossible, lt-or-le}
-use Rattle.laws.specs.Numbers.{Bytes, bytes-append, bytes-take}
+use Rattle.laws.specs.Numbers.{Bytes, bytes-append}
 use Rattle.refusals.specs.Table.{BUNDLE-END}
 use Rattle.refusals.specs.Results.{refused}
 use Rattle.bundles.specs.Reading.{Read, got, Reader}
-use Rattle.bundles.specs.ReadingLaws.{Law, Part}
+use Rattle.bundles.specs.ReadingLaws.{Law}
 use Rattle.beginnings.specs.Beginnings.{Begins, EndsAt}
-use Rattle.beginnings.specs.Local.{Alike, alike-front, alike-take, Local, Stop}
+use Rattle.beginnings.specs.Local.{Alike, alike-front, alike-take, Local}
 use Rattle.beginnings.specs.Filling.{Filled, part-end}
 
 -- a beginning's own beginning is one
@@ -28,8 +28,10 @@ module _ {A : Type 0} {Size : ℕ → Type 0} {r : Reader A} {write : A → List
   filled-begins l s =
       let c = (done ++ l) ++ s .more in
       let q = laws c (s .bytes) .sound (length done) (s .item) (length c) (s .read) in
-      let left : drop (length done) c ≡ l ++ s .more = ap (drop (length done)) (append-assoc done l (s .more)) ∙ drop-append-seam done (l ++ s .more) in
-      let right : drop (length done) c ≡ write (s .item) = q .1 .bytes ∙ ap (λ (t : List ℕ). write (s .item) ++ t) (drop-length c) ∙ append-nil (write (s .item)) in
+      let left : drop (length done) c ≡ l ++ s .more =
+      ap (drop (length done)) (append-assoc done l (s .more)) ∙ drop-append-seam done (l ++ s .more) in
+      let right : drop (length done) c ≡ write (s .item) =
+      q .1 .bytes ∙ ap (λ (t : List ℕ). write (s .item) ++ t) (drop-length c) ∙ append-nil (write (s .item)) in
       record { whole = s .item; limits = q .0; rest = s .more; bytes = sym right ∙ left }
 
   module _ (l : List ℕ) (p : ℕ) where
@@ -65,7 +67,10 @@ module _ {A : Type 0} {Size : ℕ → Type 0} {r : Reader A} {write : A → List
         → (size : ℕ) × Size size × (p + size ≤ length l) × (Begins write Valid (take (p + size) l) → ⊥)
     departs-at k other bytes e =
         let s = local .stop (done ++ l) (length done) k (length done + p) (omega (arith, size)) e in
-        ⊎-elim (λ (six, short). absurd (other six)) (λ (differs, (field, sized, there, again)). (field, sized, omega (arith, size, there), never field there again)) (s .cause)
+        ⊎-elim
+        (λ (six, short). absurd (other six))
+        (λ (differs, (field, sized, there, again)). (field, sized, omega (arith, size, there), never field there again))
+        (s .cause)
       where
         differ : {n spot next : ℕ} {x : A} → _≡_ {A = Read A} (refused n spot) (got x next) → ⊥
         differ e = impossible cc
@@ -78,8 +83,10 @@ module _ {A : Type 0} {Size : ℕ → Type 0} {r : Reader A} {write : A → List
             let front : take (length done + p + field) (done ++ l) ≡ done ++ take (p + field) l =
             ap (λ (n : ℕ). take n (done ++ l)) (add-assoc (length done) p field) ∙ take-append-add done l (p + field) in
             let same : take (length done + p + field) (done ++ l) ++ s .rest ≡ c =
-            ap (λ (t : List ℕ). t ++ s .rest) front ∙ append-assoc done (take (p + field) l) (s .rest) ∙ ap (λ (t : List ℕ). done ++ t) (sym (s .bytes)) in
-            let alike = subst (Alike (length done + p + field) (done ++ l)) same (alike-front (length done + p + field) (done ++ l) (s .rest) there) in
+            ap (λ (t : List ℕ). t ++ s .rest) front ∙ append-assoc done (take (p + field) l) (s .rest)
+            ∙ ap (λ (t : List ℕ). done ++ t) (sym (s .bytes)) in
+            let alike = subst (Alike (length done + p + field) (done ++ l)) same
+            (alike-front (length done + p + field) (done ++ l) (s .rest) there) in
             let bytes′ = bytes-append done (write (s .whole)) bytes (written (s .whole) (s .limits)) in
             let read = laws c bytes′ .complete (length done) (s .whole) (length c) (s .limits) (part-end done (write (s .whole))) in
             let refuses = again c alike in

@@ -13,9 +13,9 @@ use Rattle.refusals.specs.Answers.{refusal}
 use Rattle.nets.specs.Nets.{Word, Log, Step, noPlace, eventCount, rows}
 use Rattle.nets.specs.Fits.{Fits}
 use Rattle.bundles.specs.Reading.{got, byte, number}
-use Rattle.bundles.specs.Layout.{Head, Contents, WeightFields, kind0, kind1, wrongIn, toNet, wordBytes, bytesOf, wordsIn, WordInLimits}
+use Rattle.bundles.specs.Layout.{Head, Contents, WeightFields, kind0, kind1, wrongIn, toNet, bytesOf, wordsIn}
 use Rattle.bundles.specs.Readers.{head, wordAfter, word, certificate, rowsInLimit}
-use Rattle.beginnings.specs.Beginnings.{HeadEnds, HeadDeparts, CertificateEnds, CertificateDeparts, WordDue, lengthByte}
+use Rattle.beginnings.specs.Beginnings.{HeadEnds, HeadDeparts, CertificateEnds, CertificateDeparts, EventsPass, RowsPass}
 use Rattle.verdicts.specs.Judging.{verdict}
 use Rattle.verdicts.specs.Reached.{HeadThere, JudgedTo, CertificateDue, UnsolvedNext}
 use Rattle.verdicts.specs.declared.Verdict.the-variants as judging
@@ -66,14 +66,12 @@ pub record JudgeExactly (tableSize : ℕ) (b : List ℕ) : Type 0 where
   pub ends : (spot : ℕ) → verdict tableSize b ≡ judging.Refused (refusal 6 spot) → HeadEnds b spot ⊎ DueStops CertificateEnds b spot
   -- 'value outside its range, or a row, event or place that isn't there | 7 | offset of the field': before the field it is, with it no longer
   pub departs : (spot : ℕ) → verdict tableSize b ≡ judging.Refused (refusal 7 spot) → HeadDeparts b spot ⊎ DueStops CertificateDeparts b spot
-  -- 'events would pass 1,024 | 8 | offset of the length byte': behind the words of `log`, with the length byte of the next one
+  -- 'events would pass 1,024 | 8 | offset of the length byte': of the word that is due behind those of `log`
   pub events-pass : (spot : ℕ) → (verdict tableSize b ≡ judging.Refused (refusal 8 spot))
-      ↔ (Sized tableSize b × ((n : ℕ) × (log : Log) × (size : ℕ) × (rest : List ℕ) × WordDue b n log (size ∷ rest) × (length (rows n log) ≤ 256)
-      × (1024 < eventCount log + size) × (spot ≡ lengthByte log)))
-  -- 'rows would pass 256 | 9 | as for 8': with the next word, which is within its limits
+      ↔ (Sized tableSize b × ((n : ℕ) × (log : Log) × (length (rows n log) ≤ 256) × EventsPass b n log spot))
+  -- 'rows would pass 256 | 9 | as for 8'
   pub rows-pass : (spot : ℕ) → (verdict tableSize b ≡ judging.Refused (refusal 9 spot))
-      ↔ (Sized tableSize b × ((n : ℕ) × (log : Log) × (w : Word) × (rest : List ℕ) × WordDue b n log (wordBytes w ++ rest) × (length (rows n log) ≤ 256)
-      × WordInLimits n w × (eventCount log + length w ≤ 1024) × (256 < length (rows n (log ++ w ∷ []))) × (spot ≡ lengthByte log)))
+      ↔ (Sized tableSize b × ((n : ℕ) × (log : Log) × (length (rows n log) ≤ 256) × RowsPass b n log spot))
   -- 'a place doesn't fit | 10 | lowest such place'
   pub place : (spot : ℕ) → (verdict tableSize b ≡ judging.Refused (refusal 10 spot))
       ↔ (Sized tableSize b × ((h : Head) × (rest : List ℕ) × HeadThere b h rest × LowestMisfit h spot))

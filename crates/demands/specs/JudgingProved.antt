@@ -15,12 +15,13 @@ use Rattle.limits.specs.Limits.{MAX-ROWS, rightSize, rightSize-bounds, rightSiz
 use Rattle.refusals.specs.Table.{PLACE-MISFIT, PLACE-PERMITS, WEIGHTS, BYTES-FOLLOW}
 use Rattle.refusals.specs.Results.{refused}
 use Rattle.refusals.specs.Answers.{refusal}
-use Rattle.nets.specs.Nets.{Log, Step, Place, noPlace, fits, rows}
+use Rattle.nets.specs.Nets.{Log, Step, Place, noPlace, fits}
 use Rattle.nets.specs.Fits.{Fits, LogBelow}
 use Rattle.nets.specs.Regions.{region-permits, region-fits}
 use Rattle.logs.specs.Answers.{TABLE}
 use Rattle.bundles.specs.Reading.{byte, number}
-use Rattle.bundles.specs.Layout.{CertificateFields, WeightFields, kind0, kind1, Head, Contents, HeadInLimits, fitsIn, toNet, wordsIn, rowsIn, bytesOf, LogBelowIn}
+use Rattle.bundles.specs.Layout.{CertificateFields, WeightFields, kind0, kind1, Head, Contents, HeadInLimits, fitsIn, toNet, wordsIn, rowsIn}
+use Rattle.bundles.specs.Layout.{bytesOf, LogBelowIn}
 use Rattle.bundles.specs.Readers.{head, certificate, rowsInLimit, anyRows}
 use Rattle.bundles.specs.Limits.{log-below}
 use Rattle.bundles.specs.Refusing.{reader-certificate}
@@ -149,8 +150,8 @@ module _ (tableSize : ℕ) (b : List ℕ) (bytes : Bytes b) where
       (in-fields 7 refl spot .0 e .1)
 
   -- 8 and 9 are refusals of the head alone
-  in-word : (k : ℕ) → among k (6 ∷ 7 ∷ 8 ∷ 9 ∷ []) ≡ true → among k (6 ∷ 7 ∷ []) ≡ false → (spot : ℕ) {Y : Type 0} → (head rowsInLimit b 0 ≡ refused k spot) ↔ Y
-      → (verdict tableSize b ≡ verdicts.Refused (refusal k spot)) ↔ (Sized tableSize b × Y)
+  in-word : (k : ℕ) → among k (6 ∷ 7 ∷ 8 ∷ 9 ∷ []) ≡ true → among k (6 ∷ 7 ∷ []) ≡ false → (spot : ℕ) {Y : Type 0}
+      → (head rowsInLimit b 0 ≡ refused k spot) ↔ Y → (verdict tableSize b ≡ verdicts.Refused (refusal k spot)) ↔ (Sized tableSize b × Y)
   unfolding any
   in-word k listed other spot same = Iff·trans (in-fields k listed spot) (
     (λ (s, e). (s, same .0 (⊎-elim (λ q. q) (λ (d, _, rest, due, q). absurd (never d q)) e))),
@@ -172,15 +173,13 @@ judge-exactly tableSize b bytes = record {
   fields = in-fields tableSize b bytes;
   ends = ends tableSize b bytes;
   departs = departs tableSize b bytes;
-  events-pass = λ spot. in-word tableSize b bytes 8 refl refl spot (Iff·trans (head-8 rowsInLimit one-row few-rows b bytes spot) (
-    (λ (n, log, size, rest, due, few, over, here). (n, log, size, rest, due, leb→le _ MAX-ROWS few, over, here)),
-    (λ (n, log, size, rest, due, few, over, here). (n, log, size, rest, due, le→leb _ MAX-ROWS few, over, here)),
+  events-pass = λ spot. in-word tableSize b bytes 8 refl refl spot (Iff·trans (head-8 b bytes spot rowsInLimit one-row few-rows) (
+    (λ (n, log, few, e). (n, log, leb→le _ MAX-ROWS few, e)),
+    (λ (n, log, few, e). (n, log, le→leb _ MAX-ROWS few, e)),
   ));
-  rows-pass = λ spot. in-word tableSize b bytes 9 refl refl spot (Iff·trans (head-9 rowsInLimit one-row few-rows b bytes spot) (
-    (λ (n, log, w, rest, due, few, limits, events, over, here).
-        (n, log, w, rest, due, leb→le _ MAX-ROWS few, limits, events, less (length (rows n (log ++ w ∷ []))) MAX-ROWS .0 over, here)),
-    (λ (n, log, w, rest, due, few, limits, events, over, here).
-        (n, log, w, rest, due, le→leb _ MAX-ROWS few, limits, events, less (length (rows n (log ++ w ∷ []))) MAX-ROWS .1 over, here)),
+  rows-pass = λ spot. in-word tableSize b bytes 9 refl refl spot (Iff·trans (head-9 b bytes spot one-row few-rows) (
+    (λ (n, log, few, e). (n, log, leb→le _ MAX-ROWS few, e)),
+    (λ (n, log, few, e). (n, log, le→leb _ MAX-ROWS few, e)),
   ));
   place = λ spot. in-bundle tableSize b PLACE-MISFIT (λ e. omega (arith, e)) (λ e. omega (arith, e)) spot (Iff·trans (judging-10 b bytes spot) (
     (λ (h, rest, t, at, fails). (h, rest, t, misfit-exactly h (log-below h (t .front .limits)) spot .0 (at, fails))),

@@ -5,15 +5,15 @@ use mathlib.Core.Path.{_≡_}
 use mathlib.Core.Bool.{true}
 use mathlib.Core.Logic.{_↔_, _⊎_}
 use mathlib.Core.List.{List, [], _∷_}
-use Prim.Native.Nat.{ℕ, _+_, _≤_, _<_}
+use Prim.Native.Nat.{ℕ, _≤_, _<_}
 use lib.ListN.{length, getD}
 use Rattle.laws.specs.Lists.{among}
 use Rattle.refusals.specs.Results.{refused}
 use Rattle.refusals.specs.Answers.{refusal}
-use Rattle.nets.specs.Nets.{Word, Log, eventCount}
+use Rattle.nets.specs.Nets.{Word, Log}
 use Rattle.bundles.specs.Layout.{Head, HeadInFront}
 use Rattle.bundles.specs.Readers.{head, anyRows, eventsIn}
-use Rattle.beginnings.specs.Beginnings.{BeginsHead, InFront, HeadEnds, HeadDeparts, WordDue, lengthByte}
+use Rattle.beginnings.specs.Beginnings.{BeginsHead, InFront, HeadEnds, HeadDeparts, EventsPass}
 use Rattle.screening.specs.Screening.{screened, screenedJoined}
 use Rattle.screening.specs.Screens.{Readable}
 use Rattle.screening.specs.declared.Screened.the-variants as screening
@@ -37,10 +37,9 @@ pub record ScreenExactly (b : List ℕ) (w : Word) : Type 0 where
   -- 'value outside its range .. | 7', 'events would pass 1,024 | 8': before the byte at the offset it is such a beginning, with it no longer
   pub departs : (spot : ℕ) → ((screened b w ≡ screening.Refused (refusal 7 spot)) ⊎ (screened b w ≡ screening.Refused (refusal 8 spot)))
       ↔ ((length w ≤ 65535) × (1 ≤ length b) × (length b ≤ 64512) × HeadDeparts b spot × (InFront b → ⊥))
-  -- 'events would pass 1,024 | 8 | offset of the length byte': behind the words of `log`, with the length byte of the next one
+  -- 'events would pass 1,024 | 8 | offset of the length byte': of the word that is due behind those of `log`
   pub events-pass : (spot : ℕ) → (screened b w ≡ screening.Refused (refusal 8 spot))
-      ↔ ((length w ≤ 65535) × (1 ≤ length b) × (length b ≤ 64512) × ((n : ℕ) × (log : Log) × (size : ℕ) × (rest : List ℕ) × WordDue b n log (size ∷ rest)
-      × (1024 < eventCount log + size) × (spot ≡ lengthByte log)))
+      ↔ ((length w ≤ 65535) × (1 ≤ length b) × (length b ≤ 64512) × ((n : ℕ) × (log : Log) × EventsPass b n log spot))
   -- 'screened event not below n | 15 | its position': the first one; the bundle is the bytes of a head in its limits, then any rest
   pub event : (spot : ℕ) → (screened b w ≡ screening.Refused (refusal 15 spot))
       ↔ ((length w ≤ 65535) × (length b ≤ 64512) × ((h : Head) × (rest : List ℕ) × HeadInFront b h rest

@@ -63,9 +63,9 @@ screen-exactly b bytes w = record {
         (head-7-8 b bytes spot .1 (d, none))),
   );
   events-pass = λ spot. Iff·trans (in-head b w 8 refl spot)
-      (let law = head-8 anyRows (λ n. tt) (λ n log more t. tt) b bytes spot in (
-        (λ (few, some, most, e). let (n, log, size, rest, due, _, over, here) = law .0 e in (few, some, most, (n, log, size, rest, due, over, here))),
-        (λ (few, some, most, (n, log, size, rest, due, over, here)). (few, some, most, law .1 (n, log, size, rest, due, tt, over, here))),
+      (let law = head-8 b bytes spot anyRows (λ n. tt) (λ n log more t. tt) in (
+        (λ (few, some, most, e). let (n, log, _, over) = law .0 e in (few, some, most, (n, log, over))),
+        (λ (few, some, most, (n, log, over)). (few, some, most, law .1 (n, log, tt, over))),
       ));
   event = λ spot. Iff·trans (screen-15 b w bytes spot) (
     (λ (short, (right, (h, rest, f, at, fails))).
