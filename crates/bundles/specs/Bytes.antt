@@ -45,7 +45,7 @@ module _ (h : Head) (limits : HeadInLimits h) where
   unfolding wordBytes
   bytes-word w v = bytes-cons (length w) w (omega (arith, v .size)) (bytes-below (h .events) (omega (arith, limits .events .1)) w (v .events))
 
-  bytes-head : Bytes (headBytes h)
+  pub bytes-head : Bytes (headBytes h)
   unfolding headBytes frontBytes placesBytes
   bytes-head =
       let words = flatMap wordBytes (h .log) in
@@ -62,7 +62,7 @@ module _ (h : Head) (limits : HeadInLimits h) where
       bytes-append (le16 (t .row)) (t .event ∷ le16 (t .weight)) (bytes-le16 (t .row))
       (bytes-cons (t .event) (le16 (t .weight)) (omega (arith, v .event, limits .events .1)) (bytes-le16 (t .weight)))
 
-  bytes-certificate : (c : CertificateFields) → CertificateInLimits h c → Bytes (certificateBytes c)
+  pub bytes-certificate : (c : CertificateFields) → CertificateInLimits h c → Bytes (certificateBytes c)
   unfolding certificateBytes weightBytes
   bytes-certificate (kind0 j) v = bytes-cons 0 (j ∷ []) (omega arith) (bytes-cons j [] (omega (arith, v, limits .placesSize)) (λ i. omega arith))
   bytes-certificate (kind1 w) v =

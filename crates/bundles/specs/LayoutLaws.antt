@@ -87,7 +87,7 @@ module _ (b : List ℕ) (bytes : Bytes b) where
       (λ w v. (record { size = omega (arith, v .0 .1); events = λ e m. every-member (λ e. e < n) w (v .1 .1 .1) m }, leb→le _ _ (v .1 .0)))
       (λ w v. ((tt, omega (arith, v .0 .size)), (le→leb _ _ (v .1), (refl, every-intro (λ e. e < n) w (v .0 .events)))))
 
-  law-word : (rowsFit : Log → Bool) (n : ℕ) → n ≤ 256 → (log : Log) → Law b (word rowsFit n log) wordBytes (WordValid rowsFit n log)
+  pub law-word : (rowsFit : Log → Bool) (n : ℕ) → n ≤ 256 → (log : Log) → Law b (word rowsFit n log) wordBytes (WordValid rowsFit n log)
   unfolding word
   law-word rowsFit n small log =
       law-same b

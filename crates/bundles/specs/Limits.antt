@@ -31,14 +31,14 @@ unfolding headBytes frontBytes
 →size b h rest e most = rightSize-intro (length b) (omega (arith, ap length e)) most
 
 module _ (n : ℕ) (rowsFit : Log → Bool) (fewer : (log more : Log) → T (rowsFit (log ++ more)) → T (rowsFit log)) where
-  words→limits : (before log : Log) → eventCount before ≤ MAX-LOG-EVENTS → T (rowsFit before) → Following (WordValid rowsFit n) before log
+  pub words→limits : (before log : Log) → eventCount before ≤ MAX-LOG-EVENTS → T (rowsFit before) → Following (WordValid rowsFit n) before log
       → Every (WordInLimits n) log × (eventCount (before ++ log) ≤ MAX-LOG-EVENTS) × T (rowsFit (before ++ log))
   words→limits before [] e r v = (tt, rw append-nil e, rw append-nil r)
   words→limits before (w ∷ log) e r v =
       let s = words→limits (before ++ w ∷ []) log (omega (arith, eventCount-snoc before w, v .0 .logEvents)) (v .0 .rows) (v .1) in
       ((v .0 .word, s .0), rw append-assoc at (s .1), rw append-assoc at (s .2))
 
-  limits→words : (before log : Log) → Every (WordInLimits n) log → eventCount (before ++ log) ≤ MAX-LOG-EVENTS → T (rowsFit (before ++ log)) → Following (WordValid rowsFit n) before log
+  pub limits→words : (before log : Log) → Every (WordInLimits n) log → eventCount (before ++ log) ≤ MAX-LOG-EVENTS → T (rowsFit (before ++ log)) → Following (WordValid rowsFit n) before log
   limits→words before [] v e r = tt
   limits→words before (w ∷ log) v e r =
       let whole = append-assoc before (w ∷ []) log in

@@ -26,7 +26,6 @@ use Rattle.logs.specs.Answers.{TABLE, rightEventCount, rightSummary, takenOf, l
 use Rattle.logs.specs.declared.Summary.{Summary}
 use Rattle.logs.specs.declared.Taken.{Taken}
 use Rattle.logs.specs.declared.Taken.the-variants as taking
-use Rattle.verdicts.specs.declared.Verdict.the-variants as judging
 use Rattle.numbers.specs.Numbers.{withValue, withTaken}
 use Rattle.demands.specs.BlockOrder.{withoutBlock, withBlockTwice}
 use Rattle.demands.specs.Alterations.{swapped, ThreeUncaught}

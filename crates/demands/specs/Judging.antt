@@ -10,11 +10,12 @@ use Rattle.laws.specs.Lists.{among}
 use Rattle.laws.specs.Numbers.{numberAt}
 use Rattle.refusals.specs.Results.{refused}
 use Rattle.refusals.specs.Answers.{refusal}
-use Rattle.nets.specs.Nets.{Word, Log, Step, noPlace, eventCount}
+use Rattle.nets.specs.Nets.{Word, Log, Step, noPlace, eventCount, rows}
 use Rattle.nets.specs.Fits.{Fits}
 use Rattle.bundles.specs.Reading.{got, byte, number}
 use Rattle.bundles.specs.Layout.{Head, Contents, WeightFields, kind0, kind1, wrongIn, toNet, bytesOf, wordsIn}
 use Rattle.bundles.specs.Readers.{head, wordAfter, word, certificate, rowsInLimit}
+use Rattle.beginnings.specs.Beginnings.{HeadEnds, HeadDeparts, CertificateEnds, CertificateDeparts, EventsPass, RowsPass}
 use Rattle.verdicts.specs.Judging.{verdict}
 use Rattle.verdicts.specs.Reached.{HeadThere, JudgedTo, CertificateDue, UnsolvedNext}
 use Rattle.verdicts.specs.declared.Verdict.the-variants as judging
@@ -36,6 +37,16 @@ pub record LowestMisfit (h : Head) (j : ℕ) : Type 0 where
   pub misfit : Fits (h .events) (wordsIn h) (getD (toNet h) j noPlace) → ⊥
   pub lower : (i : ℕ) → i < j → Fits (h .events) (wordsIn h) (getD (toNet h) i noPlace)
 
+-- the certificate that is due stops, as its own bytes say, at an offset from its first one
+pub record DueStops (Stops : Head → List ℕ → ℕ → Type 0) (b : List ℕ) (spot : ℕ) : Type 0 where
+  pub contents : Contents
+  pub step : Step
+  pub rest : List ℕ
+  pub due : CertificateDue b contents step rest
+  pub behind : ℕ
+  pub offset : spot ≡ length (bytesOf contents) + behind
+  pub stops : Stops (contents .head) rest behind
+
 -- ---- Judge: 4, 5, then bundle order
 
 pub record JudgeExactly (tableSize : ℕ) (b : List ℕ) : Type 0 where
@@ -49,6 +60,18 @@ pub record JudgeExactly (tableSize : ℕ) (b : List ℕ) : Type 0 where
       ↔ (Sized tableSize b × ((head rowsInLimit b 0 ≡ refused k spot)
       ⊎ ((d : Contents) × (s : Step) × (rest : List ℕ) × CertificateDue b d s rest
       × (certificate (d .head) b (length (bytesOf d)) ≡ refused k spot))))
+  -- .. and without the readers, of heads and certificates within their own limits (crates/beginnings/specs/Beginnings.antt): the size of the whole
+  -- bundle, its rows, and whether a certificate solves its step do not come into it.
+  -- 'bundle ends before or inside a field | 6 | offset of the field': all that is there is a beginning of some head, or of some such certificate
+  pub ends : (spot : ℕ) → verdict tableSize b ≡ judging.Refused (refusal 6 spot) → HeadEnds b spot ⊎ DueStops CertificateEnds b spot
+  -- 'value outside its range, or a row, event or place that isn't there | 7 | offset of the field': before the field it is, with it no longer
+  pub departs : (spot : ℕ) → verdict tableSize b ≡ judging.Refused (refusal 7 spot) → HeadDeparts b spot ⊎ DueStops CertificateDeparts b spot
+  -- 'events would pass 1,024 | 8 | offset of the length byte': of the word that is due behind those of `log`
+  pub events-pass : (spot : ℕ) → (verdict tableSize b ≡ judging.Refused (refusal 8 spot))
+      ↔ (Sized tableSize b × ((n : ℕ) × (log : Log) × (length (rows n log) ≤ 256) × EventsPass b n log spot))
+  -- 'rows would pass 256 | 9 | as for 8'
+  pub rows-pass : (spot : ℕ) → (verdict tableSize b ≡ judging.Refused (refusal 9 spot))
+      ↔ (Sized tableSize b × ((n : ℕ) × (log : Log) × (length (rows n log) ≤ 256) × RowsPass b n log spot))
   -- 'a place doesn't fit | 10 | lowest such place'
   pub place : (spot : ℕ) → (verdict tableSize b ≡ judging.Refused (refusal 10 spot))
       ↔ (Sized tableSize b × ((h : Head) × (rest : List ℕ) × HeadThere b h rest × LowestMisfit h spot))

@@ -10,9 +10,10 @@ use lib.ListN.{length, getD}
 use Rattle.laws.specs.Lists.{among}
 use Rattle.refusals.specs.Results.{refused}
 use Rattle.refusals.specs.Answers.{refusal}
-use Rattle.nets.specs.Nets.{Word}
+use Rattle.nets.specs.Nets.{Word, Log}
 use Rattle.bundles.specs.Layout.{Head, HeadInFront}
 use Rattle.bundles.specs.Readers.{head, anyRows, eventsIn}
+use Rattle.beginnings.specs.Beginnings.{BeginsHead, InFront, HeadEnds, HeadDeparts, EventsPass}
 use Rattle.screening.specs.Screening.{screened, screenedJoined}
 use Rattle.screening.specs.Screens.{Readable}
 use Rattle.screening.specs.declared.Screened.the-variants as screening
@@ -28,6 +29,17 @@ pub record ScreenExactly (b : List ℕ) (w : Word) : Type 0 where
   -- 6, 7 and 8 are those of the reader of the head, field by field as for the judge
   pub fields : (number : ℕ) → among number (6 ∷ 7 ∷ 8 ∷ []) ≡ true → (spot : ℕ) → (screened b w ≡ screening.Refused (refusal number spot))
       ↔ ((length w ≤ 65535) × (1 ≤ length b) × (length b ≤ 64512) × (head anyRows b 0 ≡ refused number spot))
+  -- .. and without the reader, of heads within their limits (crates/beginnings/specs/Beginnings.antt).
+  -- 'bundle ends before or inside a field | 6 | offset of the field': all that is there is a beginning of some head, and no whole head
+  pub short : ((spot : ℕ) × (screened b w ≡ screening.Refused (refusal 6 spot)))
+      ↔ ((length w ≤ 65535) × (1 ≤ length b) × (length b ≤ 64512) × BeginsHead b × (InFront b → ⊥))
+  pub ends : (spot : ℕ) → screened b w ≡ screening.Refused (refusal 6 spot) → HeadEnds b spot
+  -- 'value outside its range .. | 7', 'events would pass 1,024 | 8': before the byte at the offset it is such a beginning, with it no longer
+  pub departs : (spot : ℕ) → ((screened b w ≡ screening.Refused (refusal 7 spot)) ⊎ (screened b w ≡ screening.Refused (refusal 8 spot)))
+      ↔ ((length w ≤ 65535) × (1 ≤ length b) × (length b ≤ 64512) × HeadDeparts b spot × (InFront b → ⊥))
+  -- 'events would pass 1,024 | 8 | offset of the length byte': of the word that is due behind those of `log`
+  pub events-pass : (spot : ℕ) → (screened b w ≡ screening.Refused (refusal 8 spot))
+      ↔ ((length w ≤ 65535) × (1 ≤ length b) × (length b ≤ 64512) × ((n : ℕ) × (log : Log) × EventsPass b n log spot))
   -- 'screened event not below n | 15 | its position': the first one; the bundle is the bytes of a head in its limits, then any rest
   pub event : (spot : ℕ) → (screened b w ≡ screening.Refused (refusal 15 spot))
       ↔ ((length w ≤ 65535) × (length b ≤ 64512) × ((h : Head) × (rest : List ℕ) × HeadInFront b h rest

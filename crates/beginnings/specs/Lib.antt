@@ -1,0 +1,10 @@
+pub mod Beginnings
+pub mod Local
+pub mod Locals
+pub mod Filling
+pub mod Fillings
+pub mod Stops
+pub mod Heads
+pub mod Certificates
+pub mod Words
+pub mod Samples
