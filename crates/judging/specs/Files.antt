@@ -15,7 +15,7 @@ use Rattle.verdicts.specs.Judging.{judged, verdictOf, verdict, tableAfter}
 use Rattle.verdicts.specs.declared.Verdict.{Verdict}
 use Rattle.verdicts.specs.declared.Verdict.the-variants as verdicts
 
--- a file opened into a room of so many bytes, its bundle judged with a table of so many numbers: 1, then 17, 18 or 2, then 3, then the judge's refusals
+-- a file opened into so much room, its bundle judged with a table of so many numbers: 1, then 17, 18 or 2, then 3, then the judge's refusals
 unfoldable pub fileJudged : List ℕ → ℕ → ℕ → Read Contents
 fileJudged file roomSize tableSize = do
   b ← fitted (opened file) roomSize
