@@ -31,8 +31,10 @@ module _ (b : List ℕ) (bytes : Bytes b) (tableSize : ℕ) where
       let below = log-below (headOf b) (f .1 .limits .head) in
       let is = sym (f .1 .counts) in
       record {
-        row-count = subst (Cardinality (PrefixCounts (eventsIn b) (logIn b))) (ap (λ (t : Tally). t .rows) is) (row-count (toBundle d) below (f .1 .accepted));
-        allowed-count = subst (Cardinality (Follows (eventsIn b) (logIn b))) (ap (λ (t : Tally). t .allowed) is) (allowed-count (toBundle d) below (f .1 .accepted));
+        row-count = subst (Cardinality (PrefixCounts (eventsIn b) (logIn b)))
+            (ap (λ (t : Tally). t .rows) is) (row-count (toBundle d) below (f .1 .accepted));
+        allowed-count = subst (Cardinality (Follows (eventsIn b) (logIn b)))
+            (ap (λ (t : Tally). t .allowed) is) (allowed-count (toBundle d) below (f .1 .accepted));
         kind-0 = subst (Cardinality (λ s. WrongContinuation (eventsIn b) (logIn b) s × T (not (netPermits (eventsIn b) (netIn b) s))))
             (ap (λ (t : Tally). t .«by_place») is) (refused-count (toBundle d) below (f .1 .accepted));
         kind-1 = subst (Cardinality (λ s. WrongContinuation (eventsIn b) (logIn b) s × T (netPermits (eventsIn b) (netIn b) s)))

@@ -131,7 +131,8 @@ screened-out (screening.Stopped t) never nor old size = record {
   stop = ((λ z. (t, refl)), λ h. refl);
   permitted = λ e. impossible cc;
   stopped = λ u e. let same : t ≡ u = cc in
-      subst (λ (x : Stop). Numbers (set (set (set old 0 (t .position)) 1 (t .place)) 2 (t .shortfall)) (x .position) (x .place) (x .shortfall) (getD old 3 0)) same
+      subst (λ (x : Stop). Numbers (set (set (set old 0 (t .position)) 1 (t .place)) 2 (t .shortfall))
+      (x .position) (x .place) (x .shortfall) (getD old 3 0)) same
       (three-set old size (t .position) (t .place) (t .shortfall));
   refused = λ r e. impossible cc;
 }
@@ -166,7 +167,8 @@ judges {numbers} {m} only never = verdict-out (verdictOf m) (λ r e. apart only 
     back (value (item d next)) r e = impossible cc
     back (refused number spot) r e = let same : refusal number spot ≡ r = cc in ap (λ (x : Refusal). refused (x .number) (x .spot)) same
 
-screens : {numbers : List ℕ} {m : Result nets.Answer} → Refuses numbers m → among 0 numbers ≡ false → among 256 numbers ≡ false → Screens (screenedOf m)
+screens : {numbers : List ℕ} {m : Result nets.Answer} → Refuses numbers m → among 0 numbers ≡ false → among 256 numbers ≡ false
+    → Screens (screenedOf m)
 unfolding screenedOf replayed
 screens {numbers} {m} only never nor =
     screened-out (screenedOf m) (λ r e. apart only 0 never r (back m r e)) (λ r e. apart only 256 nor r (back m r e))

@@ -137,7 +137,7 @@ pub record Demand1 : Type 0 where
 -- definitions. Screening names a readable word's first refused step, or permits when there is none. Sealing and opening, so lent, undo
 -- each other.'
 
--- 'the four counts are those of the definitions': each is the number of what it counts, for a log and a net over n events and the counts c
+-- what the four counts c are the numbers of, for a log and a net over n events
 pub record FourCounts (n : ℕ) (log : Log) (net : Net) (c : Tally) : Type 0 where
   -- 'A row is a distinct v', the count vector of some prefix
   pub row-count : Cardinality (PrefixCounts n log) (c .rows)
@@ -153,10 +153,12 @@ pub record Demand2 : Type 0 where
       ↔ ((d : Contents) × AcceptedAs b c d)
   -- the event count, log and net that the lines below and demand 3 speak of are, of an accepted bundle, those of its contents
   pub head : (b : List ℕ) → Bytes b → (c : Tally) (d : Contents) → AcceptedAs b c d → headOf b ≡ d .head
+  -- 'the four counts are those of the definitions'
   pub counts : (tableSize : ℕ) (b : List ℕ) → Bytes b → (c : Tally) → verdict tableSize b ≡ judging.Accepted c
       → FourCounts (eventsIn b) (logIn b) (netIn b) c
-  -- the same in the terms of Badouel and Schlachter alone: every place is a region of the log, and each separation problem that is no constraint
-  -- is, in their order, witnessed by the region of the place that its certificate lists, or has in it weights that meet the inequalities
+  -- 'by the region definitions of Badouel and Schlachter', in their terms alone: accepted, with some counts, exactly when it keeps layout and limits,
+  -- every place is a region of the log, and each separation problem that is no constraint is, in their order, witnessed by the region of the place
+  -- that its certificate lists, or has in that certificate weights on constraints that meet the inequalities
   pub by-regions : (tableSize : ℕ) → 3584 ≤ tableSize → (b : List ℕ) → Bytes b → ((c : Tally) × (verdict tableSize b ≡ judging.Accepted c))
       ↔ ((d : Contents) × (b ≡ bytesOf d) × InLimits d × ByRegions (toBundle d))
   -- the wrong continuations are these problems; one that is a constraint too, by another prefix with its counts, is witnessed by no region
@@ -165,8 +167,8 @@ pub record Demand2 : Type 0 where
   pub unsolvable : (n : ℕ) (log : Log) (s : Step) → Constraint n (Prefix log) s → SolvedIn n (Region n (Prefix log)) s → ⊥
   -- 'Rows are numbered by first occurrence', 'their order is by row, then event'
   pub order : (n : ℕ) (log : Log) → Sorted (Before n log) (wrongContinuations n log)
-  -- 'by the region definitions of Badouel and Schlachter': its places are a complete set of regions of the log, so that on the prefixes with one
-  -- event more it has the language of all regions (crates/nets/specs/SeparationProblems.antt)
+  -- so its places are a complete set of regions of the log, and on the prefixes with one event more it has the language of all regions
+  -- (crates/nets/specs/SeparationProblems.antt)
   pub complete : (b : List ℕ) → Bytes b → (c : Tally) (d : Contents) → AcceptedAs b c d
       → Complete (eventsIn b) (Prefix (logIn b)) (placesOf (netIn b))
   pub suboptimal : (b : List ℕ) → Bytes b → (c : Tally) (d : Contents) → AcceptedAs b c d

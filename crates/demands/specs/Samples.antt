@@ -60,7 +60,7 @@ bytesQ = 2 ∷ 0 ∷ 1 ∷ 0 ∷ 0 ∷ 0 ∷ 0 ∷ 0 ∷ 0 ∷ 1 ∷ 0 ∷ 0 ∷
 unfoldable pub bytesR : List ℕ
 bytesR = 2 ∷ 0 ∷ 2 ∷ 0 ∷ 0 ∷ 0 ∷ 0 ∷ 0 ∷ 0 ∷ 0 ∷ 0 ∷ 0 ∷ 0 ∷ 1 ∷ 0 ∷ 0 ∷ 0 ∷ 0 ∷ 0 ∷ 0 ∷ 0 ∷ 3 ∷ 0 ∷ []
 
--- the log 1, 0 0 0 0 1 over 2 events: 1 is allowed at the start and after four 0, so every net permits it after one, two or three. Four different counts
+-- the log 1, 0 0 0 0 1 over 2 events, with four different counts: 1 is allowed at the start and after four 0, so permitted after one, two and three
 unfoldable pub bytesFour : List ℕ
 bytesFour =
     2 ∷ 2 ∷ 1 ∷ 1 ∷ 5 ∷ 0 ∷ 0 ∷ 0 ∷ 0 ∷ 1 ∷ 2

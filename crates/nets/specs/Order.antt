@@ -62,7 +62,8 @@ module _ (n : ℕ) (log : Log) where
       → Sorted Earlier (foldl addRow old (map (counts n) us))
   fold-sorted [] done old is m s = s
   fold-sorted (u ∷ us) done old is m s =
-      fold-sorted us (done ++ u ∷ []) (addRow old (counts n u)) (is ∙ sym (append-snoc done u us)) (rows-next done u old m) (row-sorted done us u old is m s)
+      fold-sorted us (done ++ u ∷ []) (addRow old (counts n u))
+      (is ∙ sym (append-snoc done u us)) (rows-next done u old m) (row-sorted done us u old is m s)
 
   -- 'Rows are numbered by first occurrence'
   pub rows-sorted : Sorted Earlier (rows n log)

@@ -32,7 +32,8 @@ module _ (n : ℕ) (log : Log) where
   Certifies net s (byPlace j) = (j < length net) × Witnesses n (getD net j noPlace) s
   Certifies net s (byWeights w) = WeightsMeet s w
 
-  refused-witnessed : (net : Net) (j : ℕ) (s : Step) → s .event < n → T (refusedBy n net j s) ↔ ((j < length net) × Witnesses n (getD net j noPlace) s)
+  refused-witnessed : (net : Net) (j : ℕ) (s : Step) → s .event < n
+      → T (refusedBy n net j s) ↔ ((j < length net) × Witnesses n (getD net j noPlace) s)
   unfolding refusedBy
   refused-witnessed [] j s below = ((λ t. absurd t), λ h. absurd (not-suc-le-zero (h .0)))
   refused-witnessed (p ∷ net) zero s below =

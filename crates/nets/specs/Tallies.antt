@@ -73,7 +73,8 @@ module _ (n : ℕ) (log : Log) where
     refused-number = kind-number (λ x. x)
 
     pub permitted-number : Cardinality (λ s. WrongContinuation s × T (netPermits n net s)) (length (keep (λ c. not (isByPlace c)) cs))
-    permitted-number = cardinality-same (λ s. ((λ h. (h .0, twice (netPermits n net s) .0 (h .1))), λ h. (h .0, twice (netPermits n net s) .1 (h .1)))) (kind-number not)
+    permitted-number = cardinality-same
+        (λ s. let same = twice (netPermits n net s) in ((λ h. (h .0, same .0 (h .1))), λ h. (h .0, same .1 (h .1)))) (kind-number not)
       where
         twice : (x : Bool) → T (not (not x)) ↔ T x
         twice true = ((λ t. t), λ t. t)
@@ -93,7 +94,8 @@ module _ (b : Bundle) (below : LogBelow (b .events) (b .log)) (acc : T (accepted
   allowed-count = allowed-number (b .events) (b .log) below
 
   -- the wrong continuations that the net refuses
-  pub refused-count : Cardinality (λ s. WrongContinuation (b .events) (b .log) s × T (not (netPermits (b .events) (b .net) s))) (tally b .byPlaceCount)
+  pub refused-count : Cardinality (λ s. WrongContinuation (b .events) (b .log) s × T (not (netPermits (b .events) (b .net) s)))
+      (tally b .byPlaceCount)
   unfolding tally
   refused-count =
       let parts = accepted-parts b .0 acc in refused-number (b .events) (b .log) (b .net) (parts .permitted) (b .certificates) (parts .solved)
