@@ -7,4 +7,5 @@ pub mod Stops
 pub mod Heads
 pub mod Certificates
 pub mod Words
+pub mod Offsets
 pub mod Samples

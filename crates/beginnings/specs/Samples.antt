@@ -93,7 +93,7 @@ one-word-limits = record {
 -- row 2 of two
 pub no-certificate : BeginsCertificate oneWord (1 ∷ 1 ∷ 0 ∷ 1 ∷ 2 ∷ 0 ∷ []) → ⊥
 unfolding certificate ofKind weights term field byte number require each bind onward numberAt rows prefixes addRow beginnings counts occurrences
-  same flatMap tabulate all any equal
+    same flatMap tabulate all any equal
 no-certificate s = ⊎-elim
     (λ d. d .behind (begins-less (1 ∷ 1 ∷ 0 ∷ 1 ∷ 2 ∷ []) (0 ∷ []) s))
     (⊎-elim (λ d. d .behind s) (λ (none, _). omega (arith, none .number)))
