@@ -2,7 +2,7 @@
 use mathlib.Core.Path.{_≡_}
 use mathlib.Core.Logic.{_⊎_}
 use mathlib.Core.List.{List, [], _∷_, _++_, flatMap}
-use Prim.Native.Nat.{ℕ, _+_, _-_, _%_, _≤_, _<_}
+use Prim.Native.Nat.{ℕ, _+_, _*_, _-_, _%_, _≤_, _<_}
 use lib.ListN.{length, getD, take}
 use Rattle.laws.specs.Every.{Every}
 use Rattle.nets.specs.Nets.{Word, Log, eventCount, rows}
@@ -54,6 +54,17 @@ HeadDeparts l p = Departs BeginsHead l p 1
 abbrev pub EndsAt : List ℕ → ℕ → Type 0
 EndsAt l p = (length l ≡ p) ⊎ (length l ≡ p + 1)
 
+-- the offsets of its fields: of one byte are the kind, a place's number, behind k the term count, and the event of a term; of two k, row and weight
+abbrev pub OneByteAt : List ℕ → ℕ → Type 0
+OneByteAt l p = (p ≡ 0) ⊎ (((getD l 0 0 ≡ 0) × (p ≡ 1)) ⊎ ((getD l 0 0 ≡ 1) × ((p ≡ 3) ⊎ ((t : ℕ) × (p ≡ 6 + 5 * t)))))
+
+abbrev pub TwoBytesAt : List ℕ → ℕ → Type 0
+TwoBytesAt l p = (getD l 0 0 ≡ 1) × ((p ≡ 1) ⊎ ((t : ℕ) × ((p ≡ 4 + 5 * t) ⊎ (p ≡ 7 + 5 * t))))
+
+-- l ends before the field at p, or inside it
+abbrev pub EndsInField : List ℕ → ℕ → Type 0
+EndsInField l p = ((length l ≡ p) × OneByteAt l p) ⊎ (EndsAt l p × TwoBytesAt l p)
+
 -- kind 0, where the net has no place: p is the offset of the place's number
 pub record NoPlace (h : Head) (l : List ℕ) (p : ℕ) : Type 0 where
   pub places : h .places ≡ []
@@ -67,7 +78,7 @@ pub record NoRow (h : Head) (l : List ℕ) (p : ℕ) : Type 0 where
   pub low : length (rowsIn h) ≤ getD l p 0
 
 pub record CertificateEnds (h : Head) (l : List ℕ) (p : ℕ) : Type 0 where
-  pub end : EndsAt l p
+  pub end : EndsInField l p
   pub beginning : BeginsCertificate h l ⊎ (NoPlace h l p ⊎ NoRow h l p)
 
 abbrev pub CertificateDeparts : Head → List ℕ → ℕ → Type 0

@@ -8,4 +8,5 @@ pub mod Heads
 pub mod Certificates
 pub mod Words
 pub mod Offsets
+pub mod FieldOffsets
 pub mod Samples

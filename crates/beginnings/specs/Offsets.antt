@@ -111,13 +111,14 @@ unfolding place
 twos-place n = twos-then twos-number (λ m. twos-then (twos-times twos-number n) (λ ins. twos-then (twos-times twos-number n) (λ outs. twos-give _)))
 
 -- a byte that is there, and one that is missing
-byte-got : (b : List ℕ) (inRange : ℕ → Bool) (at x next : ℕ) → byte inRange b at ≡ got x next → (at + 1 ≤ length b) × (next ≡ at + 1) × T (inRange x)
+pub byte-got : (b : List ℕ) (inRange : ℕ → Bool) (at x next : ℕ) → byte inRange b at ≡ got x next
+    → (at + 1 ≤ length b) × (next ≡ at + 1) × T (inRange x)
 unfolding byte
 byte-got b inRange at x next e =
     let g = field-got b 1 (getD b at 0) inRange at x next e in
     (g .0, g .3, subst (λ (k : ℕ). T (inRange k)) (g .2) (g .1))
 
-byte-missing : (b : List ℕ) (inRange : ℕ → Bool) (at spot : ℕ) → byte inRange b at ≡ refused BUNDLE-END spot → (spot ≡ at) × (length b ≤ at)
+pub byte-missing : (b : List ℕ) (inRange : ℕ → Bool) (at spot : ℕ) → byte inRange b at ≡ refused BUNDLE-END spot → (spot ≡ at) × (length b ≤ at)
 unfolding byte
 byte-missing b inRange at spot e =
     let q = field-refused 1 (getD b at 0) inRange b at BUNDLE-END spot .0 e in
