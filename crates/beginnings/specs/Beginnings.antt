@@ -2,11 +2,12 @@
 use mathlib.Core.Path.{_≡_}
 use mathlib.Core.Logic.{_⊎_}
 use mathlib.Core.List.{List, [], _∷_, _++_, flatMap}
-use Prim.Native.Nat.{ℕ, _+_, _≤_, _<_}
+use Prim.Native.Nat.{ℕ, _+_, _*_, _-_, _%_, _≤_, _<_}
 use lib.ListN.{length, getD, take}
 use Rattle.laws.specs.Every.{Every}
 use Rattle.nets.specs.Nets.{Word, Log, eventCount, rows}
-use Rattle.bundles.specs.Layout.{Head, WordInLimits, HeadInLimits, HeadInFront, CertificateInLimits, wordBytes, headBytes, certificateBytes, rowsIn}
+use Rattle.bundles.specs.Layout.{Head, WordInLimits, HeadInLimits, HeadInFront, CertificateInLimits, wordBytes, frontBytes, headBytes}
+use Rattle.bundles.specs.Layout.{certificateBytes, rowsIn}
 
 -- l is a beginning of the bytes of some value within its limits
 pub record Begins {A : Type 0} (write : A → List ℕ) (InLimits : A → Type 0) (l : List ℕ) : Type 0 where
@@ -22,21 +23,22 @@ BeginsHead = Begins headBytes HeadInLimits
 abbrev pub BeginsCertificate : Head → List ℕ → Type 0
 BeginsCertificate h = Begins certificateBytes (CertificateInLimits h)
 
--- l ends at p before a field, or inside one, which then has two bytes
-abbrev pub EndsAt : List ℕ → ℕ → Type 0
-EndsAt l p = (length l ≡ p) ⊎ (length l ≡ p + 1)
-
 -- what stands before p is such a beginning, and with the field of so many bytes at p it no longer is
 pub record Departs (Beginning : List ℕ → Type 0) (l : List ℕ) (p size : ℕ) : Type 0 where
   pub there : p + size ≤ length l
   pub before : Beginning (take p l)
   pub behind : Beginning (take (p + size) l) → ⊥
 
--- ---- A head: it ends at p, and all that is there is a beginning of one
+-- ---- A head
 
+-- where l, a beginning of h, ends inside a field, one byte of it is there: up to the place count the fields have one byte, behind it two
+abbrev pub partOfField : Head → List ℕ → ℕ
+partOfField h l = (length l - (length (frontBytes h) + 1)) % 2
+
+-- all that is there is a beginning of a head, and ends before the field at p, or inside it
 pub record HeadEnds (l : List ℕ) (p : ℕ) : Type 0 where
-  pub end : EndsAt l p
   pub beginning : BeginsHead l
+  pub offset : p + partOfField (beginning .whole) l ≡ length l
 
 -- a whole head stands in front
 abbrev pub InFront : List ℕ → Type 0
@@ -47,6 +49,21 @@ abbrev pub HeadDeparts : List ℕ → ℕ → Type 0
 HeadDeparts l p = Departs BeginsHead l p 1
 
 -- ---- A certificate for the head h. Two beginnings of certificates are read to their next field, though no certificate within its limits has them
+
+-- l ends at p before a field, or inside one, which then has two bytes
+abbrev pub EndsAt : List ℕ → ℕ → Type 0
+EndsAt l p = (length l ≡ p) ⊎ (length l ≡ p + 1)
+
+-- the offsets of its fields: of one byte are the kind, a place's number, behind k the term count, and the event of a term; of two k, row and weight
+abbrev pub OneByteAt : List ℕ → ℕ → Type 0
+OneByteAt l p = (p ≡ 0) ⊎ (((getD l 0 0 ≡ 0) × (p ≡ 1)) ⊎ ((getD l 0 0 ≡ 1) × ((p ≡ 3) ⊎ ((t : ℕ) × (p ≡ 6 + 5 * t)))))
+
+abbrev pub TwoBytesAt : List ℕ → ℕ → Type 0
+TwoBytesAt l p = (getD l 0 0 ≡ 1) × ((p ≡ 1) ⊎ ((t : ℕ) × ((p ≡ 4 + 5 * t) ⊎ (p ≡ 7 + 5 * t))))
+
+-- l ends before the field at p, or inside it
+abbrev pub EndsInField : List ℕ → ℕ → Type 0
+EndsInField l p = ((length l ≡ p) × OneByteAt l p) ⊎ (EndsAt l p × TwoBytesAt l p)
 
 -- kind 0, where the net has no place: p is the offset of the place's number
 pub record NoPlace (h : Head) (l : List ℕ) (p : ℕ) : Type 0 where
@@ -61,7 +78,7 @@ pub record NoRow (h : Head) (l : List ℕ) (p : ℕ) : Type 0 where
   pub low : length (rowsIn h) ≤ getD l p 0
 
 pub record CertificateEnds (h : Head) (l : List ℕ) (p : ℕ) : Type 0 where
-  pub end : EndsAt l p
+  pub end : EndsInField l p
   pub beginning : BeginsCertificate h l ⊎ (NoPlace h l p ⊎ NoRow h l p)
 
 abbrev pub CertificateDeparts : Head → List ℕ → ℕ → Type 0

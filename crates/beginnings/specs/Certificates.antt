@@ -28,6 +28,7 @@ use Rattle.beginnings.specs.Beginnings.{BeginsCertificate, Departs, NoPl
 use Rattle.beginnings.specs.Locals.{local-certificate, local-kind}
 use Rattle.beginnings.specs.Filling.{Filled, filled-behind, filled-law}
 use Rattle.beginnings.specs.Fillings.{fills-weights, fills-listed}
+use Rattle.beginnings.specs.FieldOffsets.{certificate-offset}
 use Rattle.beginnings.specs.Stops.{filled-begins, ends-at, cut-at, departs-at}
 
 no-item : {A : Type 0} (l : List A) → length l < 1 → l ≡ []
@@ -156,7 +157,7 @@ module _ (h : Head) (limits : HeadInLimits h) (rowCount : length (rowsIn h) ≤ 
         → CertificateEnds h l p
     unfolding Refused6
     certificate-ends l p bytes e = record {
-      end = ends-at (local-certificate h) law-limits written done l p e;
+      end = certificate-offset h done l p (ends-at (local-certificate h) law-limits written done l p e) e;
       beginning = ⊎-elim
           (λ s. inl (filled-begins (local-certificate h) law-limits written done l s))
           (λ rest. inr (⊎-elim inl (λ (kind, half, low). inr (no-row kind half low)) rest))

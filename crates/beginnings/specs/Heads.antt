@@ -8,7 +8,7 @@ use native.Mathlib.Nat.{zero-add}
 use native.Mathlib.Omega.{arith}
 use borrow.Author.Tests.{eqb-true}
 use lib.Dec.{eqb}
-use lib.ListN.{take, drop, take-append-drop}
+use lib.ListN.{length, take, drop, take-append-drop}
 use lib.Seq.{take-take}
 use Rattle.laws.specs.Booleans.{impossible, true-or-false, lt-or-le}
 use Rattle.laws.specs.Lists.{any, among}
@@ -26,8 +26,10 @@ use Rattle.bundles.specs.Refusing.{reader-head}
 use Rattle.bundles.specs.Bytes.{bytes-head}
 use Rattle.beginnings.specs.Beginnings.{BeginsHead, InFront, HeadEnds, HeadDeparts}
 use Rattle.beginnings.specs.Locals.{local-head}
+use Rattle.beginnings.specs.Filling.{Filled}
 use Rattle.beginnings.specs.Fillings.{fills-head}
-use Rattle.beginnings.specs.Stops.{begins-less, filled-begins, ends-at, cut-at, departs-at}
+use Rattle.beginnings.specs.Offsets.{head-offset}
+use Rattle.beginnings.specs.Stops.{begins-less, filled-item, filled-begins, ends-at, cut-at, departs-at}
 
 -- the head's reader, without a limit on the rows, reads the heads within their limits
 law-limits : (b : List ℕ) → Bytes b → Law b (head anyRows) headBytes HeadInLimits
@@ -96,7 +98,16 @@ module _ (b : List ℕ) (bytes : Bytes b) (spot : ℕ) where
       (fills-head .ends l bytes 0 spot (omega arith) e)
 
   pub head-ends : head anyRows b 0 ≡ refused BUNDLE-END spot → HeadEnds b spot
-  head-ends e = record { end = ends-at local-head law-limits bytes-head [] b spot (rw zero-add e); beginning = begins b bytes e }
+  head-ends e = ⊎-elim ends (λ (end, never). absurd never) (fills-head .ends b bytes 0 spot (omega arith) e)
+    where
+      ends : Filled (head anyRows) b 0 → HeadEnds b spot
+      ends s =
+          let q = filled-item local-head law-limits bytes-head [] b s in
+          let end = ends-at local-head law-limits bytes-head [] b spot (rw zero-add e) in
+          record {
+            beginning = record { whole = s .item; limits = q .0; rest = s .more; bytes = q .1 };
+            offset = head-offset b (s .more) (s .bytes) (s .item) spot end (length (b ++ s .more)) (s .read) e;
+          }
 
   pub head-departs : (k : ℕ) → (k ≡ BUNDLE-END → ⊥) → head anyRows b 0 ≡ refused k spot → HeadDeparts b spot
   head-departs k other e =

@@ -24,15 +24,18 @@ begins-less l m s = record { whole = s .whole; limits = s .limits; rest = m ++ s
 module _ {A : Type 0} {Size : ℕ → Type 0} {r : Reader A} {write : A → List ℕ} {Valid : A → Type 0} (local : Local Size r)
     (laws : (b : List ℕ) → Bytes b → Law b r write Valid) (written : (x : A) → Valid x → Bytes (write x)) (done : List ℕ) where
   -- what is filled up from l is a value's bytes
-  pub filled-begins : (l : List ℕ) → Filled r (done ++ l) (length done) → Begins write Valid l
-  filled-begins l s =
+  pub filled-item : (l : List ℕ) (s : Filled r (done ++ l) (length done)) → Valid (s .item) × (write (s .item) ≡ l ++ s .more)
+  filled-item l s =
       let c = (done ++ l) ++ s .more in
       let q = laws c (s .bytes) .sound (length done) (s .item) (length c) (s .read) in
       let left : drop (length done) c ≡ l ++ s .more =
       ap (drop (length done)) (append-assoc done l (s .more)) ∙ drop-append-seam done (l ++ s .more) in
       let right : drop (length done) c ≡ write (s .item) =
       q .1 .bytes ∙ ap (λ (t : List ℕ). write (s .item) ++ t) (drop-length c) ∙ append-nil (write (s .item)) in
-      record { whole = s .item; limits = q .0; rest = s .more; bytes = sym right ∙ left }
+      (q .0, sym right ∙ left)
+
+  pub filled-begins : (l : List ℕ) → Filled r (done ++ l) (length done) → Begins write Valid l
+  filled-begins l s = let q = filled-item l s in record { whole = s .item; limits = q .0; rest = s .more; bytes = q .1 }
 
   module _ (l : List ℕ) (p : ℕ) where
     size : length (done ++ l) ≡ length done + length l
