@@ -6,8 +6,8 @@ use Prim.Native.Nat.{ℕ, _+_, _*_, _-_, _%_, _≤_, _<_}
 use lib.ListN.{length, getD, take}
 use Rattle.laws.specs.Every.{Every}
 use Rattle.nets.specs.Nets.{Word, Log, eventCount, rows}
-use Rattle.bundles.specs.Layout.{Head, WordInLimits, HeadInLimits, HeadInFront, CertificateInLimits, wordBytes, frontBytes, headBytes}
-use Rattle.bundles.specs.Layout.{certificateBytes, rowsIn}
+use Rattle.bundles.specs.Layout.{Head, WordInLimits, HeadInLimits, HeadInFront, CertificateInLimits}
+use Rattle.bundles.specs.Layout.{wordBytes, frontBytes, headBytes, certificateBytes, rowsIn}
 
 -- l is a beginning of the bytes of some value within its limits
 pub record Begins {A : Type 0} (write : A → List ℕ) (InLimits : A → Type 0) (l : List ℕ) : Type 0 where
@@ -48,41 +48,46 @@ InFront l = (h : Head) × (rest : List ℕ) × HeadInFront l h rest
 abbrev pub HeadDeparts : List ℕ → ℕ → Type 0
 HeadDeparts l p = Departs BeginsHead l p 1
 
--- ---- A certificate for the head h. Two beginnings of certificates are read to their next field, though no certificate within its limits has them
+-- ---- A certificate for the head h
 
--- l ends at p before a field, or inside one, which then has two bytes
-abbrev pub EndsAt : List ℕ → ℕ → Type 0
-EndsAt l p = (length l ≡ p) ⊎ (length l ≡ p + 1)
-
--- the offsets of its fields: of one byte are the kind, a place's number, behind k the term count, and the event of a term; of two k, row and weight
+-- the offsets of its fields from its first byte. Of one byte: the kind; kind 0: the place's number; kind 1: the term count, the event of a term
 abbrev pub OneByteAt : List ℕ → ℕ → Type 0
 OneByteAt l p = (p ≡ 0) ⊎ (((getD l 0 0 ≡ 0) × (p ≡ 1)) ⊎ ((getD l 0 0 ≡ 1) × ((p ≡ 3) ⊎ ((t : ℕ) × (p ≡ 6 + 5 * t)))))
 
+-- of two, kind 1: k, the row and the weight of a term
 abbrev pub TwoBytesAt : List ℕ → ℕ → Type 0
 TwoBytesAt l p = (getD l 0 0 ≡ 1) × ((p ≡ 1) ⊎ ((t : ℕ) × ((p ≡ 4 + 5 * t) ⊎ (p ≡ 7 + 5 * t))))
+
+-- l ends at p, or one byte behind it
+abbrev pub EndsAt : List ℕ → ℕ → Type 0
+EndsAt l p = (length l ≡ p) ⊎ (length l ≡ p + 1)
 
 -- l ends before the field at p, or inside it
 abbrev pub EndsInField : List ℕ → ℕ → Type 0
 EndsInField l p = ((length l ≡ p) × OneByteAt l p) ⊎ (EndsAt l p × TwoBytesAt l p)
 
--- kind 0, where the net has no place: p is the offset of the place's number
+-- two beginnings are read to their next field, though no certificate within its limits has them:
+-- kind 0 where the net has no place; p is the offset of the place's number
 pub record NoPlace (h : Head) (l : List ℕ) (p : ℕ) : Type 0 where
   pub places : h .places ≡ []
   pub kind : (rest : List ℕ) × (l ≡ 0 ∷ rest)
   pub number : p ≡ 1
 
--- the low byte, at p, of a row's number, which no row has
+-- and the low byte, at p, of a row's number, where every row's number is lower
 pub record NoRow (h : Head) (l : List ℕ) (p : ℕ) : Type 0 where
   pub half : length l ≡ p + 1
   pub before : BeginsCertificate h (take p l)
   pub low : length (rowsIn h) ≤ getD l p 0
 
+-- all that is there is a beginning of a certificate, or one of these two, and ends before the field at p, or inside it
 pub record CertificateEnds (h : Head) (l : List ℕ) (p : ℕ) : Type 0 where
   pub end : EndsInField l p
   pub beginning : BeginsCertificate h l ⊎ (NoPlace h l p ⊎ NoRow h l p)
 
+-- it departs in a field of one byte, or in one of two, with the first of them or with both; or there is no place
 abbrev pub CertificateDeparts : Head → List ℕ → ℕ → Type 0
-CertificateDeparts h l p = Departs (BeginsCertificate h) l p 1 ⊎ (Departs (BeginsCertificate h) l p 2 ⊎ (NoPlace h l p × (p + 1 ≤ length l)))
+CertificateDeparts h l p = (OneByteAt l p × Departs (BeginsCertificate h) l p 1)
+    ⊎ ((TwoBytesAt l p × (Departs (BeginsCertificate h) l p 1 ⊎ Departs (BeginsCertificate h) l p 2)) ⊎ (NoPlace h l p × (p + 1 ≤ length l)))
 
 -- ---- A word that is due: l is n, the word count, then fewer words, those of `log`, within their limits, then `rest`
 

@@ -7,7 +7,7 @@ use native.Mathlib.Nat.{add-zero}
 use native.Mathlib.Omega.{arith}
 use lib.Dec.{leb, ltb, leb→le}
 use lib.ListN.{length, getD, take, drop, length-append, take-append-drop}
-use lib.Seq.{drop-cons, getD-append-add, length-take-le, take-append-add, take-append-seam}
+use lib.Seq.{drop-cons, getD-append-add, length-take-le, take-append-add, take-append-seam, getD-take}
 use Rattle.laws.specs.Booleans.{impossible, lt-or-le}
 use Rattle.laws.specs.Lists.{any}
 use Rattle.laws.specs.Numbers.{Bytes, bytes-append, bytes-take}
@@ -24,12 +24,12 @@ use Rattle.bundles.specs.ReadingLaws.{Law, field-got}
 use Rattle.bundles.specs.LayoutLaws.{law-certificate}
 use Rattle.bundles.specs.Bytes.{bytes-certificate}
 use Rattle.bundles.specs.Causes.{andThen-refused, field-refused}
-use Rattle.beginnings.specs.Beginnings.{BeginsCertificate, Departs, NoPlace, NoRow, CertificateEnds, CertificateDeparts}
+use Rattle.beginnings.specs.Beginnings.{BeginsCertificate, OneByteAt, Departs, NoPlace, NoRow, CertificateEnds, CertificateDeparts}
 use Rattle.beginnings.specs.Locals.{local-certificate, local-kind}
 use Rattle.beginnings.specs.Filling.{Filled, filled-behind, filled-law}
 use Rattle.beginnings.specs.Fillings.{fills-weights, fills-listed}
-use Rattle.beginnings.specs.FieldOffsets.{certificate-offset}
-use Rattle.beginnings.specs.Stops.{filled-begins, ends-at, cut-at, departs-at}
+use Rattle.beginnings.specs.CertificateOffsets.{certificate-offset, one-whole, two-whole, one-not-two}
+use Rattle.beginnings.specs.Stops.{filled-begins, ends-at, cut-at, departs-at, byte-departs}
 
 no-item : {A : Type 0} (l : List A) → length l < 1 → l ≡ []
 no-item [] h = refl
@@ -181,12 +181,20 @@ module _ (h : Head) (limits : HeadInLimits h) (rowCount : length (rowsIn h) ≤ 
     certificate-departs l p k other bytes e =
         let front = subst Bytes (take-append-seam done l) (bytes-take (length done) (done ++ l) bytes) in
         let d = departs-at (local-certificate h) law-limits written done l p k other front e in
+        let there : p + 1 ≤ length l = ⊎-elim (λ one. omega (arith, one, d .2)) (λ two. omega (arith, two, d .2)) (d .1) in
+        let c = cut-at (local-certificate h) law-limits written done l p k e in
         ⊎-elim
-        (λ s. ⊎-elim (λ one. inl (departs s (d .0) 1 one (d .2) (d .3))) (λ two. inr (inl (departs s (d .0) 2 two (d .2) (d .3)))) (d .1))
-        (λ none. inr (inr (
-          record { places = none .places; kind = kind-whole l p 0 (none .kind); number = none .number },
-          ⊎-elim (λ one. omega (arith, one, d .2)) (λ two. omega (arith, two, d .2)) (d .1),
+        (λ s. ⊎-elim
+        (λ (_, at). inl (one-whole l p at, record { there = there; before = s; behind = one-byte front there (one-whole l p at) }))
+        (λ (_, at). inr (inl (
+          two-whole l p at,
+          ⊎-elim
+              (λ one. inl (departs s (d .0) 1 one (d .2) (d .3)))
+              (λ two. inr (departs s (d .0) 2 two (d .2) (d .3)))
+              (d .1),
         )))
+        (certificate-offset h done (take p l) p (inl (length-take-le p l (c .0))) (c .1)))
+        (λ none. inr (inr (record { places = none .places; kind = kind-whole l p 0 (none .kind); number = none .number }, there)))
         (before l p k bytes e)
       where
         departs : BeginsCertificate h (take p l) → (size n : ℕ) → size ≡ n → p + size ≤ length l → (BeginsCertificate h (take (p + size) l) → ⊥)
@@ -196,3 +204,11 @@ module _ (h : Head) (limits : HeadInLimits h) (rowCount : length (rowsIn h) ≤ 
           before = s;
           behind = subst (λ (k : ℕ). BeginsCertificate h (take (p + k) l) → ⊥) is never;
         }
+
+        -- a field of one byte is not half there
+        one-byte : Bytes done → p + 1 ≤ length l → OneByteAt l p → BeginsCertificate h (take (p + 1) l) → ⊥
+        one-byte front there at = byte-departs (local-certificate h) law-limits written done l p k other front there e
+            (λ q. let size = length-take-le (p + 1) l there in ⊎-elim
+            (λ (end, _). omega (arith, size, end))
+            (λ (_, two). one-not-two l (take (p + 1) l) p (λ some. getD-take (p + 1) l 0 0 (omega arith)) at two)
+            (certificate-offset h done (take (p + 1) l) p (inr size) q))

@@ -28,7 +28,7 @@ use Rattle.beginnings.specs.Beginnings.{BeginsHead, InFront, HeadEnds, H
 use Rattle.beginnings.specs.Locals.{local-head}
 use Rattle.beginnings.specs.Filling.{Filled}
 use Rattle.beginnings.specs.Fillings.{fills-head}
-use Rattle.beginnings.specs.Offsets.{head-offset}
+use Rattle.beginnings.specs.HeadOffsets.{head-offset}
 use Rattle.beginnings.specs.Stops.{begins-less, filled-item, filled-begins, ends-at, cut-at, departs-at}
 
 -- the head's reader, without a limit on the rows, reads the heads within their limits

@@ -7,6 +7,6 @@ pub mod Stops
 pub mod Heads
 pub mod Certificates
 pub mod Words
-pub mod Offsets
-pub mod FieldOffsets
+pub mod HeadOffsets
+pub mod CertificateOffsets
 pub mod Samples

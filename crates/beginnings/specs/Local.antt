@@ -8,7 +8,7 @@ use native.Mathlib.Nat.{le-trans}
 use native.Mathlib.Omega.{arith}
 use lib.ListN.{length, getD, take, length-append, List·getD-append}
 use lib.Seq.{getD-take, length-take-le}
-use Rattle.laws.specs.Booleans.{impossible}
+use Rattle.laws.specs.Booleans.{impossible, lt-or-le}
 use Rattle.laws.specs.Numbers.{numberAt}
 use Rattle.refusals.specs.Table.{BUNDLE-END}
 use Rattle.refusals.specs.Results.{refused, bind}
@@ -52,11 +52,14 @@ numberAt-alike b c at a = rw (a .same at (omega arith), a .same (at + 1) (omega 
 -- ---- the law of a reader
 
 module _ (Size : ℕ → Type 0) where
-  -- r refuses b: behind the bytes before the spot it misses a field; and a number but 6 is that of a field there, of a size that is so
+  -- r refuses b: behind the bytes before the spot it misses a field; and a number but 6 is that of a field there, of a size that is so, or with its
+  -- first byte alone, if that is not all of it, 6
   pub record Stop {A : Type 0} (r : Reader A) (b : List ℕ) (at k spot : ℕ) : Type 0 where
     pub from : at ≤ spot
     pub to : spot ≤ length b
     pub cut : (c : List ℕ) → Alike spot b c → length c ≡ spot → r c at ≡ refused BUNDLE-END spot
+    pub half : (k ≡ BUNDLE-END → ⊥) → (c : List ℕ) → Alike (spot + 1) b c → length c ≡ spot + 1
+        → (r c at ≡ refused k spot) ⊎ (r c at ≡ refused BUNDLE-END spot)
     pub cause : ((k ≡ BUNDLE-END) × (length b ≤ spot + 1))
         ⊎ ((k ≡ BUNDLE-END → ⊥) × ((size : ℕ) × Size size × (spot + size ≤ length b)
         × ((c : List ℕ) → Alike (spot + size) b c → r c at ≡ refused k spot)))
@@ -97,6 +100,7 @@ module _ {Size : ℕ → Type 0} where
       from = s .from;
       to = s .to;
       cut = λ c same end. rw (s .cut c same end);
+      half = λ other c same end. ⊎-elim (λ e. inl (rw e)) (λ e. inr (rw e)) (s .half other c same end);
       cause = ⊎-elim inl (λ (other, (size, sized, there, again)). inr (other, (size, sized, there, λ c same. rw (again c same)))) (s .cause);
     }
 
@@ -108,6 +112,7 @@ module _ {Size : ℕ → Type 0} where
       from = le-trans (first .forth b at x mid is) (s .from);
       to = s .to;
       cut = λ c same end. rw (first .read b c at x mid is (alike-less (s .from) same)) (s .cut c same end);
+      half = λ other c same end. rw (first .read b c at x mid is (alike-less (omega (arith, s .from)) same)) (s .half other c same end);
       cause = ⊎-elim inl
           (λ (other, (size, sized, there, again)). inr (
             other,
@@ -169,6 +174,14 @@ module _ {Size : ℕ → Type 0} where
             from = omega (arith, q .0);
             to = omega (arith, q .0, h);
             cut = λ c same end. field-refused size (v c at) inRange c at BUNDLE-END spot .1 (q .0, inl (refl, omega (arith, q .0, end, some)));
+            half = λ other c same end. ⊎-elim
+                (λ (six, short). absurd (other six))
+                (λ (seven, there, bad). ⊎-elim
+                (λ short. inr (field-refused size (v c at) inRange c at BUNDLE-END spot .1 (q .0, inl (refl, short))))
+                (λ long. let same′ : Alike (at + size) b c = alike-less (omega (arith, q .0, end, long)) same in
+                inl (field-refused size (v c at) inRange c at k spot .1 (q .0, inr (seven, long, rw (own b c at same′) bad))))
+                (lt-or-le (length c) (at + size)))
+                (q .1);
             cause = ⊎-elim
                 (λ (six, short). inl (six, omega (arith, q .0, short, most)))
                 (λ (seven, there, bad). inr (

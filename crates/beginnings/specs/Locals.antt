@@ -57,6 +57,7 @@ module _ {Size : ℕ → Type 0} (one : Size 1) {A : Type 0} (ok : ℕ → Bool)
         from = omega (arith, here);
         to = omega (arith, here, g .0);
         cut = λ c same end. rw (field-refused 1 (getD c at 0) anything c at BUNDLE-END spot .1 (sym here, inl (refl, omega (arith, here, end))));
+        half = λ _ c same end. inl (rw (first .read b c at x mid is (alike-less (omega (arith, here, g .3)) same)) (failed at x fails c mid ∙ e′));
         cause = inr (
           λ six. other (number ∙ six),
           (
@@ -79,6 +80,7 @@ module _ {Size : ℕ → Type 0} (one : Size 1) {A : Type 0} (ok : ℕ → Bool)
         from = s .from;
         to = s .to;
         cut = λ c same end. passed at x t c mid ∙ s .cut c same end;
+        half = λ other c same end. ⊎-elim (λ q. inl (passed at x t c mid ∙ q)) (λ q. inr (passed at x t c mid ∙ q)) (s .half other c same end);
         cause = ⊎-elim inl
             (λ (differs, (size, sized, there, again)). inr (differs, (size, sized, there, λ c same. passed at x t c mid ∙ again c same)))
             (s .cause);
@@ -88,7 +90,7 @@ module _ {Size : ℕ → Type 0} (one : Size 1) {A : Type 0} (ok : ℕ → Bool)
   stop-start : (b : List ℕ) (at k spot : ℕ) → Stop Size (byte anything >>= behind at) b at k spot
       → Stop Size (offset >>= λ start. byte anything >>= λ x. require (ok x) refusal start >> f x) b at k spot
   unfolding behind bind onward
-  stop-start b at k spot s = record { from = s .from; to = s .to; cut = s .cut; cause = s .cause }
+  stop-start b at k spot s = record { from = s .from; to = s .to; cut = s .cut; half = s .half; cause = s .cause }
 
   pub local-tested : Local Size (offset >>= λ start. byte anything >>= λ x. require (ok x) refusal start >> f x)
   unfolding behind bind onward

@@ -94,8 +94,10 @@ one-word-limits = record {
 pub no-certificate : BeginsCertificate oneWord (1 ∷ 1 ∷ 0 ∷ 1 ∷ 2 ∷ 0 ∷ []) → ⊥
 unfolding certificate ofKind weights term field byte number require each bind onward numberAt rows prefixes addRow beginnings counts occurrences
     same flatMap tabulate all any equal
-no-certificate s = ⊎-elim
-    (λ d. d .behind (begins-less (1 ∷ 1 ∷ 0 ∷ 1 ∷ 2 ∷ []) (0 ∷ []) s))
-    (⊎-elim (λ d. d .behind s) (λ (none, _). omega (arith, none .number)))
+no-certificate s =
+    let five = begins-less (1 ∷ 1 ∷ 0 ∷ 1 ∷ 2 ∷ []) (0 ∷ []) s in
+    ⊎-elim
+    (λ (_, d). d .behind five)
+    (⊎-elim (λ (_, e). ⊎-elim (λ d. d .behind five) (λ d. d .behind s) e) (λ (none, _). omega (arith, none .number)))
     (certificate-departs oneWord one-word-limits (omega arith) [] (1 ∷ 1 ∷ 0 ∷ 1 ∷ 2 ∷ 0 ∷ []) 4 7 (λ e. omega (arith, e))
     (all-bytes (1 ∷ 1 ∷ 0 ∷ 1 ∷ 2 ∷ 0 ∷ []) refl) refl)

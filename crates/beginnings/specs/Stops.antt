@@ -5,7 +5,7 @@ use mathlib.Core.List.{List, _++_, append-assoc, append-nil}
 use Prim.Native.Nat.{ℕ, _+_, _≤_}
 use native.Mathlib.Nat.{add-assoc}
 use native.Mathlib.Omega.{arith}
-use lib.ListN.{length, take, drop, length-append}
+use lib.ListN.{length, take, drop, length-append, take-append-drop}
 use lib.Seq.{drop-length, drop-append-seam, take-append-add, length-take-le}
 use Rattle.laws.specs.Booleans.{impossible, lt-or-le}
 use Rattle.laws.specs.Numbers.{Bytes, bytes-append}
@@ -94,3 +94,23 @@ module _ {A : Type 0} {Size : ℕ → Type 0} {r : Reader A} {write : A → List
             let read = laws c bytes′ .complete (length done) (s .whole) (length c) (s .limits) (part-end done (write (s .whole))) in
             let refuses = again c alike in
             differ (sym refuses ∙ read)
+
+  -- any but 6, where the first byte at the spot is a whole field: with that byte they are none
+  pub byte-departs : (l : List ℕ) (p k : ℕ) → (k ≡ BUNDLE-END → ⊥) → Bytes done → p + 1 ≤ length l
+      → r (done ++ l) (length done) ≡ refused k (length done + p)
+      → (r (done ++ take (p + 1) l) (length done) ≡ refused BUNDLE-END (length done + p) → ⊥) → Begins write Valid (take (p + 1) l) → ⊥
+  byte-departs l p k other bytes there e whole begins =
+      let s = local .stop (done ++ l) (length done) k (length done + p) (omega (arith, size l p)) e in
+      let cut : take (length done + p + 1) (done ++ l) ≡ done ++ take (p + 1) l =
+      ap (λ (n : ℕ). take n (done ++ l)) (add-assoc (length done) p 1) ∙ take-append-add done l (p + 1) in
+      let alike = subst (Alike (length done + p + 1) (done ++ l)) cut
+      (alike-take (length done + p + 1) (done ++ l) (omega (arith, size l p, there))) in
+      let end : length (done ++ take (p + 1) l) ≡ length done + p + 1 =
+      omega (arith, length-append done (take (p + 1) l), length-take-le (p + 1) l there) in
+      ⊎-elim again whole (s .half other (done ++ take (p + 1) l) alike end)
+    where
+      again : r (done ++ take (p + 1) l) (length done) ≡ refused k (length done + p) → ⊥
+      again q =
+          let d = departs-at (take (p + 1) l) p k other bytes q in
+          let part = take-append-drop (p + d .0) (take (p + 1) l) in
+          d .3 (begins-less (take (p + d .0) (take (p + 1) l)) (drop (p + d .0) (take (p + 1) l)) (subst (Begins write Valid) (sym part) begins))

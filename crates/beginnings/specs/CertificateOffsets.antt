@@ -7,19 +7,19 @@ use Prim.Native.Nat.{ℕ, zero, suc, _+_, _*_, _≤_}
 use native.Mathlib.Nat.{add-zero}
 use native.Mathlib.Omega.{arith}
 use lib.Dec.{leb, ltb, leb→le}
-use lib.ListN.{length, getD, length-append}
-use lib.Seq.{getD-append-add}
+use lib.ListN.{length, getD, take, length-append}
+use lib.Seq.{getD-append-add, getD-take}
 use Rattle.laws.specs.Booleans.{impossible}
 use Rattle.limits.specs.Limits.{MAX-TERMS}
 use Rattle.refusals.specs.Table.{BUNDLE-END}
 use Rattle.refusals.specs.Results.{refused, bind}
-use Rattle.bundles.specs.Reading.{got, Reader, onward, _>>=_, give, byte, number, each, times}
-use Rattle.bundles.specs.Layout.{TermFields, kind0, kind1, Head, rowsIn}
+use Rattle.bundles.specs.Reading.{got, onward, give, byte, number, each, times}
+use Rattle.bundles.specs.Layout.{TermFields, kind0, Head, rowsIn}
 use Rattle.bundles.specs.Readers.{anything, term, weights, ofKind, certificate}
 use Rattle.bundles.specs.ReadingLaws.{andThen-got, field-got}
 use Rattle.bundles.specs.Causes.{andThen-refused, field-refused}
 use Rattle.beginnings.specs.Beginnings.{EndsAt, OneByteAt, TwoBytesAt, EndsInField}
-use Rattle.beginnings.specs.Offsets.{byte-got, byte-missing}
+use Rattle.beginnings.specs.HeadOffsets.{byte-got, byte-missing}
 
 number-got : (b : List ℕ) (inRange : ℕ → Bool) (at x next : ℕ) → number inRange b at ≡ got x next → next ≡ at + 2
 unfolding number
@@ -134,3 +134,36 @@ module _ (h : Head) (done l : List ℕ) (p : ℕ) (ends : EndsAt l p) where
       by zero mid (_, at, kind) q = listed-end kind (subst (λ (m : ℕ). ofKind h 0 (done ++ l) m ≡ refused BUNDLE-END (length done + p)) at q)
       by (suc zero) mid (_, at, kind) q = weights-end kind (subst (λ (m : ℕ). weights h (done ++ l) m ≡ refused BUNDLE-END (length done + p)) at q)
       by (suc (suc k)) mid (most, _, _) q = absurd (omega (arith, most))
+
+-- ---- an offset is that of a field of one byte or of two
+
+-- the offsets of a beginning that reaches there are those of the whole
+whole-kind : (l : List ℕ) (p : ℕ) → 1 ≤ p → getD (take p l) 0 0 ≡ getD l 0 0
+whole-kind l p some = getD-take p l 0 0 some
+
+pub one-whole : (l : List ℕ) (p : ℕ) → OneByteAt (take p l) p → OneByteAt l p
+one-whole l p = ⊎-elim inl (λ at. inr (⊎-elim
+    (λ (kind, at). inl (sym (whole-kind l p (omega (arith, at))) ∙ kind, at))
+    (λ (kind, at). inr (sym (whole-kind l p (⊎-elim (λ e. omega (arith, e)) (λ (t, e). omega (arith, e)) at)) ∙ kind, at))
+    at))
+
+pub two-whole : (l : List ℕ) (p : ℕ) → TwoBytesAt (take p l) p → TwoBytesAt l p
+two-whole l p (kind, at) = (
+  sym (whole-kind l p (⊎-elim (λ e. omega (arith, e)) (λ (t, e). ⊎-elim (λ e. omega (arith, e)) (λ e. omega (arith, e)) e) at)) ∙ kind,
+  at,
+)
+
+-- none is both
+pub one-not-two : (l m : List ℕ) (p : ℕ) → (1 ≤ p → getD m 0 0 ≡ getD l 0 0) → OneByteAt l p → TwoBytesAt m p → ⊥
+one-not-two l m p same one (kind, at) = ⊎-elim
+    (λ zero. ⊎-elim (λ e. omega (arith, zero, e)) (λ (t, e). ⊎-elim (λ e. omega (arith, zero, e)) (λ e. omega (arith, zero, e)) e) at)
+    (⊎-elim
+    (λ (other, e). omega (arith, kind, other, same (omega (arith, e))))
+    (λ (_, odd). ⊎-elim (three at) (λ (t, e). event t e at) odd))
+    one
+  where
+    three : (p ≡ 1) ⊎ ((t : ℕ) × ((p ≡ 4 + 5 * t) ⊎ (p ≡ 7 + 5 * t))) → p ≡ 3 → ⊥
+    three at is = ⊎-elim (λ e. omega (arith, is, e)) (λ (t, e). ⊎-elim (λ e. omega (arith, is, e)) (λ e. omega (arith, is, e)) e) at
+
+    event : (t : ℕ) → p ≡ 6 + 5 * t → (p ≡ 1) ⊎ ((t : ℕ) × ((p ≡ 4 + 5 * t) ⊎ (p ≡ 7 + 5 * t))) → ⊥
+    event t is at = ⊎-elim (λ e. omega (arith, is, e)) (λ (t, e). ⊎-elim (λ e. omega (arith, is, e)) (λ e. omega (arith, is, e)) e) at
