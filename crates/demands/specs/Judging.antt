@@ -85,8 +85,8 @@ pub record JudgeExactly (tableSize : ℕ) (b : List ℕ) : Type 0 where
   pub bytes-follow : (spot : ℕ) → (verdict tableSize b ≡ judging.Refused (refusal 13 spot))
       ↔ (Sized tableSize b × ((d : Contents) × (x : ℕ) × (rest : List ℕ) × JudgedTo b d (wrongIn (d .head)) (x ∷ rest) × (spot ≡ length (bytesOf d))))
 
--- ---- 6 and 7 of a field, 8 and 9 of a word, by the readers: crates/bundles/specs/Readers.antt says which field stands where, with which range. There a
--- reader takes its fields one after the other, and the first that is refused is its answer. (Without the readers: `ends` to `rows-pass` above.)
+-- ---- 6 and 7 of a field, 8 and 9 of a word, by the readers (without them: `ends` to `rows-pass` above). crates/bundles/specs/Readers.antt says
+-- which field stands where, with which range: a reader takes its fields one after the other, and the first that is refused is its answer
 
 -- a field of `size` bytes at an offset, with the value x, is refused
 pub record FieldRefused (b : List ℕ) (at size x : ℕ) (inRange : ℕ → Bool) (k spot : ℕ) : Type 0 where
