@@ -2,6 +2,8 @@
 // Each returns 0 for a result, else the number of the refusal; `hov_screen` and `hov_screen_joined` return 256 for a word that is stopped.
 // `answer` takes the result's numbers, or in answer[0] the refusal's spot; those of its numbers that a call does not use stay as they were.
 // Each module exports the calls of one crate; it has the prefix of their names, since a module may not have a crate's name.
+#![tactic(auto)]
+
 pub mod hov_block; // opening and sealing
 pub mod hov_logs; // the log table
 pub mod hov_judging; // judging

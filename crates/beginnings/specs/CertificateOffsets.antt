@@ -11,8 +11,8 @@ use Rattle.laws.specs.Booleans.{impossible}
 use Rattle.limits.specs.Limits.{max_terms}
 use Rattle.refusals.specs.Table.{bundle_end_number}
 use Rattle.refusals.specs.Results.{refused, bind}
-use Rattle.bundles.specs.Reading.{got, onward, give, byte, number, each, times}
-use Rattle.bundles.specs.Layout.{TermFields, kind0, Head, rows_in}
+use Rattle.bundles.specs.Reading.{got, Reader, onward, ◌>>=◌, give, byte, number, each, times}
+use Rattle.bundles.specs.Layout.{TermFields, CertificateFields, kind0, kind1, Head, rows_in}
 use Rattle.bundles.specs.Readers.{anything, term, weights, of_kind, certificate}
 use Rattle.bundles.specs.ReadingLaws.{and_then-got, field-got}
 use Rattle.bundles.specs.Causes.{and_then-refused, field-refused}
@@ -32,17 +32,27 @@ module _ (h : Head) (b : List ℕ) where
   abbrev InTerm : ℕ → ℕ → Type 0
   InTerm at spot = (spot ≡ at) ⊎ (((spot ≡ at + 2) × (length b ≤ spot)) ⊎ (spot ≡ at + 3))
 
+  -- what is read of a term behind its row, and behind its event
+  term_of : ℕ → ℕ → ℕ → Reader TermFields
+  term_of row event weight = give (record { row = row; event = event; weight = weight })
+
+  behind_event : ℕ → ℕ → Reader TermFields
+  behind_event row event = number anything >>= term_of row event
+
+  behind_row : ℕ → Reader TermFields
+  behind_row row = byte (λ e. ltb e h.events) >>= behind_event row
+
   term-got : (at : ℕ) (x : TermFields) (next : ℕ) → term h.events (length (rows_in h)) b at ≡ got x next → next ≡ at + 5
-  unfolding term bind onward
+  unfolding term bind onward behind_row behind_event term_of
   term-got at x next e =
-      let (row, m1, is1, e1) = and_then-got b (number (λ r. ltb r (length (rows_in h))) b at) _ x next e in
-      let (event, m2, is2, e2) = and_then-got b (byte (λ e. ltb e h.events) b m1) _ x next e1 in
-      let (weight, m3, is3, e3) = and_then-got b (number anything b m2) _ x next e2 in
+      let (row, m1, is1, e1) = and_then-got b (number (λ r. ltb r (length (rows_in h))) b at) behind_row x next e in
+      let (event, m2, is2, e2) = and_then-got b (byte (λ e. ltb e h.events) b m1) (behind_event row) x next e1 in
+      let (weight, m3, is3, e3) = and_then-got b (number anything b m2) (term_of row event) x next e2 in
       let end : m3 ≡ next = cc (e3) in
       omega (arith, number-got b _ at row m1 is1, (byte-got b _ m1 event m2 is2).1, number-got b _ m2 weight m3 is3, end)
 
   term-ends : (at spot : ℕ) → term h.events (length (rows_in h)) b at ≡ refused bundle_end_number spot → InTerm at spot
-  unfolding term bind onward
+  unfolding term bind onward behind_row behind_event term_of
   term-ends at spot e = ⊎_elim
       (λ q. inl (number-missing b _ at bundle_end_number spot q))
       (λ (row, m1, is1, e1). let s1 = number-got b _ at row m1 is1 in ⊎_elim
@@ -50,9 +60,9 @@ module _ (h : Head) (b : List ℕ) where
       (λ (event, m2, is2, e2). let s2 = (byte-got b _ m1 event m2 is2).1 in ⊎_elim
       (λ q. inr (inr (omega (arith, s1, s2, number-missing b _ m2 bundle_end_number spot q))))
       (λ (weight, m3, is3, never). impossible cc)
-      ((and_then-refused b (number anything b m2) _ bundle_end_number spot).0 e2))
-      ((and_then-refused b (byte (λ e. ltb e h.events) b m1) _ bundle_end_number spot).0 e1))
-      ((and_then-refused b (number (λ r. ltb r (length (rows_in h))) b at) _ bundle_end_number spot).0 e)
+      ((and_then-refused b (number anything b m2) (term_of row event) bundle_end_number spot).0 e2))
+      ((and_then-refused b (byte (λ e. ltb e h.events) b m1) (behind_event row) bundle_end_number spot).0 e1))
+      ((and_then-refused b (number (λ r. ltb r (length (rows_in h))) b at) behind_row bundle_end_number spot).0 e)
 
   -- in a list of terms, the one at five bytes for each before it
   terms-end : {S : Type 0} (ss : List S) (before : List TermFields) (at spot : ℕ)
@@ -63,7 +73,8 @@ module _ (h : Head) (b : List ℕ) where
       (λ q. (0, later at (at + 5 * 0) (omega arith) (term-ends at spot q)))
       (λ (x, mid, is, q). let r = terms-end ss (before ++ x ∷ []) mid spot q in
       (suc r.0, later (mid + 5 * r.0) (at + 5 * suc r.0) (omega (arith, term-got at x mid is)) r.1))
-      ((and_then-refused b (term h.events (length (rows_in h)) b at) _ bundle_end_number spot).0 e)
+      ((and_then-refused b (term h.events (length (rows_in h)) b at)
+      (λ (x : TermFields). each (λ s before. term h.events (length (rows_in h))) ss (before ++ x ∷ [])) bundle_end_number spot).0 e)
     where
       later : (i j : ℕ) → i ≡ j → InTerm i spot → InTerm j spot
       later i j same = subst (λ (k : ℕ). InTerm k spot) same
@@ -89,10 +100,21 @@ module _ (h : Head) (done l : List ℕ) (p : ℕ) (ends : EndsAt l p) where
       (λ (count, m2, is2, e2). let s2 = (byte-got (done ++ l) _ m1 count m2 is2).1 in ⊎_elim
       (λ q. let (t, at) = terms-end h (done ++ l) _ [] m2 (length done + p) q in in_term t m2 (omega (arith, s1, s2)) at)
       (λ (ts, m3, is3, never). impossible cc)
-      ((and_then-refused (done ++ l) (times count (term h.events (length (rows_in h))) (done ++ l) m2) _ bundle_end_number (length done + p)).0 e2))
-      ((and_then-refused (done ++ l) (byte (λ c. leb c max_terms) (done ++ l) m1) _ bundle_end_number (length done + p)).0 e1))
-      ((and_then-refused (done ++ l) (number (leb 1) (done ++ l) (length done + 1)) _ bundle_end_number (length done + p)).0 e)
+      ((and_then-refused (done ++ l) (times count (term h.events (length (rows_in h))) (done ++ l) m2) (made k)
+      bundle_end_number (length done + p)).0 e2))
+      ((and_then-refused (done ++ l) (byte (λ c. leb c max_terms) (done ++ l) m1) (behind_count k) bundle_end_number (length done + p)).0 e1))
+      ((and_then-refused (done ++ l) (number (leb 1) (done ++ l) (length done + 1)) behind_k bundle_end_number (length done + p)).0 e)
     where
+      -- what is read behind the terms, behind their count and behind k
+      made : ℕ → List TermFields → Reader CertificateFields
+      made k ts = give (kind1 (record { k = k; terms = ts }))
+
+      behind_count : ℕ → ℕ → Reader CertificateFields
+      behind_count k count = times count (term h.events (length (rows_in h))) >>= made k
+
+      behind_k : ℕ → Reader CertificateFields
+      behind_k k = byte (λ c. leb c max_terms) >>= behind_count k
+
       in_term : (t m2 : ℕ) → m2 ≡ length done + 4 → InTerm h (done ++ l) (m2 + 5 * t) (length done + p) → EndsInField l p
       in_term t m2 first = ⊎_elim
           (λ at. inr (ends, (kind, inr (t, inl (omega (arith, at, first))))))

@@ -3,7 +3,8 @@ use Rattle.std.specs.Prelude.{◌≡◌, Bool, false, ◌&&◌, ◌↔◌, ◌�
 use Rattle.std.proofs.Math.Path.{refl, sym, ap, subst}
 use Rattle.std.proofs.Common.{◌∙◌, add-zero, le→leb, length-drop, drop-cons, drop-drop, get_or-drop}
 use Rattle.std.proofs.lemmas.Bool.{false≢true}
-use Rattle.std.proofs.Math.Logic.{⊎_elim, Iff·trans}
+use mathlib.Core.Logic.Iff
+use Rattle.std.proofs.Math.Logic.{⊎_elim}
 use mathlib.Core.List.{List, [], ◌∷◌, ◌++◌, flat_map}
 use Prim.Native.Nat.{ℕ, suc, ◌+◌, ◌-◌, ◌≤◌, ◌<◌}
 use native.Mathlib.Omega.{arith}
@@ -217,7 +218,7 @@ module _ (b : List ℕ) (bytes : Bytes b) (spot : ℕ) where
   module _ (rows_fit : ℕ → Log → Bool) (none : (n : ℕ) → T (rows_fit n [])) (fewer : Fewer rows_fit) where
     pub head_8 : (head rows_fit b 0 ≡ refused events_number spot) ↔ ((n : ℕ) × (log : Log) × T (rows_fit n log) × EventsPass b n log spot)
     unfolding any
-    head_8 = Iff·trans (word-stops rows_fit none fewer b bytes events_number spot refl) (
+    head_8 = Iff.trans (word-stops rows_fit none fewer b bytes events_number spot refl) (
       (λ (n, log, rest, d, fit, stops). (n, log, fit, (events_pass (rows_fit n) n log).0 (rest, d, stops))),
       (λ (n, log, fit, e). let (rest, d, stops) = (events_pass (rows_fit n) n log).1 e in (n, log, rest, d, fit, stops)),
     )
@@ -226,7 +227,7 @@ module _ (b : List ℕ) (bytes : Bytes b) (spot : ℕ) where
   module _ (none : (n : ℕ) → T (rows_in_limit n [])) (fewer : Fewer rows_in_limit) where
     pub head_9 : (head rows_in_limit b 0 ≡ refused rows_number spot) ↔ ((n : ℕ) × (log : Log) × T (rows_in_limit n log) × RowsPass b n log spot)
     unfolding any
-    head_9 = Iff·trans (word-stops rows_in_limit none fewer b bytes rows_number spot refl) (
+    head_9 = Iff.trans (word-stops rows_in_limit none fewer b bytes rows_number spot refl) (
       (λ (n, log, rest, d, fit, stops). (n, log, fit, (rows_pass n log).0 (rest, d, stops))),
       (λ (n, log, fit, e). let (rest, d, stops) = (rows_pass n log).1 e in (n, log, rest, d, fit, stops)),
     )

@@ -2,7 +2,7 @@
 use Rattle.std.specs.Prelude.{◌≡◌, Bool, true, false, ◌↔◌, drop, eqb, leb}
 use Rattle.std.proofs.Math.Path.{refl, sym, ap, ap₂}
 use Rattle.std.proofs.Common.{◌∙◌, length-append, length-take, length-drop}
-use Rattle.std.proofs.Math.Logic.{Iff·trans}
+use mathlib.Core.Logic.Iff
 use mathlib.Core.List.{List, [], ◌∷◌, ◌++◌, append_assoc}
 use Prim.Native.Nat.{ℕ, zero, suc, ◌+◌, ◌-◌, ◌≤◌, ◌<◌}
 use native.Mathlib.Omega.{arith}
@@ -52,22 +52,22 @@ none_broken true true true = ((λ e. (refl, refl, refl)), (λ e. refl))
 module _ (last : Bool) (number : ℕ) (b : List ℕ) where
   pub fault-number-exactly : (fault last number b ≡ block_number_number) ↔ (number_at b 0 ≡ number → ⊥)
   unfolding fault right_number
-  fault-number-exactly = Iff·trans (number-first (right_number number b) (right_use last b) (right_sums b))
+  fault-number-exactly = Iff.trans (number-first (right_number number b) (right_use last b) (right_sums b))
       (eqb-false (number_at b 0) number, ne_eqb (number_at b 0) number)
 
   pub fault_use_exactly : (fault last number b ≡ block_use_number) ↔ ((number_at b 0 ≡ number) × (right_use last b ≡ false))
   unfolding fault right_number
-  fault_use_exactly = Iff·trans (use_first (right_number number b) (right_use last b) (right_sums b))
+  fault_use_exactly = Iff.trans (use_first (right_number number b) (right_use last b) (right_sums b))
       ((λ (e, f). (eqb-true _ _ e, f)), (λ (e, f). (eq-eqb _ _ e, f)))
 
   pub fault-sums-exactly : (fault last number b ≡ block_sums_number) ↔ ((number_at b 0 ≡ number) × (right_use last b ≡ true) × (right_sums b ≡ false))
   unfolding fault right_number
-  fault-sums-exactly = Iff·trans (sums_first (right_number number b) (right_use last b) (right_sums b))
+  fault-sums-exactly = Iff.trans (sums_first (right_number number b) (right_use last b) (right_sums b))
       ((λ (e, f, g). (eqb-true _ _ e, f, g)), (λ (e, f, g). (eq-eqb _ _ e, f, g)))
 
   pub fault-none-exactly : (fault last number b ≡ 0) ↔ ((number_at b 0 ≡ number) × (right_use last b ≡ true) × (right_sums b ≡ true))
   unfolding fault right_number
-  fault-none-exactly = Iff·trans (none_broken (right_number number b) (right_use last b) (right_sums b))
+  fault-none-exactly = Iff.trans (none_broken (right_number number b) (right_use last b) (right_sums b))
       ((λ (e, f, g). (eqb-true _ _ e, f, g)), (λ (e, f, g). (eq-eqb _ _ e, f, g)))
 
 -- the rules of a block, one by one

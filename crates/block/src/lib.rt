@@ -1,5 +1,7 @@
 // Sealed files: 1 to 128 blocks of 512 bytes that hold a bundle of 1 to 64,512 bytes.
 // The contracts cite specs/Block.antt, a block, and specs/File.antt, a file.
+#![tactic(auto)]
+
 pub mod contents; // the bundle of a file
 pub mod rules; // what a block and a file must keep
 

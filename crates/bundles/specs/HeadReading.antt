@@ -15,7 +15,7 @@ use Rattle.refusals.specs.Results as results
 use Rattle.refusals.specs.Exactly.{Exactly, exactly-here, exactly-later}
 use Rattle.refusals.specs.declared.Refusal.{Refusal}
 use Rattle.nets.specs.Nets.{Log}
-use Rattle.bundles.specs.Reading.{Read, got, item, ◌>>◌, and_then, give, require, byte, following, onward, item_in}
+use Rattle.bundles.specs.Reading.{Read, got, item, ◌>>=◌, ◌>>◌, and_then, give, require, byte, following, onward, item_in}
 use Rattle.bundles.specs.Layout.{head_bytes, HeadInFront, PlaceFields, Head, to_place, to_net}
 use Rattle.bundles.specs.Readers.{first_byte, anything, word, places, head_after, head, any_rows, bundle_size, bundle_head, head_in, head_of, net_in, read_head, events_in}
 use Rattle.bundles.specs.FieldReading.{between, between_true, byte-got}
@@ -144,9 +144,10 @@ head-parts rows_fit b h next e = go (first_byte b 0) refl
 pub head_unlimited : (rows_fit : ℕ → Log → Bool) (b : List ℕ) (h : Head) (next : ℕ) → head rows_fit b 0 ≡ got h next → head any_rows b 0 ≡ got h next
 unfolding head head_after bind onward
 head_unlimited rows_fit b h next e =
-    let n = and_then-got b (first_byte b 0) _ h next e in
-    let count = and_then-got b (byte anything b n.1) _ h next n.3 in
-    let log = and_then-got b (following count.0 (word (rows_fit n.0) n.0) b count.1) _ h next count.3 in
+    let n = and_then-got b (first_byte b 0) (head_after rows_fit) h next e in
+    let behind = λ (log : Log). places n.0 >>= (λ (ps : List PlaceFields). give (record { events = n.0; log = log; places = ps })) in
+    let count = and_then-got b (byte anything b n.1) (λ (count : ℕ). following count (word (rows_fit n.0) n.0) >>= behind) h next n.3 in
+    let log = and_then-got b (following count.0 (word (rows_fit n.0) n.0) b count.1) behind h next count.3 in
     rw (n.2, count.2, words_unlimited (rows_fit n.0) n.0 b count.0 [] count.1 log.0 log.1 log.2) log.3
 
 pub head-of : (b : List ℕ) (h : Head) (next : ℕ) → head any_rows b 0 ≡ got h next → head_of b ≡ h

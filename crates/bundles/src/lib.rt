@@ -1,5 +1,7 @@
 // Reading a bundle: fields, words and places, each at an offset. The contracts cite specs/Readers.antt.
 // All are inner functions.
+#![tactic(auto)]
+
 pub mod fields; // a byte, a number
 pub mod net; // a place, the places of a net
 pub mod terms; // a term of a certificate

@@ -1,4 +1,6 @@
 // Reading the certificates of a bundle: one for each wrong continuation, checked while it is read.
+#![tactic(auto)]
+
 ghost use Rattle.std.specs.Prelude.{◌≡◌, List, [], ◌+◌, ◌*◌, ◌≤◌, ◌<◌, length, drop};
 ghost use Rattle.limits.specs.Limits.{max_events, max_rows};
 ghost use Rattle.nets.specs.Nets.{place_permits};

@@ -1,5 +1,7 @@
 // The places of a bundle side by side, so that the compiler takes several at a time. The contracts cite specs/Matrix.antt.
 // All are inner functions.
+#![tactic(auto)]
+
 ghost use Rattle.std.specs.Prelude.{◌≡◌, true, ℕ, ◌+◌, ◌*◌, ◌≤◌, ◌<◌, T, length, get_or};
 ghost use Rattle.laws.specs.Bits.{bit};
 ghost use Rattle.limits.specs.Limits.{max_events};

@@ -1,5 +1,7 @@
 // Reading an input whole, writing bytes, and saying what went wrong. All are inner functions: no contract can say what a program reads or writes,
 // so the work of a program, and the line that it prints, is a function on slices.
+#![tactic(auto)]
+
 ghost use Rattle.std.specs.Prelude.{◌-◌, ◌≤◌, length};
 ghost use Rattle.console.specs.Inputs.{Within};
 

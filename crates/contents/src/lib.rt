@@ -1,5 +1,7 @@
 // A bundle that was judged, read again without tests: where its places and its certificates stand. The contracts cite specs/Contents.antt.
 // All are inner functions.
+#![tactic(auto)]
+
 ghost use Rattle.std.specs.Prelude.{◌≡◌, ◌*◌, length};
 ghost use Rattle.bundles.specs.PlaceReading.{place_size};
 ghost use Rattle.bundles.specs.Layout.{front_bytes};

@@ -3,7 +3,8 @@ use Rattle.std.specs.Prelude.{◌≡◌, Bool, true, false, not, ◌↔◌, ◌�
 use Rattle.std.proofs.Math.Path.{refl}
 use Rattle.std.proofs.Common.{sym, ap, ◌∙◌, subst, arith, leb→le, le→leb, T_not}
 use Rattle.std.proofs.Math.Bool.{false≢true}
-use Rattle.std.proofs.Math.Logic.{Iff·trans, Iff·symm, inl, inr, ⊎_elim}
+use mathlib.Core.Logic.Iff
+use Rattle.std.proofs.Math.Logic.{inl, inr, ⊎_elim}
 use Rattle.std.proofs.Math.Dec.{not_T}
 use Rattle.std.proofs.Math.ListN.{length}
 use Rattle.laws.specs.Booleans.{at_least, less, yes_true, no_false}
@@ -50,12 +51,12 @@ sized table_length b same = (
 module _ (table_length : ℕ) (b : List ℕ) (number : ℕ) (not-4 : 4 ≡ number → ⊥) (not-5 : 5 ≡ number → ⊥) where
   in_bundle : (spot : ℕ) {Y : Type 0} → (judging b 0 ≡ refused number spot) ↔ Y → (verdict table_length b ≡ verdicts.Refused (refusal number spot))
       ↔ (Sized table_length b × Y)
-  in_bundle spot same = Iff·trans (judge_later table_length b number not-4 not-5 spot) (sized table_length b same)
+  in_bundle spot same = Iff.trans (judge_later table_length b number not-4 not-5 spot) (sized table_length b same)
 
 -- ---- A place that does not fit
 
 fits-exactly : (n : ℕ) (log : Log) → LogBelow n log → (p : Place) → T (fits n log p) ↔ Fits n log p
-fits-exactly n log below p = Iff·trans (Iff·symm (region_fits n log below p)) (region_permits n log below p)
+fits-exactly n log below p = Iff.trans (Iff.symm (region_fits n log below p)) (region_permits n log below p)
 
 misfit-exactly : (h : Head) → LogBelowIn h → (j : ℕ) → ((j ≡ first_failing (fits_in h) (to_net h)) × (all (fits_in h) (to_net h) ≡ false))
     ↔ LowestMisfit h j
@@ -152,7 +153,7 @@ module _ (table_length : ℕ) (b : List ℕ) (bytes : Bytes b) where
   in_word : (k : ℕ) → among k (6 ∷ 7 ∷ 8 ∷ 9 ∷ []) ≡ true → among k (6 ∷ 7 ∷ []) ≡ false → (spot : ℕ) {Y : Type 0}
       → (head rows_in_limit b 0 ≡ refused k spot) ↔ Y → (verdict table_length b ≡ verdicts.Refused (refusal k spot)) ↔ (Sized table_length b × Y)
   unfolding any
-  in_word k listed other spot same = Iff·trans (in_fields k listed spot) (
+  in_word k listed other spot same = Iff.trans (in_fields k listed spot) (
     (λ (s, e). (s, same.0 (⊎_elim (λ q. q) (λ (d, _, rest, due, q). absurd (never d q)) e))),
     (λ (s, y). (s, inl (same.1 y))),
   )
@@ -163,31 +164,31 @@ module _ (table_length : ℕ) (b : List ℕ) (bytes : Bytes b) where
 pub judge_exactly : (table_length : ℕ) (b : List ℕ) → Bytes b → JudgeExactly table_length b
 unfolding any
 judge_exactly table_length b bytes = record {
-  bundle-length = λ spot. Iff·trans (judge_4 table_length b spot)
+  bundle-length = λ spot. Iff.trans (judge_4 table_length b spot)
       ((λ (at, e). (at, (right_size_wrong (length b)).0 e)), (λ (at, c). (at, (right_size_wrong (length b)).1 c)));
-  table-short = λ spot. Iff·trans (judge_5 table_length b spot) (
+  table-short = λ spot. Iff.trans (judge_5 table_length b spot) (
     (λ (right, (at, short)). let s = right_size-bounds (length b) right in (at, s.0, s.1, (less table_size table_length).0 short)),
     (λ (at, some, most, short). (right_size_intro (length b) some most, (at, (less table_size table_length).1 short))),
   );
   fields = in_fields table_length b bytes;
   ends = ends table_length b bytes;
   departs = departs table_length b bytes;
-  events_pass = λ spot. in_word table_length b bytes 8 refl refl spot (Iff·trans (head_8 b bytes spot rows_in_limit one-row few-rows) (
+  events_pass = λ spot. in_word table_length b bytes 8 refl refl spot (Iff.trans (head_8 b bytes spot rows_in_limit one-row few-rows) (
     (λ (n, log, few, e). (n, log, leb→le _ max_rows few, e)),
     (λ (n, log, few, e). (n, log, le→leb _ max_rows few, e)),
   ));
-  rows_pass = λ spot. in_word table_length b bytes 9 refl refl spot (Iff·trans (head_9 b bytes spot one-row few-rows) (
+  rows_pass = λ spot. in_word table_length b bytes 9 refl refl spot (Iff.trans (head_9 b bytes spot one-row few-rows) (
     (λ (n, log, few, e). (n, log, leb→le _ max_rows few, e)),
     (λ (n, log, few, e). (n, log, le→leb _ max_rows few, e)),
   ));
-  place = λ spot. in_bundle table_length b place_misfit_number (λ e. omega (arith, e)) (λ e. omega (arith, e)) spot (Iff·trans (judging_10 b bytes spot) (
+  place = λ spot. in_bundle table_length b place_misfit_number (λ e. omega (arith, e)) (λ e. omega (arith, e)) spot (Iff.trans (judging_10 b bytes spot) (
     (λ (h, rest, t, at, fails). (h, rest, t, (misfit-exactly h (log-below h t.front.limits) spot).0 (at, fails))),
     (λ (h, rest, t, m). let c = (misfit-exactly h (log-below h t.front.limits) spot).1 m in (h, rest, t, c.0, c.1)),
   ));
   listed-place = λ spot. in_bundle table_length b place_permits_number (λ e. omega (arith, e)) (λ e. omega (arith, e)) spot
-      (Iff·trans (judging-unsolved b bytes place_permits_number spot refl (λ e. omega (arith, e)) (λ e. omega (arith, e))) (place-kind b spot));
+      (Iff.trans (judging-unsolved b bytes place_permits_number spot refl (λ e. omega (arith, e)) (λ e. omega (arith, e))) (place-kind b spot));
   weights = λ spot. in_bundle table_length b weights_number (λ e. omega (arith, e)) (λ e. omega (arith, e)) spot
-      (Iff·trans (judging-unsolved b bytes weights_number spot refl (λ e. omega (arith, e)) (λ e. omega (arith, e))) (weights-kind b spot));
+      (Iff.trans (judging-unsolved b bytes weights_number spot refl (λ e. omega (arith, e)) (λ e. omega (arith, e))) (weights-kind b spot));
   bytes-follow = λ spot. in_bundle table_length b bytes_follow_number (λ e. omega (arith, e)) (λ e. omega (arith, e)) spot (judging_13 b bytes spot);
 }
 
@@ -196,9 +197,9 @@ judge_exactly table_length b bytes = record {
 pub fields-exactly : (b : List ℕ) (at : ℕ) → FieldsExactly b at
 unfolding byte number
 fields-exactly b at = record {
-  one_byte = λ in_range k spot. Iff·trans (field-refused 1 (get_or b at 0) in_range b at k spot)
+  one_byte = λ in_range k spot. Iff.trans (field-refused 1 (get_or b at 0) in_range b at k spot)
       ((λ (here, cause). record { here = here; cause = cause }), (λ f. (f.here, f.cause)));
-  two_bytes = λ in_range k spot. Iff·trans (field-refused 2 _ in_range b at k spot)
+  two_bytes = λ in_range k spot. Iff.trans (field-refused 2 _ in_range b at k spot)
       ((λ (here, cause). record { here = here; cause = cause }), (λ f. (f.here, f.cause)));
   events = λ rows_fit n log spot. word_8 n b at rows_fit log spot;
   rows = λ rows_fit n log spot. word_9 n b at rows_fit log spot;

@@ -3,7 +3,8 @@ use Rattle.std.specs.Prelude.{◌≡◌, refl, ◌↔◌, eqb, leb, length, drop
 use Rattle.std.proofs.Math.Path.{sym, ap, ap₂, subst}
 use Rattle.std.proofs.Common.{◌∙◌, eq-or-lt_of_le, length-take, length-drop, length-take-le}
 use Rattle.std.proofs.Math.Bool.{true}
-use Rattle.std.proofs.Math.Logic.{Iff·trans, ⊎_elim}
+use mathlib.Core.Logic.Iff
+use Rattle.std.proofs.Math.Logic.{⊎_elim}
 use mathlib.Core.List.{List}
 use Prim.Native.Nat.{ℕ, ◌+◌, ◌-◌, ◌*◌, ◌/◌, ◌%◌, ◌≤◌, ◌<◌}
 use Rattle.std.proofs.Math.Nat.{one-mul}
@@ -174,23 +175,23 @@ module _ (file : List ℕ) (blocks : ℕ) (whole : WholeBlocks file blocks) wher
 
     -- a block keeps the rules exactly when it has no fault
     pub kept-exactly : (fault_at file k ≡ 0) ↔ BlockKept file blocks k
-    kept-exactly = Iff·trans (fault_at-none file k) (rw count (
+    kept-exactly = Iff.trans (fault_at-none file k) (rw count (
       (λ (n, c, s). record { number = numbered-exactly.0 n; contents = use_exactly.0 c; sums = sums-exactly.0 s }),
       (λ r. (numbered-exactly.1 r.number, use_exactly.1 r.contents, sums-exactly.1 r.sums)),
     ))
 
     -- and a fault's number says which rule is the first that it breaks
     number-exactly : (fault_at file k ≡ block_number_number) ↔ WrongNumber file k
-    number-exactly = Iff·trans (fault_at-number file k) ((λ other e. other (numbered-exactly.1 e)), (λ other e. other (numbered-exactly.0 e)))
+    number-exactly = Iff.trans (fault_at-number file k) ((λ other e. other (numbered-exactly.1 e)), (λ other e. other (numbered-exactly.0 e)))
 
     wrong_use_exactly : (fault_at file k ≡ block_use_number) ↔ WrongUse file blocks k
-    wrong_use_exactly = Iff·trans (fault_at_use file k) (rw count (
+    wrong_use_exactly = Iff.trans (fault_at_use file k) (rw count (
         let fails = fails-exactly _ use_exactly in
         ((λ (n, e). (numbered-exactly.0 n, fails.0 e)), (λ (n, other). (numbered-exactly.1 n, fails.1 other)))
         ))
 
     wrong_sums_exactly : (fault_at file k ≡ block_sums_number) ↔ WrongSums file blocks k
-    wrong_sums_exactly = Iff·trans (fault_at-sums file k) (rw count (
+    wrong_sums_exactly = Iff.trans (fault_at-sums file k) (rw count (
         let fails = fails-exactly _ sums-exactly in (
           (λ (n, c, e). (numbered-exactly.0 n, use_exactly.0 c, fails.0 e)),
           (λ (n, c, other). (numbered-exactly.1 n, use_exactly.1 c, fails.1 other)),
@@ -256,7 +257,7 @@ module _ (file : List ℕ) (blocks : ℕ) (whole : WholeBlocks file blocks) (non
 
 bundle-exactly : (file b : List ℕ) → (opened file ≡ value b)
     ↔ ((blocks : ℕ) × WholeBlocks file blocks × ((k : ℕ) → k < blocks → BlockKept file blocks k) × (b ≡ joined (contents_of file) blocks))
-bundle-exactly file b = Iff·trans ((opened_gives file).line b) (to, from)
+bundle-exactly file b = Iff.trans ((opened_gives file).line b) (to, from)
   where
     to : (right_length (length file) ≡ true) × ((k : ℕ) → k < block_count file → fault_at file k ≡ 0) × (b ≡ bundle_of file)
         → (blocks : ℕ) × WholeBlocks file blocks × ((k : ℕ) → k < blocks → BlockKept file blocks k) × (b ≡ joined (contents_of file) blocks)
@@ -277,7 +278,7 @@ fault-line : (file : List ℕ) (room number : ℕ) (Fault : ℕ → ℕ → Type
     → (spot : ℕ) → (answer (opened file) room ≡ writing.Refused (refusal number spot))
     ↔ ((blocks : ℕ) × WholeBlocks file blocks × LowestFaulty file blocks spot (Fault blocks spot))
 fault-line file room number Fault some other short faulty spot =
-    Iff·trans (answer-refused-exactly (opened file) room (opened-fault-exactly file number some other) short spot) (
+    Iff.trans (answer-refused-exactly (opened file) room (opened-fault-exactly file number some other) short spot) (
       (λ (e, l).
           let (blocks, w) = (whole-exactly file).0 e in
           (blocks, w, (lowest-exactly file blocks w number (Fault blocks) (faulty blocks w) spot).0 l)),
@@ -287,7 +288,7 @@ fault-line file room number Fault some other short faulty spot =
 pub open_exactly : (file : List ℕ) (room : ℕ) → OpenExactly file room
 unfolding any
 open_exactly file room = record {
-  file-length = λ spot. Iff·trans (answer-refused-exactly (opened file) room (opened-length-exactly file) (λ e. omega (arith, e)) spot)
+  file-length = λ spot. Iff.trans (answer-refused-exactly (opened file) room (opened-length-exactly file) (λ e. omega (arith, e)) spot)
       ((λ (at, e). (at, (right_length_wrong (length file)).0 e)), (λ (at, c). (at, (right_length_wrong (length file)).1 c)));
   block-number = fault-line file room 17 (λ blocks k. WrongNumber file k) (λ e. omega (arith, e)) (λ e. omega (arith, e)) (λ e. omega (arith, e))
       (number-exactly file);
@@ -317,13 +318,13 @@ right-sealed b some most =
 pub seal_exactly : (b : List ℕ) (room : ℕ) → SealExactly b room
 unfolding any
 seal_exactly b room = record {
-  bundle-length = λ spot. Iff·trans (answer-refused-exactly (sealed b) room (sealed-length-exactly b) (λ e. omega (arith, e)) spot)
+  bundle-length = λ spot. Iff.trans (answer-refused-exactly (sealed b) room (sealed-length-exactly b) (λ e. omega (arith, e)) spot)
       ((λ (at, e). (at, (right_size_wrong (length b)).0 e)), (λ (at, c). (at, (right_size_wrong (length b)).1 c)));
-  output_short = λ spot. Iff·trans (answer-short-exactly (sealed b) room (sealed-refuses b) refl spot) (
+  output_short = λ spot. Iff.trans (answer-short-exactly (sealed b) room (sealed-refuses b) refl spot) (
     (λ (file, is, at, short). let s = sealed-size b file is in (s.0, s.1, at ∙ s.2, subst (λ (k : ℕ). room < k) s.2 short)),
     (λ (some, most, at, short). let f = right-sealed b some most in (f.0, f.1, at ∙ sym f.2, subst (λ (k : ℕ). room < k) (sym f.2) short)),
   );
-  result = λ n. Iff·trans (answer-length-exactly (sealed b) room n) (
+  result = λ n. Iff.trans (answer-length-exactly (sealed b) room n) (
     (λ (file, is, size, fits). let s = sealed-size b file is in (s.0, s.1, size ∙ s.2, subst (λ (k : ℕ). k ≤ room) s.2 fits)),
     (λ (some, most, size, fits). let f = right-sealed b some most in (f.0, f.1, size ∙ sym f.2, subst (λ (k : ℕ). k ≤ room) (sym f.2) fits)),
   );

@@ -1,7 +1,7 @@
 -- Screening, proved: the lines of Screening.antt from the laws of the readers.
 use Rattle.std.specs.Prelude.{◌≡◌, refl, true, false, ◌↔◌, List, [], ◌∷◌, ℕ, ◌≤◌, eqb, length}
 use Rattle.std.proofs.Common.{inl, inr, ⊎_elim, eqb-true, eq-eqb}
-use Rattle.std.proofs.Math.Logic.{Iff·trans}
+use mathlib.Core.Logic.Iff
 use Rattle.laws.specs.Booleans.{at_least, less, fails-exactly}
 use Rattle.laws.specs.Lists.{any, among}
 use Rattle.laws.specs.Numbers.{Bytes}
@@ -26,7 +26,7 @@ in_head : (b : List ℕ) (w : Word) (number : ℕ) → among number (6 ∷ 7 ∷
     → (screened b w ≡ screening.Refused (refusal number spot))
     ↔ ((length w ≤ 65535) × (1 ≤ length b) × (length b ≤ 64512) × (head any_rows b 0 ≡ refused number spot))
 unfolding any
-in_head b w number listed spot = Iff·trans (screen-field b w number listed spot) (
+in_head b w number listed spot = Iff.trans (screen-field b w number listed spot) (
   (λ (short, (right, e)). let s = right_size-bounds (length b) right in ((at_least (length w) max_word_events).0 short, s.0, s.1, e)),
   (λ (short, some, most, e). ((at_least (length w) max_word_events).1 short, (right_size_intro (length b) some most, e))),
 )
@@ -34,11 +34,11 @@ in_head b w number listed spot = Iff·trans (screen-field b w number listed spot
 pub screen-exactly : (b : List ℕ) → Bytes b → (w : Word) → ScreenExactly b w
 unfolding any
 screen-exactly b bytes w = record {
-  word-length = λ spot. Iff·trans (screen_14 b w spot) (
+  word-length = λ spot. Iff.trans (screen_14 b w spot) (
     (λ (at, e). (at, (less (length w) max_word_events).0 e)),
     (λ (at, h). (at, (less (length w) max_word_events).1 h)),
   );
-  bundle-length = λ spot. Iff·trans (screen_4 b w spot) (
+  bundle-length = λ spot. Iff.trans (screen_4 b w spot) (
     (λ (short, (at, e)). (at, (at_least (length w) max_word_events).0 short, (right_size_wrong (length b)).0 e)),
     (λ (at, short, c). ((at_least (length w) max_word_events).1 short, (at, (right_size_wrong (length b)).1 c))),
   );
@@ -57,12 +57,12 @@ screen-exactly b bytes w = record {
         (λ e. inr ((in_head b w 8 refl spot).1 (few, some, most, e)))
         ((head_7_8 b bytes spot).1 (d, none))),
   );
-  events_pass = λ spot. Iff·trans (in_head b w 8 refl spot)
+  events_pass = λ spot. Iff.trans (in_head b w 8 refl spot)
       (let law = head_8 b bytes spot any_rows (λ n. tt) (λ n log more t. tt) in (
         (λ (few, some, most, e). let (n, log, _, over) = law.0 e in (few, some, most, (n, log, over))),
         (λ (few, some, most, (n, log, over)). (few, some, most, law.1 (n, log, tt, over))),
       ));
-  event = λ spot. Iff·trans (screen_15 b w bytes spot) (
+  event = λ spot. Iff.trans (screen_15 b w bytes spot) (
     (λ (short, (right, (h, rest, f, at, fails))).
         let s = right_size-bounds (length b) right in
         let c = (bad_exactly h.events w spot).0 (at, fails) in
@@ -84,22 +84,22 @@ join-exactly first second w =
     let one = read-exactly first in
     let two = read-exactly second in
     record {
-      word-length = λ spot. Iff·trans (join_14 first second w spot) (
+      word-length = λ spot. Iff.trans (join_14 first second w spot) (
         (λ (at, e). (at, (less (length w) max_word_events).0 e)),
         (λ (at, h). (at, (less (length w) max_word_events).1 h)),
       );
       own = λ number listed spot.
           let its = empty-refused first number spot in
           let other = empty-refused second number spot in
-          Iff·trans (join-own first second w number listed spot) (
+          Iff.trans (join-own first second w number listed spot) (
             (λ (h, e). (short.0 h, ⊎_elim (λ q. inl (its.1 q)) (λ (read, q). inr (one.1 read, other.1 q)) e)),
             (λ (h, e). (short.1 h, ⊎_elim (λ q. inl (its.0 q)) (λ (read, q). inr (one.0 read, other.0 q)) e)),
           );
-      counts = λ spot. Iff·trans (join_19 first second w spot) (
+      counts = λ spot. Iff.trans (join_19 first second w spot) (
         (λ (h, (read, read', (at, e))). (at, short.0 h, one.1 read, two.1 read', (differ (events_in first) (events_in second)).0 e)),
         (λ (at, h, read, read', e). (short.1 h, (one.0 read, two.0 read', (at, (differ (events_in first) (events_in second)).1 e)))),
       );
-      event = λ spot. Iff·trans (join_15 first second w spot) (
+      event = λ spot. Iff.trans (join_15 first second w spot) (
         (λ (h, (read, read', (same, (at, fails)))).
             let c = (bad_exactly (events_in first) w spot).0 (at, fails) in
             (short.0 h, one.1 read, two.1 read', eqb-true (events_in first) (events_in second) same, c.0, c.1, c.2)),

@@ -1,7 +1,7 @@
 -- The log table, proved: the lines of Tables.antt from the laws of the log's rows.
 use Rattle.std.specs.Prelude.{◌≡◌, true, false, ◌↔◌, List, ℕ, ◌+◌, ◌≤◌, ◌<◌, leb, length}
 use Rattle.std.proofs.Common.{sym, ap, ◌∙◌, subst, true≢false, ⊎_elim, lt_of_lt_of_le, arith}
-use Rattle.std.proofs.Math.Logic.{Iff·trans}
+use mathlib.Core.Logic.Iff
 use Rattle.laws.specs.Booleans.{at_least, less, true_or_false}
 use Rattle.limits.specs.Limits.{max_events, max_rows}
 use Rattle.nets.specs.Nets.{Word, Log, rows}
@@ -22,13 +22,13 @@ use Rattle.demands.specs.Tables.{FreshExactly, InRange, Admitted, rows_with, Tak
 
 pub fresh-exactly : (n : ℕ) (t : List ℕ) → FreshExactly n t
 fresh-exactly n t = record {
-  table-short = λ spot. Iff·trans (fresh-refused n t (fresh_5 n t) spot)
+  table-short = λ spot. Iff.trans (fresh-refused n t (fresh_5 n t) spot)
       ((λ (at, e). (at, (less table_size (length t)).0 e)), (λ (at, h). (at, (less table_size (length t)).1 h)));
-  range = λ spot. Iff·trans (fresh-refused n t (fresh_16 n t) spot) (
+  range = λ spot. Iff.trans (fresh-refused n t (fresh_16 n t) spot) (
     (λ (long, (at, e)). (at, (at_least table_size (length t)).0 long, (event_count_wrong n).0 e)),
     (λ (at, long, c). ((at_least table_size (length t)).1 long, (at, (event_count_wrong n).1 c))),
   );
-  next = λ s. Iff·trans (fresh-next n t (fresh_gives n t) s) (
+  next = λ s. Iff.trans (fresh-next n t (fresh_gives n t) s) (
     (λ (long, (e, is)). let r = (event_count-right n).0 e in ((at_least table_size (length t)).0 long, r.0, r.1, is)),
     (λ (long, some, most, is). ((at_least table_size (length t)).1 long, ((event_count-right n).1 (some, most), is))),
   );
@@ -37,7 +37,7 @@ fresh-exactly n t = record {
 -- ---- Take
 
 range-exactly : (s : Summary) → (right_summary s ≡ true) ↔ InRange s
-range-exactly s = Iff·trans (summary-right s) (
+range-exactly s = Iff.trans (summary-right s) (
   (λ (a, b, c, d, e). record { n-some = a; n-most = b; rows-some = c; rows-most = d; events-most = e }),
   (λ r. (r.n-some, r.n-most, r.rows-some, r.rows-most, r.events-most)),
 )
@@ -55,24 +55,24 @@ module _ (s : Summary) (t : List ℕ) (w : Word) where
 
   pub take-exactly : TakeExactly s t w
   take-exactly = record {
-    table-short = λ spot. Iff·trans (take-refused s t w (take_5 s t w) spot)
+    table-short = λ spot. Iff.trans (take-refused s t w (take_5 s t w) spot)
         ((λ (at, e). (at, (less table_size (length t)).0 e)), (λ (at, h). (at, (less table_size (length t)).1 h)));
-    range = λ spot. Iff·trans (take-refused s t w (take_16 s t w) spot) (
+    range = λ spot. Iff.trans (take-refused s t w (take_16 s t w) spot) (
       (λ (long, (at, e)). (at, (at_least table_size (length t)).0 long, (out_of_range s).0 e)),
       (λ (at, long, none). ((at_least table_size (length t)).1 long, (at, (out_of_range s).1 none))),
     );
-    events = λ spot. Iff·trans (take-refused s t w (take_8 s t w) spot) (
+    events = λ spot. Iff.trans (take-refused s t w (take_8 s t w) spot) (
       (λ (long, (fine, (at, e))). (at, (at_least table_size (length t)).0 long, (range-exactly s).0 fine, (less _ 1024).0 e)),
       (λ (at, long, range, over). ((at_least table_size (length t)).1 long, ((range-exactly s).1 range, (at, (less _ 1024).1 over)))),
     );
-    event = λ spot. Iff·trans (take-refused s t w (take_7 s t w) spot) (
+    event = λ spot. Iff.trans (take-refused s t w (take_7 s t w) spot) (
       (λ (long, (fine, (few, c))). let r = (bad_exactly s.n w spot).0 c in (admitted long fine few, r.0, r.1, r.2)),
       (λ (a, within, here, lower). (
         (at_least table_size (length t)).1 a.table,
         ((range-exactly s).1 a.range, ((at_least _ 1024).1 a.events, (bad_exactly s.n w spot).1 (within, here, lower))),
       )),
     );
-    rows = λ spot. Iff·trans (take-refused s t w (take_9 s t w) spot) (
+    rows = λ spot. Iff.trans (take-refused s t w (take_9 s t w) spot) (
       (λ (long, (fine, (few, (below, (at, over))))).
           let a = admitted long fine few in
           let b = (below-exactly s.n w).0 below in
@@ -91,7 +91,7 @@ module _ (s : Summary) (t : List ℕ) (w : Word) where
         ),
       )),
     );
-    next = λ s'. Iff·trans (take_next s t w (take_gives s t w) s') (
+    next = λ s'. Iff.trans (take_next s t w (take_gives s t w) s') (
       (λ (long, (fine, (few, (below, (fits, is))))).
           let a = admitted long fine few in
           let b = (below-exactly s.n w).0 below in

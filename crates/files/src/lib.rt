@@ -1,5 +1,7 @@
 // The calls that demand 3 speaks of, on one file and on two: opening, judging and screening, one behind the other.
 // `demands` states demand 3, which the last line of `run_both` says of these answers; specs/Files.antt gives the answers.
+#![tactic(auto)]
+
 ghost use Rattle.std.specs.Prelude.{◌≡◌, length};
 ghost use Rattle.refusals.specs.Answers.{fitted, written};
 ghost use Rattle.block.specs.File.{opened};

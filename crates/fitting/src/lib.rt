@@ -1,4 +1,6 @@
 // Whether the places of a bundle fit its log, from the rows of the log table. All are inner functions.
+#![tactic(auto)]
+
 ghost use Rattle.std.specs.Prelude.{◌≡◌, true, ◌*◌, ◌≤◌, length};
 ghost use Rattle.places.specs.Machine.{place_of, Held};
 ghost use Rattle.rows.specs.Rows.{row_size, row_at, rows_of};

@@ -1,4 +1,6 @@
 // Reading a bundle up to its last place, with the rows of its log taken into a table.
+#![tactic(auto)]
+
 ghost use Rattle.std.specs.Prelude.{◌≡◌, List, ℕ, ◌≤◌, ◌<◌, length};
 ghost use Rattle.limits.specs.Limits.{max_events, max_log_events, max_rows};
 ghost use Rattle.nets.specs.Nets.{Log};

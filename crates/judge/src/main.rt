@@ -1,4 +1,6 @@
 // Judges the sealed file that standard input has, and prints one line: `accepted` and four counts, or `refused`, number and spot.
+#![tactic(auto)]
+
 ghost use Rattle.std.specs.Prelude.{◌≡◌, List, ℕ, ◌≤◌, ◌<◌, length};
 ghost use Rattle.laws.specs.Parts.{front};
 ghost use Rattle.limits.specs.Limits.{max_file_size};

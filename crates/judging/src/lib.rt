@@ -1,4 +1,6 @@
 // Judging a bundle. The contracts cite crate verdicts' definitions.
+#![tactic(auto)]
+
 pub mod files; // judging a sealed file: an inner function
 
 ghost use Rattle.std.specs.Prelude.{◌≡◌, length};

@@ -3,7 +3,8 @@ use Rattle.std.specs.Prelude.{◌≡◌, Bool, cond, ◌↔◌, ◌⊎◌, lengt
 use Rattle.std.proofs.Math.Path.{refl, sym, ap}
 use Rattle.std.proofs.Common.{◌∙◌, inl, inr, le_antisymm, le_trans, le_of_eq}
 use Rattle.std.proofs.Math.Bool.{true, false}
-use Rattle.std.proofs.Math.Logic.{Iff·trans, ⊎_elim}
+use mathlib.Core.Logic.Iff
+use Rattle.std.proofs.Math.Logic.{⊎_elim}
 use mathlib.Core.List.Memᴰ
 use mathlib.Core.List.{List, [], ◌∷◌, ◌++◌, flat_map, Memᴰ}
 use Prim.Native.Nat.{ℕ, zero, suc, ◌≤◌, zero-le, suc-le-suc}
@@ -17,16 +18,19 @@ module _ {A : Type 0} where
   Distinct (x ∷ xs) = (Memᴰ x xs → ⊥) × Distinct xs
 
   without : {x : A} (ys : List A) → Memᴰ x ys → List A
+  without [] x'' = elim x'' [ ]
   without (y ∷ ys) (Memᴰ.head e) = ys
   without (y ∷ ys) (Memᴰ.tail m) = y ∷ without ys m
 
   length_without : {x : A} (ys : List A) (m : Memᴰ x ys) → length ys ≡ suc (length (without ys m))
   unfolding without
+  length_without [] m = elim m [ ]
   length_without (y ∷ ys) (Memᴰ.head e) = refl
   length_without (y ∷ ys) (Memᴰ.tail m) = ap suc (length_without ys m)
 
   other-member : {x z : A} (ys : List A) (m : Memᴰ x ys) → (z ≡ x → ⊥) → Memᴰ z ys → Memᴰ z (without ys m)
   unfolding without
+  other-member {x = x} {z = z} [] m ne k = elim m [ ]
   other-member (y ∷ ys) (Memᴰ.head e) ne k = ⊎_elim (λ q. absurd (ne (q ∙ sym e))) (λ r. r) (Memᴰ.cases_cons k)
   other-member {x} {z} (y ∷ ys) (Memᴰ.tail m) ne k = go (other-member ys m ne) (Memᴰ.cases_cons k)
     where
@@ -98,4 +102,4 @@ module _ {A : Type 0} {P : A → Type 0} where
 
   -- and it is that of the same set, said otherwise
   pub cardinality_same : {Q : A → Type 0} {k : ℕ} → ((x : A) → P x ↔ Q x) → Cardinality P k → Cardinality Q k
-  cardinality_same same a = record { listed = a.listed; once = a.once; members = λ x. Iff·trans (a.members x) (same x); size = a.size }
+  cardinality_same same a = record { listed = a.listed; once = a.once; members = λ x. Iff.trans (a.members x) (same x); size = a.size }

@@ -12,6 +12,7 @@ module _ {A : Type 0} where
 
   module _ (P : A → Type 0) where
     pub every_member : {x : A} (xs : List A) → Every P xs → Memᴰ x xs → P x
+    every_member [] v x3 = elim x3 [ ]
     every_member (y ∷ xs) v (Memᴰ.head e) = subst P (sym e) v.0
     every_member (y ∷ xs) v (Memᴰ.tail m) = every_member xs v.1 m
 

@@ -1,3 +1,4 @@
+pub mod Clauses
 pub mod Booleans
 pub mod Lists
 pub mod Every

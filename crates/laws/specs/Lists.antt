@@ -30,6 +30,7 @@ module _ {A : Type 0} where
   module _ (f : A → Bool) where
     pub all-member : {x : A} (xs : List A) → T (all f xs) → Memᴰ x xs → T (f x)
     unfolding all
+    all-member [] t x3 = elim x3 [ ]
     all-member (y ∷ xs) t (Memᴰ.head e) = subst (λ (a : A). T (f a)) (sym e) (and_l (f y) (all f xs) t)
     all-member (y ∷ xs) t (Memᴰ.tail m) = all-member xs (and_r (f y) (all f xs) t) m
 
@@ -49,6 +50,7 @@ module _ {A : Type 0} where
 
     pub any_intro : {x : A} (xs : List A) → Memᴰ x xs → T (f x) → T (any f xs)
     unfolding any
+    any_intro [] x3 t = elim x3 [ ]
     any_intro (y ∷ xs) (Memᴰ.head e) t = yes_or_left (f y) (any f xs) (subst (λ (a : A). T (f a)) e t)
     any_intro (y ∷ xs) (Memᴰ.tail m) t = yes_or_right (f y) (any f xs) (any_intro xs m t)
 
@@ -66,6 +68,7 @@ module _ {A : Type 0} where
 
     pub keep_intro : {x : A} (xs : List A) → Memᴰ x xs → T (f x) → Memᴰ x (keep f xs)
     unfolding keep
+    keep_intro {x = x} [] x3 t = elim x3 [ ]
     keep_intro {x} (y ∷ xs) (Memᴰ.head e) t = go (f y) (subst (λ (a : A). T (f a)) e t)
       where
         go : (b : Bool) → T b → Memᴰ x (cond b (y ∷ keep f xs) (keep f xs))
@@ -294,6 +297,7 @@ module _ {A B : Type 0} (f : A → List B) where
 
   pub flat_map_intro : {x : A} (l : List A) {y : B} → Memᴰ x l → Memᴰ y (f x) → Memᴰ y (flat_map f l)
   unfolding flat_map
+  flat_map_intro [] {y = y} x3 k = elim x3 [ ]
   flat_map_intro (z ∷ l) {y} (Memᴰ.head e) k = Memᴰ.append_left (flat_map f l) (subst (λ (a : A). Memᴰ y (f a)) e k)
   flat_map_intro (z ∷ l) (Memᴰ.tail m) k = Memᴰ.append_right (f z) (flat_map_intro l m k)
 

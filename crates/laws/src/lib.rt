@@ -1,1 +1,2 @@
 // General definitions and laws, in specs/. There is no code here.
+#![tactic(auto)]

@@ -1,4 +1,6 @@
 // The limits of files, bundles, logs and words, by name. Every crate takes them from here; specs/Limits.antt has the same names.
+#![tactic(auto)]
+
 ghost use Rattle.std.specs.Prelude.{◌≡◌};
 ghost use Rattle.limits.specs.Limits.{right_size};
 

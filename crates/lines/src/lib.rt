@@ -1,4 +1,6 @@
 // The line that a program prints, as bytes: a word, each number in decimal behind one space, and a newline. All are inner functions.
+#![tactic(auto)]
+
 ghost use Rattle.std.specs.Prelude.{◌≡◌, ◌+◌, ◌*◌, ◌≤◌, ◌<◌, length};
 ghost use mathlib.Core.List.{flat_map};
 ghost use Rattle.laws.specs.Parts.{front, spliced};

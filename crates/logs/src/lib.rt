@@ -1,4 +1,6 @@
 // The log table and its summary: taking a log word by word. The contracts cite specs/Answers.antt, and specs/Rows.antt of `rows`.
+#![tactic(auto)]
+
 ghost use Rattle.std.specs.Prelude.{◌≡◌, ◌≤◌, length};
 ghost use Rattle.refusals.specs.Answers.{refusal};
 ghost use Rattle.rows.specs.Rows.{cleared};

@@ -1,5 +1,5 @@
 -- Words over n events, by position: the first event that is not below n.
-use Rattle.std.specs.Prelude.{◌≡◌, true, false, ◌↔◌, ◌∷◌, ℕ, suc, ◌≤◌, ◌<◌, ltb, length, get_or}
+use Rattle.std.specs.Prelude.{◌≡◌, true, false, ◌↔◌, [], ◌∷◌, ℕ, suc, ◌≤◌, ◌<◌, ltb, length, get_or}
 use Rattle.std.proofs.Common.{sym, subst, suc-le-suc, arith, ltb-true, ltb-false, lt-ltb, le-ltb}
 use mathlib.Core.List.Memᴰ
 use Rattle.laws.specs.Lists.{all}
@@ -16,6 +16,7 @@ abbrev pub EventsBelow : ℕ → Word → Type 0
 EventsBelow n w = (k : ℕ) → k < length w → get_or w k 0 < n
 
 pub each_below : (n : ℕ) (w : Word) → EventsBelow n w → Below n w
+each_below n [] h e x'' = elim x'' [ ]
 each_below n (a ∷ w) h e (Memᴰ.head q) = subst (λ (x : ℕ). x < n) (sym q) (h 0 (omega arith))
 each_below n (a ∷ w) h e (Memᴰ.tail m) = each_below n w (λ k l. h (suc k) (suc-le-suc l)) e m
 

@@ -2,7 +2,7 @@
 -- continuations are the separation problems of that closure.
 use Rattle.std.specs.Prelude.{◌≡◌, refl, ◌↔◌, ℕ, ◌+◌, ◌<◌, T, pos, set, ◌≤ℤ◌}
 use Rattle.std.proofs.Common.{sym, ap, ◌∙◌, subst}
-use Rattle.std.proofs.Math.Logic.{Iff·rfl}
+use mathlib.Core.Logic.Iff
 use mathlib.Core.List.{[], ◌∷◌, ◌++◌, Memᴰ}
 use Rattle.laws.specs.Every.{EachAfter, each_snoc, each-shorter, each_last, each_carries}
 use Rattle.nets.specs.Nets.{Word, Log, Counts, Net, Place, Step, at, counts, step_after, permits, wrong_continuations}
@@ -15,7 +15,7 @@ use Rattle.nets.specs.SeparationProblems.{SeparationProblem, wrong_problem}
 
 -- (7): p is in N(L) exactly when c · p ≥ 0 for each c in L^C, by definition; of a log, `region_fits`
 pub equation_7 : (n : ℕ) (L : Language) (p : Place) → Region n L p ↔ ((s : Step) → Constraint n L s → pos 0 ≤ℤ product n p s)
-equation_7 n L p = Iff·rfl
+equation_7 n L p = Iff.rfl
 
 -- ---- Parikh-closed languages
 
@@ -66,7 +66,7 @@ module _ (n : ℕ) (L : Language) (closed : PrefixClosed n L) where
 
   -- after the events of u a path is in the state Ψ(u)
   path_each : (w u : Word) → PathFrom n L (counts n u) w ↔ EachAfter Next u w
-  path_each [] u = Iff·rfl
+  path_each [] u = Iff.rfl
   path_each (e ∷ w) u =
       let r = path_each w (u ++ e ∷ []) in (
         (λ h. (h.0, r.0 (subst (λ (v : Counts). PathFrom n L v w) (sym (next_state u e h.0)) h.1))),

@@ -3,7 +3,7 @@
 use Rattle.std.specs.Prelude.{refl, ◌↔◌, leb, length, get_or}
 use Rattle.std.proofs.Common.{sym, not-suc-le-zero, le_of_suc-le-suc}
 use Rattle.std.proofs.Math.Path.{subst}
-use Rattle.std.proofs.Math.Logic.{Iff·trans}
+use mathlib.Core.Logic.Iff
 use mathlib.Core.List.{List, [], ◌∷◌, Memᴰ}
 use Prim.Native.Nat.{ℕ, zero, suc, ◌<◌, zero-le, suc-le-suc}
 use Rattle.std.proofs.Math.Dec.{T, le→leb}
@@ -92,7 +92,7 @@ pub accepted-regions : (b : Bundle) → LogBelow b.events b.log → T (accepted 
 accepted-regions b below =
     let places = log-regions b.events b.log below b.net in
     let solved = all-certified b.events b.log b.net (wrong_continuations b.events b.log) event b.certificates in
-    Iff·trans (accepted-parts b) (
+    Iff.trans (accepted-parts b) (
       (λ a. record { regions = places.0 a.permitted; certified = solved.0 a.solved }),
       λ r. record { permitted = places.1 r.regions; solved = solved.1 r.certified },
     )

@@ -3,7 +3,7 @@
 use Rattle.std.specs.Prelude.{◌≡◌, refl, ◌↔◌, [], ◌∷◌, ◌++◌, ℕ, ◌+◌, ◌*◌, ◌<◌, ℤ, neg_ℤ, ◌+ℤ◌, ◌-ℤ◌, ◌*ℤ◌, ◌≤ℤ◌}
 use Rattle.std.proofs.Math.Path.{sym, ap, ap₂, subst}
 use Rattle.std.proofs.Common.{◌∙◌}
-use Rattle.std.proofs.Math.Logic.{Iff·trans}
+use mathlib.Core.Logic.Iff
 use mathlib.Core.List.Memᴰ
 use Rattle.std.proofs.Math.Dec.{T}
 use Rattle.std.proofs.Math.IntN.{pos, sub_ℕ, neg_ℤ-+ℤ}
@@ -211,7 +211,7 @@ module _ (n : ℕ) (log : Log) where
 
     -- and that is when each of its places is a region of the log, by (3)
     pub log-regions : (net : Net) → PermitsLog n net log ↔ (places_of net ⊆ Region n (Prefix log))
-    log-regions net = Iff·trans (log_language net) (equation_4 n (Prefix log) closed (places_of net))
+    log-regions net = Iff.trans (log_language net) (equation_4 n (Prefix log) closed (places_of net))
 
     -- L(N(L)) has the words that every net permits which permits the log
     pub every_net : (w : Word) → Below n w → language_of n (Region n (Prefix log)) w ↔ EveryNetPermits n log w

@@ -57,6 +57,7 @@ fold-old [] old m = m
 fold-old (v ∷ vs) old m = fold-old vs (add_row old v) (add_row-old old v m)
 
 fold-new : (vs : List Counts) (old : List Counts) {x : Counts} → Memᴰ x vs → Memᴰ x (foldl add_row old vs)
+fold-new [] old x3 = elim x3 [ ]
 fold-new (v ∷ vs) old (Memᴰ.head e) = fold-old vs (add_row old v) (Memᴰ.cast e (add_row-new old v))
 fold-new (v ∷ vs) old (Memᴰ.tail m) = fold-new vs (add_row old v) m
 

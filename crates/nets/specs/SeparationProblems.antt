@@ -4,7 +4,7 @@
 use Rattle.std.specs.Prelude.{◌≡◌, not, ◌↔◌, ℕ, ◌<◌, T, pos, ◌≤ℤ◌, ◌<ℤ◌}
 use Rattle.std.proofs.Math.Path.{refl}
 use Rattle.std.proofs.Common.{sym, ⊎_elim, T_not}
-use Rattle.std.proofs.Math.Logic.{Iff·trans, Iff·symm}
+use mathlib.Core.Logic.Iff
 use mathlib.Core.List.Memᴰ
 use mathlib.Core.List.{[], ◌∷◌, ◌++◌, Memᴰ}
 use Rattle.std.proofs.Math.Dec.{not_T}
@@ -110,8 +110,8 @@ module _ (n : ℕ) (log : Log) where
   pub suboptimal-exactly : LogBelow n log → (net : Net) → Suboptimal n (Prefix log) (places_of net)
       ↔ ((w : Word) → Prefix log w → (e : ℕ) → e < n → T (permits n net (w ++ e ∷ [])) ↔ EveryNetPermits n log (w ++ e ∷ []))
   suboptimal-exactly below net = (
-    (λ h w m e b. Iff·trans (Iff·symm (left w m e b)) (Iff·trans (h w m e b) (right w m e b))),
-    λ h w m e b. Iff·trans (left w m e b) (Iff·trans (h w m e b) (Iff·symm (right w m e b))),
+    (λ h w m e b. Iff.trans (Iff.symm (left w m e b)) (Iff.trans (h w m e b) (right w m e b))),
+    λ h w m e b. Iff.trans (left w m e b) (Iff.trans (h w m e b) (Iff.symm (right w m e b))),
   )
     where
       longer : (w : Word) → Prefix log w → (e : ℕ) → e < n → Below n (w ++ e ∷ [])

@@ -5,7 +5,7 @@ use Rattle.std.specs.Prelude.{◌≡◌, refl, ◌↔◌, ℕ, ◌+◌, ◌-◌,
 use Rattle.std.proofs.Math.Path.{sym, ap}
 use Rattle.std.proofs.Common.{◌∙◌, subst, leb→le, le→leb}
 use Rattle.std.proofs.Math.Bool.{Bool}
-use Rattle.std.proofs.Math.Logic.{Iff·rfl}
+use mathlib.Core.Logic.Iff
 use mathlib.Core.List.{[], ◌∷◌, ◌++◌, foldl, foldl-append, append-nil, Memᴰ}
 use Rattle.std.proofs.Math.IntN.{pos}
 use Rattle.std.specs.Int.Signed.{le_z_yes}
@@ -132,7 +132,7 @@ module _ (n : ℕ) where
 
   permits-each : (net : Net) (w u : Word) → EachAfter (λ v e. PlacesPermit (places_of net) (step_after n v e)) u w ↔ T (permits_after n net u w)
   unfolding permits_after net_permits
-  permits-each net [] u = Iff·rfl
+  permits-each net [] u = Iff.rfl
   permits-each net (e ∷ w) u =
       let test : Place → Bool = λ p. place_permits n p (step_after n u e) in
       let rest = permits_after n net (u ++ e ∷ []) w in

@@ -130,6 +130,7 @@ module _ (n : ℕ) where
         (prefix→ log r.0 r.1)
       where
         some : {x : Word} (l : List Word) → Memᴰ x l → 1 ≤ length l
+        some [] k = elim k [ ]
         some (y ∷ l) k = omega arith
 
     -- and no word passes what is no row

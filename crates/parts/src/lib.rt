@@ -1,5 +1,7 @@
 // The search in a long word, part by part: eight places are replayed side by side, and one by one only in a part where one of them may refuse a
 // step. The contracts cite specs/Parts.antt and specs/SideBySide.antt. All are inner functions.
+#![tactic(auto)]
+
 ghost use Rattle.std.specs.Prelude.{◌≡◌, ◌++◌, ◌+◌, ◌*◌, ◌≤◌, length};
 ghost use Rattle.limits.specs.Limits.{max_events, max_places};
 ghost use Rattle.nets.specs.Nets.{Net};

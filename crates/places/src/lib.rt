@@ -1,5 +1,7 @@
 // Places of a net: what a place permits after given counts of events. The events of a word, and the masks of a log table.
 // The definitions are in `nets`, over numbers of any size.
+#![tactic(auto)]
+
 ghost use Rattle.std.specs.Prelude.{◌≡◌, ◌≤◌, ◌<◌, ltb, pos, ◌-ℤ◌, ◌*ℤ◌, length};
 ghost use Rattle.std.specs.Int.Signed.{non_neg};
 ghost use Rattle.laws.specs.Bits.{bit, with_bit};

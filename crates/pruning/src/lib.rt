@@ -1,4 +1,6 @@
 // Pruning: an accepted bundle, written without the places that no certificate names. The contracts cite specs/Pruning.antt.
+#![tactic(auto)]
+
 pub mod marking; // the places that certificates name
 pub mod writing; // the parts of a pruned bundle, written
 

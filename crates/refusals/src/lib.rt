@@ -1,4 +1,5 @@
 // Refusals: what every call answers where it gives no result. The numbers are those of the refusal table.
+#![tactic(auto)]
 
 ghost use Rattle.std.specs.Prelude.{◌≡◌};
 ghost use Rattle.refusals.specs.Answers.{refusal};

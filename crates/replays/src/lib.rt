@@ -1,5 +1,7 @@
 // The replay of a part of a word on eight places side by side, so that the compiler takes several at a time. The contracts cite
 // specs/Columns.antt. All are inner functions.
+#![tactic(auto)]
+
 ghost use Rattle.std.specs.Prelude.{◌≡◌, true, ℕ, ◌≤◌, ◌<◌, T, pos, length, get_or};
 ghost use Rattle.std.specs.Int.Signed.{non_neg};
 ghost use Rattle.limits.specs.Limits.{max_events};

@@ -1,4 +1,6 @@
 // The rows of a log table, a slice with `row_size` numbers a row: a row found, visited, marked. All are inner functions.
+#![tactic(auto)]
+
 pub mod index; // where to look for a row
 
 ghost use Rattle.std.specs.Prelude.{◌≡◌, true, [], ◌∷◌, ◌++◌, ◌+◌, ◌*◌, ◌<◌, ◌≤◌, length, get_or, set, take, drop};

@@ -1,4 +1,6 @@
 // Screening a word: the first step that a bundle's net refuses, or two nets joined. The contracts cite specs/Screening.antt.
+#![tactic(auto)]
+
 ghost use Rattle.std.specs.Prelude.{◌≡◌, ◌≤◌, length};
 ghost use Rattle.limits.specs.Limits.{max_word_events};
 ghost use Rattle.refusals.specs.Answers.{refusal};

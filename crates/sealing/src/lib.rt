@@ -1,4 +1,6 @@
 // Sealing a bundle of 1 to 64,512 bytes. The contracts cite specs/Block.antt and specs/File.antt of `block`.
+#![tactic(auto)]
+
 pub mod building; // the blocks of a bundle
 
 ghost use Rattle.std.specs.Prelude.{◌≡◌, length};

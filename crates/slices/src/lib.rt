@@ -1,4 +1,6 @@
 // Inner functions on slices of bytes that several crates share: reading and writing bytes and numbers of two bytes at an offset. And the smaller of two numbers.
+#![tactic(auto)]
+
 ghost use Rattle.std.specs.Prelude.{◌≡◌, ◌+◌, min, ◌≤◌, ◌<◌, length, get_or, replicate};
 ghost use Rattle.laws.specs.Parts.{spliced};
 ghost use Rattle.laws.specs.Numbers.{number_at, le16};
@@ -31,7 +33,7 @@ pub fn write_at(output: &mut [u8], at: usize, piece: &[u8])
     requires { at + length piece.now ≤ length output.old }
     ensures { output.new ≡ spliced at piece.now output.old }
 {
-    bytes::copy(piece, &mut output[at..]);
+    output[at..at + piece.len()].copy_from_slice(piece);
 }
 
 // Writes a number to the two bytes at `at`, the low byte first; of a number of more bytes the lowest two.

@@ -1,5 +1,7 @@
 // The first step of a word that the places of a bundle refuse. The contracts cite specs/Positions.antt, what the best stop is, and specs/Replay.antt, one
 // place. All are inner functions.
+#![tactic(auto)]
+
 ghost use Rattle.std.specs.Prelude.{◌≡◌, ◌++◌, ◌+◌, ◌*◌, ◌/◌, ◌≤◌, pos, ◌+ℤ◌, length, take};
 ghost use Rattle.limits.specs.Limits.{max_events, max_places};
 ghost use Rattle.nets.specs.Nets.{Net};

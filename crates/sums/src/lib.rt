@@ -1,4 +1,6 @@
 // The two sums of a block, by columns: its bytes as rows of 32, each under the one before it. (Inner functions.)
+#![tactic(auto)]
+
 ghost use Rattle.std.specs.Prelude.{◌≡◌, ◌+◌, ◌*◌, ◌<◌, length, take};
 ghost use Rattle.laws.specs.Sums.{weighted};
 ghost use Rattle.laws.specs.Columns.{added};

@@ -2,7 +2,7 @@
 use Rattle.std.specs.Prelude.{◌≡◌, true, false, ◌↔◌, ◌⊎◌, List, ℕ, ◌+◌, ◌≤◌, ◌<◌, leb, ltb, length}
 use Rattle.std.proofs.Math.Path.{refl}
 use Rattle.std.proofs.Common.{ap, inl, inr, ⊎_elim, arith, leb-true, leb-false, le-leb}
-use Rattle.std.proofs.Math.Logic.{Iff·trans}
+use mathlib.Core.Logic.Iff
 use Rattle.std.proofs.lemmas.Bool.{lt-leb}
 use Rattle.laws.specs.Booleans.{impossible, and_left, and_right, lt_or_le}
 use Rattle.laws.specs.Lists.{all, any}
@@ -78,11 +78,11 @@ module _ (n : ℕ) (t : List ℕ) where
   pub fresh-refused : {number : ℕ} {C : ℕ → Type 0} → Exactly (log_started n t) number C → (spot : ℕ)
       → (fresh_answer n t ≡ Refused (refusal number spot)) ↔ C spot
   unfolding fresh_answer
-  fresh-refused {number} e spot = Iff·trans (taken-refused-exactly (log_started n t) number spot) (e.line spot)
+  fresh-refused {number} e spot = Iff.trans (taken-refused-exactly (log_started n t) number spot) (e.line spot)
 
   pub fresh-next : {When : Summary → Type 0} → Gives (log_started n t) When → (s : Summary) → (fresh_answer n t ≡ Next s) ↔ When s
   unfolding fresh_answer
-  fresh-next e s = Iff·trans (taken-next-exactly (log_started n t) s) (e.line s)
+  fresh-next e s = Iff.trans (taken-next-exactly (log_started n t) s) (e.line s)
 
   pub fresh_5 : Exactly (log_started n t) numbers_short_number (λ spot. (spot ≡ table_size) × (leb table_size (length t) ≡ false))
   unfolding log_started any
@@ -102,11 +102,11 @@ module _ (s : Summary) (t : List ℕ) (w : Word) where
   pub take-refused : {number : ℕ} {C : ℕ → Type 0} → Exactly (word_taken s t w) number C → (spot : ℕ)
       → (taken_answer s t w ≡ Refused (refusal number spot)) ↔ C spot
   unfolding taken_answer
-  take-refused {number} e spot = Iff·trans (taken-refused-exactly (word_taken s t w) number spot) (e.line spot)
+  take-refused {number} e spot = Iff.trans (taken-refused-exactly (word_taken s t w) number spot) (e.line spot)
 
   pub take_next : {When : Summary → Type 0} → Gives (word_taken s t w) When → (s' : Summary) → (taken_answer s t w ≡ Next s') ↔ When s'
   unfolding taken_answer
-  take_next e s' = Iff·trans (taken-next-exactly (word_taken s t w) s') (e.line s')
+  take_next e s' = Iff.trans (taken-next-exactly (word_taken s t w) s') (e.line s')
 
   -- the tests that come before the last two
   abbrev pub Admitted : Type 0 → Type 0

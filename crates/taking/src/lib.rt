@@ -1,5 +1,7 @@
 // Taking a word: its prefixes, shortest first, each with its counts. The row of each is looked up, or numbered where there is none, before
 // anything is written.
+#![tactic(auto)]
+
 ghost use Rattle.std.specs.Prelude.{◌≡◌, cond, ◌+◌, ◌*◌, ◌<◌, ◌≤◌, length, get_or, set, take};
 ghost use Rattle.limits.specs.Limits.{max_events, max_rows};
 ghost use Rattle.rows.specs.Rows.{row_size, add_event, find_row, rows_of, visit, follow, absent, row_or, new_rows, numbered, take_word, none, Holds, Added};

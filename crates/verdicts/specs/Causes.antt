@@ -3,7 +3,8 @@ use Rattle.std.proofs.Math.Path.{◌≡◌, refl, ap}
 use Rattle.std.proofs.Common.{sym, ◌∙◌, arith, length-append, drop-cons}
 use Rattle.std.specs.Prelude.{true, ◌↔◌, ◌⊎◌, ℕ, suc, ◌<◌, leb}
 use Rattle.std.proofs.Math.Bool.{false, false≢true}
-use Rattle.std.proofs.Math.Logic.{Iff·rfl, inl, inr, ⊎_elim}
+use mathlib.Core.Logic.Iff
+use Rattle.std.proofs.Math.Logic.{inl, inr, ⊎_elim}
 use mathlib.Core.List.{List, ◌∷◌, ◌++◌}
 use Rattle.std.proofs.Math.Nat.{zero-add}
 use Rattle.std.proofs.Math.ListN.{length, get_or, drop}
@@ -173,4 +174,4 @@ module _ (table_length : ℕ) (b : List ℕ) where
   pub judge_later : (number : ℕ) → (bundle_length_number ≡ number → ⊥) → (numbers_short_number ≡ number → ⊥)
       → (spot : ℕ) → (verdict table_length b ≡ verdicts.Refused (refusal number spot))
       ↔ ((right_size (length b) ≡ true) × ((leb table_size table_length ≡ true) × (judging b 0 ≡ refused number spot)))
-  judge_later number not-4 not-5 = lined (exactly-later _ _ _ _ not-4 (exactly-later _ _ _ _ not-5 (record { line = λ spot. Iff·rfl })))
+  judge_later number not-4 not-5 = lined (exactly-later _ _ _ _ not-4 (exactly-later _ _ _ _ not-5 (record { line = λ spot. Iff.rfl })))

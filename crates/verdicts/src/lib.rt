@@ -1,4 +1,6 @@
 // The verdict on a bundle, and its four counts. Judging itself is crate judging.
+#![tactic(auto)]
+
 use refusals::Refusal;
 
 // The four counts of an accepted bundle: rows, allowed steps, kind 0 and kind 1 certificates.

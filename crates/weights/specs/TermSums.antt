@@ -14,7 +14,7 @@ use Rattle.refusals.specs.Results.{value, refused, bind}
 use Rattle.nets.specs.Nets.{Counts, at}
 use Rattle.rows.specs.Rows.{row_size, new_row, none, row_at, rows_of}
 use Rattle.rows.specs.Flat.{rows_at, counts-row_at, length-rows}
-use Rattle.bundles.specs.Reading.{Read, got, item, and_then, give, byte, number, times, onward}
+use Rattle.bundles.specs.Reading.{Read, got, item, ◌>>=◌, and_then, give, byte, number, times, onward}
 use Rattle.bundles.specs.Readers.{anything, term, weights}
 use Rattle.bundles.specs.ReadingLaws.{and_then-got, law-number, ranged}
 use Rattle.bundles.specs.FieldReading.{below, up_to, byte-there, number-there, byte-got}
@@ -37,9 +37,11 @@ pub record TermBounds (n row_count : ℕ) (t : TermFields) : Type 0 where
 term-bounds : (n row_count : ℕ) (b : List ℕ) → Bytes b → (from : ℕ) (t : TermFields) (next : ℕ) → term n row_count b from ≡ got t next → TermBounds n row_count t
 unfolding term bind onward
 term-bounds n row_count b bytes from t next e =
-    let row = and_then-got b (number (below row_count) b from) _ t next e in
-    let event = and_then-got b (byte (below n) b row.1) _ t next row.3 in
-    let weight = and_then-got b (number anything b event.1) _ t next event.3 in
+    let made = λ (row event weight : ℕ). give {A = TermFields} (record { row = row; event = event; weight = weight }) in
+    let behind = λ (row event : ℕ). number anything >>= made row event in
+    let row = and_then-got b (number (below row_count) b from) (λ (row : ℕ). byte (below n) >>= behind row) t next e in
+    let event = and_then-got b (byte (below n) b row.1) (behind row.0) t next row.3 in
+    let weight = and_then-got b (number anything b event.1) (made row.0 event.0) t next event.3 in
     let first = (law-number b bytes (below row_count)).sound from row.0 row.1 row.2 in
     let second = byte-got (below n) b row.1 event.0 event.1 event.2 in
     let third = (law-number b bytes anything).sound event.1 weight.0 weight.1 weight.2 in

@@ -1,4 +1,6 @@
 // Whether the weights of a certificate hold, from the rows of the log table.
+#![tactic(auto)]
+
 ghost use Rattle.std.specs.Prelude.{◌≡◌, cond, ℕ, ◌+◌, ◌*◌, ◌≤◌, ◌<◌, length};
 ghost use Rattle.limits.specs.Limits.{max_events, max_terms};
 ghost use Rattle.nets.specs.Nets.{at, same};

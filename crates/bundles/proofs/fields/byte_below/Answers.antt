@@ -1,0 +1,17 @@
+-- `bundles::fields::byte_below` meets its contract.
+use mathlib.Core.Path.{sym, ap, ◌∙◌}
+use Rattle.bundles.specs.ReadingLaws.{ranged}
+use Rattle.bundles.specs.FieldReading.{read_of, below, byte-ranged, byte-refused}
+use Rattle.bundles.proofs.fields.byte_below.Goals as goal
+
+pub returns-in_default : goal.returns-in_default
+unfolding read_of
+returns-in_default c =
+    let told = ap read_of c.in_default.is in
+    told ∙ sym (byte-refused _ _ _ (sym c.any_byte-byte.ensures ∙ told))
+
+pub returns : goal.returns
+unfolding read_of ranged
+returns c =
+    let known = c in
+    c.checked.ensures ∙ sym (byte-ranged (below _) _ _ (sym known.any_byte-byte.ensures ∙ ap read_of known.in-Value.is))

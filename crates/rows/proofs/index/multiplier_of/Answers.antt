@@ -1,0 +1,9 @@
+-- `rows::index::multiplier_of` meets its contract.
+use borrow.Author.Rules.{rules}
+use Rattle.rows.specs.Index.{multipliers}
+use Rattle.rows.specs.IndexLaws.{multiplier-small}
+use Rattle.rows.proofs.index.multiplier_of.Goals as goal
+
+pub returns : goal.returns
+unfolding multipliers
+returns c = (search rules, multiplier-small c.args.e (search rules))
