@@ -168,8 +168,8 @@ module _ (d : Contents) (limits : InLimits d) (no_place : PlaceFields) (none : C
         let next : rank kept (suc j) ≡ rank kept j + 1 = rank-next kept j ∙ ap (λ (t : Bool). rank kept j + cond t 1 0) (named-member d.certificates j m) in
         omega (arith, next, rank-more kept (suc j) k h);
     certificates = length-map d.certificates (renumbered kept);
-    by-place = λ i j h e. renumbers i h ∙ ap (renumbered kept) e;
-    by-weights = λ i h other. renumbers i h ∙ weights_stay (get_or d.certificates i none) other;
+    by_place = λ i j h e. renumbers i h ∙ ap (renumbered kept) e;
+    by_weights = λ i h other. renumbers i h ∙ weights_stay (get_or d.certificates i none) other;
   }
 
 -- ---- What it keeps

@@ -47,6 +47,7 @@ module _ (n : ℕ) (log : Log) (most : n ≤ max_events) (below : LogBelow n log
   some-row = some (rows n log) (→row n log [] (empty-prefix log))
     where
       some : {x : Counts} (l : List Counts) → Memᴰ x l → 0 < length l
+      some [] m = elim m [ ]
       some (y ∷ l) m = omega arith
 
   first : traffic_in t' 0 ≡ min 65535 (length log)
