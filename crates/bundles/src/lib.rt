@@ -20,48 +20,48 @@ use refusals::{BUNDLE_LENGTH, Refusal};
 use words::read_words;
 
 // A field's value and the offset behind it.
-#[derive(Drop)]
+#[derive(Clone, Copy)]
 pub enum Field {
     Value(usize, usize),
     Refused(Refusal),
 }
 
 // The places of a bundle: how many they are, the offset of the first, and the offset behind the last.
-#[derive(Drop)]
+#[derive(Clone, Copy)]
 pub struct Places {
     pub count: usize,
     pub first: usize,
     pub next: usize,
 }
 
-#[derive(Drop)]
+#[derive(Clone, Copy)]
 pub enum PlacesRead {
     Read(Places),
     Refused(Refusal),
 }
 
 // A bundle up to its last place: its event count and its places.
-#[derive(Drop)]
+#[derive(Clone, Copy)]
 pub struct Head {
     pub n: usize,
     pub places: Places,
 }
 
-#[derive(Drop)]
+#[derive(Clone, Copy)]
 pub enum HeadRead {
     Read(Head),
     Refused(Refusal),
 }
 
 // A term of a certificate: a row's number, an event and a weight.
-#[derive(Drop)]
+#[derive(Clone, Copy)]
 pub struct Term {
     pub row: usize,
     pub event: usize,
     pub weight: usize,
 }
 
-#[derive(Drop)]
+#[derive(Clone, Copy)]
 pub enum TermRead {
     Read(Term, usize),
     Refused(Refusal),

@@ -27,14 +27,14 @@ use verdicts::Tally;
 use weights::{Weighed, read_weights};
 
 // The certificates of a bundle: the four counts and the offset behind the last, or a refusal.
-#[derive(Drop)]
+#[derive(Clone, Copy)]
 pub enum Certified {
     Read(Tally, usize),
     Refused(Refusal),
 }
 
 // One certificate that solves its step, by kind, with the offset behind it; or a refusal.
-#[derive(Drop)]
+#[derive(Clone, Copy)]
 enum Checked {
     ByPlace(usize),
     ByWeights(usize),
@@ -137,7 +137,7 @@ fn check_certificate(
 }
 
 // How far the certificates are read: the allowed steps passed, the certificates of each kind, and the offset behind the last.
-#[derive(Drop)]
+#[derive(Clone, Copy)]
 struct Progress {
     allowed: usize,
     by_place: usize,
@@ -145,7 +145,7 @@ struct Progress {
     next: usize,
 }
 
-#[derive(Drop)]
+#[derive(Clone, Copy)]
 enum Advanced {
     To(Progress),
     Refused(Refusal),

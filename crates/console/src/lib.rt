@@ -8,7 +8,7 @@ ghost use Rattle.console.specs.Inputs.{Within};
 use libc::{STDERR_FILENO, STDOUT_FILENO};
 
 // What was read: so many bytes, or a read that failed.
-#[derive(Drop)]
+#[derive(Clone, Copy)]
 pub enum Input {
     Bytes(usize),
     Failed,

@@ -13,7 +13,7 @@ use screening::Screened;
 use verdicts::Verdict;
 
 // What the calls answered for a file that opened: the bundle's length, the verdict on it, and what screening a word with it said.
-#[derive(Drop)]
+#[derive(Clone, Copy)]
 pub struct Answers {
     pub size: usize,
     pub verdict: Verdict,
@@ -21,14 +21,14 @@ pub struct Answers {
 }
 
 // What the calls answered for a file.
-#[derive(Drop)]
+#[derive(Clone, Copy)]
 pub enum Ran {
     Opened(Answers),
     Refused(Refusal),
 }
 
 // What the calls answered for two files.
-#[derive(Drop)]
+#[derive(Clone, Copy)]
 pub struct Both {
     pub first: Ran,
     pub second: Ran,

@@ -21,7 +21,7 @@ use rows::index::{INDEX, index_rows};
 use taking::add_word;
 
 // A log so far: its rows, its events, and the offset behind it.
-#[derive(Drop)]
+#[derive(Clone, Copy)]
 pub enum LogTaken {
     Taken(usize, usize, usize),
     Refused(Refusal),
@@ -100,14 +100,14 @@ fn take_words(bundle: &[u8], at: usize, n: usize, count: usize, table: &mut [u16
 }
 
 // A bundle up to its last place whose log is in a table: its event count, its places, and the rows of its log.
-#[derive(Drop)]
+#[derive(Clone, Copy)]
 pub struct TakenHead {
     pub n: usize,
     pub places: Places,
     pub rows: usize,
 }
 
-#[derive(Drop)]
+#[derive(Clone, Copy)]
 pub enum HeadTaken {
     Taken(TakenHead),
     Refused(Refusal),

@@ -16,7 +16,7 @@ use taking::add_alone;
 pub const TABLE: usize = ROW * MAX_ROWS;
 
 // What is kept of a log beside its table: the event count n, the rows and the events so far.
-#[derive(Drop)]
+#[derive(Clone, Copy)]
 pub struct Summary {
     pub n: usize,
     pub rows: usize,
@@ -24,7 +24,7 @@ pub struct Summary {
 }
 
 // The answer of a call on a log: the next summary, or a refusal.
-#[derive(Drop)]
+#[derive(Clone, Copy)]
 pub enum Taken {
     Next(Summary),
     Refused(Refusal),

@@ -15,7 +15,7 @@ ghost use Rattle.places.specs.Machine.{place_of, Held};
 use limits::MAX_EVENTS;
 
 // A place: its initial tokens m, and for each event the tokens in(i) that it puts there and out(i) that it takes.
-#[derive(Drop)]
+#[derive(Clone, Copy)]
 pub struct Place {
     pub initial: u16,
     pub produced: [u16; MAX_EVENTS],

@@ -19,7 +19,7 @@ use refusals::{EVENT_COUNTS, Refusal, WORD_EVENT, WORD_LENGTH};
 use stops::{Stop, stop_at};
 
 // The answer of screening.
-#[derive(Drop)]
+#[derive(Clone, Copy)]
 pub enum Screened {
     Permitted,
     Stopped(Stop),

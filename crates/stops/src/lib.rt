@@ -17,7 +17,7 @@ use places::{Place, covers, shortfall, surplus};
 
 // The first refused step: its position, the lowest place that refuses it, and how many tokens that place lacks there, at least 1.
 // The search carries the same from place to place; a word that no place so far refuses has its length for a position, and no shortfall.
-#[derive(Drop)]
+#[derive(Clone, Copy)]
 pub struct Stop {
     pub position: usize,
     pub place: usize,

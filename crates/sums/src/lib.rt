@@ -8,14 +8,14 @@ ghost use Rattle.sums.specs.Checksums.{plain_sum, position_sum};
 ghost use Rattle.sums.specs.Adding.{Room, Narrow};
 
 // The two sums of a block's bytes, S and W.
-#[derive(Drop)]
+#[derive(Clone, Copy)]
 pub struct Sums {
     pub plain: usize,
     pub position: usize,
 }
 
 // The same before the remainders are taken.
-#[derive(Drop)]
+#[derive(Clone, Copy)]
 struct Totals {
     plain: u32,
     position: u32,

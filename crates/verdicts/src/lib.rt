@@ -4,7 +4,7 @@
 use refusals::Refusal;
 
 // The four counts of an accepted bundle: rows, allowed steps, kind 0 and kind 1 certificates.
-#[derive(Drop)]
+#[derive(Clone, Copy)]
 pub struct Tally {
     pub rows: usize,
     pub allowed: usize,
@@ -13,7 +13,7 @@ pub struct Tally {
 }
 
 // The verdict on a bundle.
-#[derive(Drop)]
+#[derive(Clone, Copy)]
 pub enum Verdict {
     Accepted(Tally),
     Refused(Refusal),

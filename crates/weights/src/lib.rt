@@ -27,7 +27,7 @@ use slices::{byte_at, number_at};
 const NUMBER: u32 = 65535;
 
 // Weights that were read: they hold or fail, with the offset behind them; or a refusal.
-#[derive(Drop)]
+#[derive(Clone, Copy)]
 pub enum Weighed {
     Holds(usize),
     Fails(usize),
