@@ -17,11 +17,11 @@ loop-r-init c = (search rules, rows_start _ _ _)
 tested : (c : After-row_fits)
     → let at = c in
     let args = at.args in
-    c.row_fits_lem.result ≡ row_fits (place_of args.place) (row_at (drop (row_size * at.loop-r.r) args.table.now))
+    c.row_fits.result ≡ row_fits (place_of args.place) (row_at (drop (row_size * at.loop-r.r) args.table.now))
 tested c =
     let at = c in
     let args = at.args in
-    c.row_fits_lem.ensures ∙ ap (λ (l : List ℕ). row_fits (place_of args.place) (row_at l)) (part-is args.table.now (row_size * at.loop-r.r))
+    c.row_fits.ensures ∙ ap (λ (l : List ℕ). row_fits (place_of args.place) (row_at l)) (part-is args.table.now (row_size * at.loop-r.r))
 
 pub returns-then-not-row_fits : goal.returns-then-not-row_fits
 returns-then-not-row_fits c =

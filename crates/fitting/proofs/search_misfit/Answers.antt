@@ -4,14 +4,14 @@ use native.Mathlib.Nat.{zero-add}
 use native.Mathlib.Omega.{arith}
 use lib.ListN.{length}
 use Rattle.laws.specs.Scans.{failing-here, failing-again, failing-end}
-use Rattle.nets.specs.Nets.{no_place}
+use Rattle.nets.specs.Nets.{no_place, fits}
 use Rattle.bundles.specs.HeadReading.{net-size}
 use Rattle.bundles.specs.Readers.{net_in}
 use Rattle.bundles.specs.NextPlace.{place_in, next_start, next-is, next-inside, next-again}
 use Rattle.fitting.specs.FittingLaws.{fits-held}
 use Rattle.fitting.proofs.search_misfit.Invariants.{test}
 use Rattle.fitting.proofs.search_misfit.Goals as goal
-use Rattle.fitting.proofs.search_misfit.Goals.{In-loop-j}
+use Rattle.fitting.proofs.search_misfit.Goals.{After-fits, In-loop-j}
 
 pub overflow_add-at : goal.overflow_add-at
 overflow_add-at c =
@@ -19,17 +19,17 @@ overflow_add-at c =
     omega (arith, next-inside turn.requires.found turn.loop-j.invariant.0 turn.loop-j-test.true)
 
 -- the place of a turn is place j, and is tested
-tested : (c : After-fits2)
+tested : (c : After-fits)
     → let at = c in
     let bundle = at.args.bundle.now in
-    test bundle (place_in bundle at.loop-j.j) ≡ c.fits2.result
+    test bundle (place_in bundle at.loop-j.j) ≡ c.fits.result
 tested c =
     let at = c in
     let start = at in
     let place = next-is start.requires.found at.loop-j.invariant.0 c.loop-j-test.true c.place_at-place.ensures in
     ap (test start.args.bundle.now) (sym place)
     ∙ sym (fits-held start.requires _)
-    ∙ sym c.fits2.ensures
+    ∙ sym c.fits.ensures
 
 -- place j is one of the net's
 listed : (c : In-loop-j) → c.loop-j.j < length (net_in c.args.bundle.now)
@@ -39,14 +39,14 @@ pub returns-then-not-fits : goal.returns-then-not-fits
 returns-then-not-fits c =
     let turn = c in
     let at = turn in
-    sym (failing-here _ no_place _ at.loop-j.j (listed (goal.at.returns-then-not-fits c).In-loop-j) at.loop-j.invariant.1 (tested c.before ∙ c.if-not-fits.true))
+    sym (failing-here _ no_place _ at.loop-j.j (listed (goal.at.returns-then-not-fits c).In-loop-j) at.loop-j.invariant.1 (tested (goal.at.returns-then-not-fits c).After-fits ∙ c.if-not-fits.true))
 
 pub loop-j-preserved : goal.loop-j-preserved
 loop-j-preserved c =
     let turn = c in
     let at = turn in (
       next-again at.loop-j.invariant.0 turn.loop-j-test.true,
-      failing-again _ no_place _ at.loop-j.j (listed (goal.at.loop-j-preserved c).In-loop-j) at.loop-j.invariant.1 (tested c.before ∙ c.if-not-fits.false),
+      failing-again _ no_place _ at.loop-j.j (listed (goal.at.loop-j-preserved c).In-loop-j) at.loop-j.invariant.1 (tested (goal.at.loop-j-preserved c).After-fits ∙ c.if-not-fits.false),
     )
 
 pub returns : goal.returns

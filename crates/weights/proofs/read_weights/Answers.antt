@@ -55,3 +55,6 @@ returns-in-Value-byte_up_to c =
     let k = count in
     let held = k.requires.head_held in
     c.weigh_terms.ensures ∙ rw (← held.found.events, held.size) (sym (weights-judged _ _ _ (factor (goal.at.returns-in-Value-byte_up_to c).In-Value) (size (goal.at.returns-in-Value-byte_up_to c).In-Value-byte_up_to) (holds_rows _ _ _)))
+
+pub overflow_cast-k : goal.overflow_cast-k
+overflow_cast-k c = omega (arith, two_bytes (goal.at.overflow_cast-k c).In-Value)

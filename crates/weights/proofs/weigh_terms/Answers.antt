@@ -12,7 +12,7 @@ use Rattle.weights.proofs.weigh_terms.Goals.{In-Read}
 
 -- the term that was read
 next-term : (c : In-Read) → let loop = c in let l = loop.loop-left in let a = loop.args in let t = c.in-Read.term in
-    NextTerm a.head.n a.head.rows a.table.now a.bundle.now a.at a.count l.left l.total l.before l.of-event l.allowed (record { row = t.row; event = t.event; weight = t.weight }) c.in-Read.after
+    NextTerm a.head.n a.head.rows a.table.now a.bundle.now a.at a.count l.left l.total l.before l.of_event l.allowed (record { row = t.row; event = t.event; weight = t.weight }) c.in-Read.after
 unfolding term_read_of
 next-term c =
     let call = c in
