@@ -11,16 +11,16 @@ use Rattle.lines.proofs.write_number.Goals.{After-decimal-size}
 
 -- at most 20 digits, and they are those of the number
 few : (c : After-decimal-size) → c.decimal-size.result ≤ 20
-few c = fewest_within _ _ c.decimal-size.ensures.1.0 (omega (arith, c.ranges.n))
+few c = fewest_within _ _ c.decimal-size.ensures.len (omega (arith, c.ranges.n))
 
-own : (c : After-decimal-size) → take c.decimal-size.result c.decimal-size.new.1.0 ≡ decimal c.args.n
-own c = c.decimal-size.ensures.1.1 ∙ fewest_decimal _ _ c.decimal-size.ensures.1.0
+own : (c : After-decimal-size) → take c.decimal-size.result c.decimal-size.new.out ≡ decimal c.args.n
+own c = c.decimal-size.ensures.digits ∙ fewest_decimal _ _ c.decimal-size.ensures.len
 
 long : (c : After-decimal-size) → length (decimal c.args.n) ≡ c.decimal-size.result
-long c = ap length (sym (own c)) ∙ sym c.decimal-size.ensures.0.1
+long c = ap length (sym (own c)) ∙ sym c.decimal-size.ensures.in_bounds.1
 
 pub write_at-requires : goal.write_at-requires
-write_at-requires c = rw (length-set, ← c.decimal-size.ensures.0.1) (omega (arith, few (goal.at.write_at-requires c).After-decimal-size))
+write_at-requires c = rw (length-set, ← c.decimal-size.ensures.in_bounds.1) (omega (arith, few (goal.at.write_at-requires c).After-decimal-size))
 
 pub overflow_add-result-2 : goal.overflow_add-result-2
 overflow_add-result-2 c = omega (arith, few (goal.at.overflow_add-result-2 c).After-decimal-size)

@@ -11,6 +11,7 @@ use Rattle.stops.specs.Searching.{net-start, first_of, one_of_two, pair_second_a
 use Rattle.stops.specs.declared.Stop.{Stop}
 use Rattle.laws.specs.Clauses.{position_in_bounds-best}
 use Rattle.stops.proofs.search_pairs.Goals as goal
+use Rattle.stops.proofs.search_pairs.Goals.{then-found-best, else-found-best}
 use Rattle.stops.proofs.search_pairs.Goals.{In-loop-k}
 
 pub loop-k-init : goal.loop-k-init
@@ -56,26 +57,26 @@ loop-k-preserved c =
     let found = c.stop_of_two_at-found in
     let n = start.args.head.n in
     let b = start.args.bundle.now in
-    let w = start.args.word.now in
+    let word = start.args.word.now in
     let first = start.args.head.places.first in
-    let one = stop_of (place_on n b (first + 2 * (2 * loop.k * place_size n))) (take loop.best w) in
-    let two = stop_of (place_on n b (first + 2 * ((2 * loop.k + 1) * place_size n))) (take loop.best w) in
+    let one = stop_of (place_on n b (first + 2 * (2 * loop.k * place_size n))) (take loop.best word) in
+    let two = stop_of (place_on n b (first + 2 * ((2 * loop.k + 1) * place_size n))) (take loop.best word) in
     let first-of : found.result ≡ first_of one two =
     found.ensures
-    ∙ ap₂ (λ (x y : ℕ). first_of (stop_of (place_on n b x) (take loop.best w)) (stop_of (place_on n b y) (take loop.best w))) loop.invariant.1 (ap (λ (x : ℕ). x + 2 * place_size n) loop.invariant.1 ∙ pair_second_at n first loop.k) in
+    ∙ ap₂ (λ (x y : ℕ). first_of (stop_of (place_on n b x) (take loop.best word)) (stop_of (place_on n b y) (take loop.best word))) loop.invariant.1 (ap (λ (x : ℕ). x + 2 * place_size n) loop.invariant.1 ∙ pair_second_at n first loop.k) in
     let position = ap (λ (s : Stop). s.position) first-of in
     let two-more : 2 * loop.k + 1 + 1 ≡ 2 * (loop.k + 1) = omega arith in
     let events = start.requires.searchable.word.events in (
       omega arith,
       ap (λ (x : ℕ). x + 4 * place_size n) loop.invariant.1 ∙ pair_next_at n first loop.k,
-      ⊎_elim (λ better. omega (arith, better.2, better.0.taken, loop.invariant.2)) (λ other. omega (arith, other.1, loop.invariant.2)) c.if-found-best.branch,
+      elim c.if-found-best.branch [ then-found-best w ↦ omega (arith, loop.invariant.2) | else-found-best w ↦ omega (arith, loop.invariant.2) ],
       λ net size best.
           let so_far = loop.invariant.3 net size best in
           rw (← two-more)
-          (⊎_elim
-          (λ better. rw (better.2, better.3, better.4, first-of, ← size) (pair_earlier n w events net b first (2 * loop.k) so_far (omega (arith, position, better.0.taken))))
-          (λ other. rw (other.1, other.2, other.3) (pair_stays n w events net b first (2 * loop.k) so_far (omega (arith, position, other.0.left))))
-          c.if-found-best.branch),
+          (elim c.if-found-best.branch [
+            then-found-best w ↦ rw (w.best-is, w.lowest-is, w.missing-is, first-of, ← size) (pair_earlier n word events net b first (2 * loop.k) so_far (omega (arith, position, w.if-found-best.true))) |
+            else-found-best w ↦ rw (w.best-is, w.lowest-is, w.missing-is) (pair_stays n word events net b first (2 * loop.k) so_far (omega (arith, position, w.if-found-best.false)))
+          ]),
     )
 
 pub returns : goal.returns

@@ -43,7 +43,7 @@ covers-requires c = going_held c.loop-i.invariant.1 (omega arith)
 rest : (c : After-surplus-left)
     → let turn = c in
     let args = turn.args in
-    to_z w64 (of_z w64 c.surplus-left.result) ≡ left (place_of args.place) (to_z w64 turn.loop-i.tokens) (get_or args.word.now turn.loop-i.i 0)
+    to_z w64 (of_z w64 c.surplus-left.result) ≡ left (place_of args.place) (to_z w64 turn.loop-i.tokens-bits) (get_or args.word.now turn.loop-i.i 0)
 rest c = to_z-of_z {w = w64} (record { sfits = c.surplus-left.type_inv }) ∙ c.surplus-left.ensures
 
 pub returns-then-not-covers : goal.returns-then-not-covers

@@ -45,13 +45,13 @@ covers-requires-in-loop-i c = going_held c.loop-i.invariant.2 (omega arith)
 rest₁ : (c : After-surplus-left)
     → let turn = c in
     let args = turn.args in
-    to_z w64 (of_z w64 c.surplus-left.result) ≡ left (place_of args.one) (to_z w64 turn.loop-i.first) (get_or args.word.now turn.loop-i.i 0)
+    to_z w64 (of_z w64 c.surplus-left.result) ≡ left (place_of args.one) (to_z w64 turn.loop-i.first-bits) (get_or args.word.now turn.loop-i.i 0)
 rest₁ c = to_z-of_z {w = w64} (record { sfits = c.surplus-left.type_inv }) ∙ c.surplus-left.ensures
 
 rest₂ : (c : After-surplus-rest)
     → let turn = c in
     let args = turn.args in
-    to_z w64 (of_z w64 c.surplus-rest.result) ≡ left (place_of args.two) (to_z w64 turn.loop-i.second) (get_or args.word.now turn.loop-i.i 0)
+    to_z w64 (of_z w64 c.surplus-rest.result) ≡ left (place_of args.two) (to_z w64 turn.loop-i.second-bits) (get_or args.word.now turn.loop-i.i 0)
 rest₂ c = to_z-of_z {w = w64} (record { sfits = c.surplus-rest.type_inv }) ∙ c.surplus-rest.ensures
 
 pub returns-then-not-covers : goal.returns-then-not-covers
