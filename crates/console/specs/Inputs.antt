@@ -6,7 +6,7 @@ use Rattle.console.specs.declared.Input.TheVariants.{Bytes, Failed}
 -- the bytes that came are at most so many
 abbrev pub Within : Input → ℕ → Type 0
 Within (Bytes n) room = n ≤ room
-Within Failed room = Unit {0}
+Within (Failed error) room = Unit {0}
 
 -- as a caller sees it
 pub within-bytes : (input : Input) (n room : ℕ) → input ≡ Bytes n → Within input room → n ≤ room

@@ -9,7 +9,6 @@ ghost use Rattle.judge.specs.Files.{input_verdict};
 ghost use Rattle.judge.specs.Lines.{verdict_line, input_line};
 
 use console::Input;
-use libc::STDIN_FILENO;
 use limits::{MAX_BUNDLE_SIZE, MAX_FILE_SIZE};
 use lines::{LINE_SIZE, write_line, write_refusal};
 use logs::TABLE;
@@ -17,6 +16,7 @@ use refusals::{FILE_LENGTH, Refusal};
 use verdicts::Verdict;
 
 // Writes the line of a verdict in front of the output. Its length.
+#[tactic(auto, unfolding(crate::specs::Lines::verdict_line))]
 fn write_verdict(output: &mut [u8; LINE_SIZE], verdict: Verdict) -> usize
     ensures value { result ≡ length (verdict_line verdict) }
     ensures output_after { output.new ≡ front (verdict_line verdict) output.old }
@@ -50,33 +50,33 @@ fn judge_file(buffer: &[u8], n: usize) -> Verdict
 // Writes the line that the program owes the sealed file that came to a buffer, its first n bytes, in front of the output. Its length.
 fn write_file_verdict(output: &mut [u8; LINE_SIZE], buffer: &[u8], n: usize) -> usize
     requires { (n ≤ length buffer.now) × (max_file_size < length buffer.now) }
-    ensures by_index { (input : List ℕ) → InputRead input buffer.now n → result ≡ length (input_line input) }
-    ensures by_index_2 { (input : List ℕ) → InputRead input buffer.now n
+    ensures value { (input : List ℕ) → InputRead input buffer.now n → result ≡ length (input_line input) }
+    ensures output_after { (input : List ℕ) → InputRead input buffer.now n
         → output.new ≡ front (input_line input) output.old }
 {
     write_verdict(output, judge_file(buffer, n))
 }
 
-fn main() {
-    if console::has_arguments(b"usage: judge < FILE\n") {
+fn main(rt: HostRuntime) {
+    if console::has_arguments(&rt, &mut rt.stderr(), b"usage: judge < FILE\n") {
         return;
     }
     // A byte more than the longest file, so that a longer one is seen.
     let mut file = [0u8; MAX_FILE_SIZE + 1];
     let mut line = [0u8; LINE_SIZE];
-    match console::read_input(STDIN_FILENO, &mut file) {
-        Input::Failed => {
-            os::fail(b"standard input");
+    match console::read_input(&mut rt.stdin(), &mut file) {
+        Input::Failed(error) => {
+            console::complain(&rt, "standard input", error);
             let refusal = Refusal {
                 number: FILE_LENGTH,
                 spot: 0,
             };
             let size = write_refusal(&mut line, refusal);
-            console::print(&line[..size]);
+            console::print(&rt, &line[..size]);
         }
         Input::Bytes(n) => {
             let size = write_file_verdict(&mut line, &file, n);
-            console::print(&line[..size]);
+            console::print(&rt, &line[..size]);
         }
     }
 }
