@@ -14,8 +14,8 @@ INCLUDE = $(DESTDIR)$(PREFIX)/include
 LIB = $(DESTDIR)$(PREFIX)/lib
 BIN = $(DESTDIR)$(PREFIX)/bin
 
-# What `rt staticlib` writes is named after the crate.
-ARCHIVE = target/staticlib/libabi.a
+# What `rt lib` writes is named after the crate.
+ARCHIVE = crates/abi/out/libabi.a
 HOV = rust/target/release/hov
 VERSION = $(shell sed -n 's/^.define HOV_VERSION "\(.*\)"/\1/p' include/hovmekhar.h)
 
@@ -23,8 +23,8 @@ VERSION = $(shell sed -n 's/^.define HOV_VERSION "\(.*\)"/\1/p' include/hovmekha
 
 all: $(ARCHIVE) $(HOV)
 
-target/staticlib/libabi.a: crates.txt $(wildcard crates/*/src/*.rt)
-	rt staticlib abi
+crates/abi/out/libabi.a: crates.txt $(wildcard crates/*/src/*.rt)
+	cd crates/abi && rt lib
 
 rust/target/release/hov: $(ARCHIVE) $(wildcard rust/Cargo.* rust/cli/src/*.rs rust/hovmekhar/src/*.rs)
 	cargo build --release --locked --offline --manifest-path rust/Cargo.toml -p cli

@@ -1,8 +1,8 @@
 //! Links the static library: `libhovmekhar.a`, as it is installed, or `libabi.a`,
-//! as `rt staticlib abi` writes it.
+//! as `rt lib` in `crates/abi` writes it.
 //!
 //! It is taken from the directory that the environment variable
-//! `HOVMEKHAR_LIB_DIR` names (an absolute path), else from `target/staticlib`
+//! `HOVMEKHAR_LIB_DIR` names (an absolute path), else from `crates/abi/out`
 //! beside the Rust workspace.
 
 use std::ffi::OsString;
@@ -16,7 +16,7 @@ fn main() {
     let directory = directory(env::var_os(VARIABLE));
     let Some((name, archive)) = archive(&directory) else {
         println!(
-            "cargo::error=The static library is missing in {}: build it with `rt staticlib abi`, \
+            "cargo::error=The static library is missing in {}: build it with `rt lib` in crates/abi, \
              or set {VARIABLE} to the absolute path of the directory that holds \
              libhovmekhar.a or libabi.a.",
             directory.display()
@@ -35,7 +35,7 @@ fn main() {
 pub fn directory(value: Option<OsString>) -> PathBuf {
     match value {
         Some(directory) if !directory.is_empty() => PathBuf::from(directory),
-        _ => Path::new(env!("CARGO_MANIFEST_DIR")).join("../../target/staticlib"),
+        _ => Path::new(env!("CARGO_MANIFEST_DIR")).join("../../crates/abi/out"),
     }
 }
 

@@ -1,9 +1,11 @@
-// Reading an input whole, writing bytes, and saying what went wrong. All are inner functions: no contract can say what a program reads or writes,
-// so the work of a program, and the line that it prints, is a function on slices.
+// Reading an input whole, writing bytes, and saying what went wrong. All are inner functions. Their contracts speak of every reader and writer whose
+// bytes are known; which bytes standard input and output hold, no contract can say.
 #![tactic(auto)]
 
-ghost use Rattle.std.specs.Prelude.{◌-◌, ◌≤◌, length};
-ghost use Rattle.console.specs.Inputs.{Within};
+ghost use Rattle.std.specs.Prelude.{◌≡◌, ◌-◌, ◌≤◌, length, take, drop};
+ghost use Rattle.std.specs.Bool.{OnTrue};
+ghost use Rattle.std.specs.Io.KnownBytes.{Appends};
+ghost use Rattle.console.specs.Inputs.{Within, Next, Whole};
 
 use std::env::FillError;
 use std::io::{self, Read, Write};
@@ -19,7 +21,9 @@ pub enum Input {
 // One read to the buffer from an offset on: how many bytes came, 0 at the end of the input, or a read that failed.
 fn read_at<R: Read>(reader: &mut R, buffer: &mut [u8], at: usize) -> Input
     requires { at ≤ length buffer.old }
-    ensures { Within result (length buffer.old - at) }
+    ensures within { Within result (length buffer.old - at) }
+    ensures bytes { Next (R.remaining reader.old) (R.remaining reader.new) result (drop at buffer.new) }
+    ensures before { take at buffer.new ≡ take at buffer.old }
 {
     match reader.read(&mut buffer[at..]) {
         Ok(got) => Input::Bytes(got),
@@ -29,7 +33,8 @@ fn read_at<R: Read>(reader: &mut R, buffer: &mut [u8], at: usize) -> Input
 
 // Reads until the buffer is full or the input ends. A failed read is never taken for the end of the input.
 pub fn read_input<R: Read>(reader: &mut R, buffer: &mut [u8]) -> Input
-    ensures { Within result (length buffer.new) }
+    ensures within { Within result (length buffer.new) }
+    ensures bytes { Whole (R.remaining reader.old) (R.remaining reader.new) result buffer.new }
 {
     let mut done = 0;
     while done < buffer.len() {
@@ -73,9 +78,15 @@ fn reason(text: &str) -> &str {
     }
 }
 
-// Writes bytes to standard output. Says on standard error where it did not take all of them.
-pub fn print<R: Print + Eprint + AllocGlobal>(rt: &R, bytes: &[u8]) {
-    if let Err(error) = rt.write_all(bytes) {
-        complain(rt, "standard output", error);
+// Writes bytes to standard output, and returns whether it took all of them. Where it did not, says so on standard error.
+pub fn print<R: Eprint + AllocGlobal, W: Write>(rt: &R, output: &mut W, bytes: &[u8]) -> bool
+    ensures { OnTrue result (Appends (W.contents output.old) (W.contents output.new) bytes.now) }
+{
+    match output.write_all(bytes) {
+        Ok(()) => true,
+        Err(error) => {
+            complain(rt, "standard output", error);
+            false
+        }
     }
 }

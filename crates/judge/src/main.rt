@@ -1,7 +1,9 @@
 // Judges the sealed file that standard input has, and prints one line: `accepted` and four counts, or `refused`, number and spot.
 #![tactic(auto)]
 
-ghost use Rattle.std.specs.Prelude.{◌≡◌, List, ℕ, ◌≤◌, ◌<◌, length};
+ghost use Rattle.std.specs.Prelude.{◌≡◌, List, ℕ, ◌≤◌, ◌<◌, length, IfSome};
+ghost use Rattle.std.specs.Bool.{OnTrue};
+ghost use Rattle.std.specs.Io.KnownBytes.{Appends};
 ghost use Rattle.laws.specs.Parts.{front};
 ghost use Rattle.limits.specs.Limits.{max_file_size};
 ghost use Rattle.block.specs.Whole.{InputRead};
@@ -13,6 +15,7 @@ use limits::{MAX_BUNDLE_SIZE, MAX_FILE_SIZE};
 use lines::{LINE_SIZE, write_line, write_refusal};
 use logs::TABLE;
 use refusals::{FILE_LENGTH, Refusal};
+use std::io::{Read, Write};
 use verdicts::Verdict;
 
 // Writes the line of a verdict in front of the output. Its length.
@@ -57,26 +60,35 @@ fn write_file_verdict(output: &mut [u8; LINE_SIZE], buffer: &[u8], n: usize) -> 
     write_verdict(output, judge_file(buffer, n))
 }
 
-fn main(rt: HostRuntime) {
-    if console::has_arguments(&rt, &mut rt.stderr(), b"usage: judge < FILE\n") {
-        return;
-    }
+// Judges the sealed file that an input has, and writes the line that the program owes it. Where something could not be read or written, says so on
+// standard error and returns false; an input that could not be read is answered as one of a wrong length.
+fn answer<E: Eprint + AllocGlobal, R: Read, W: Write>(rt: &E, input: &mut R, output: &mut W) -> bool
+    ensures { OnTrue result (IfSome (R.remaining input.old) (λ file. Appends (W.contents output.old) (W.contents output.new) (input_line file))) }
+{
     // A byte more than the longest file, so that a longer one is seen.
     let mut file = [0u8; MAX_FILE_SIZE + 1];
     let mut line = [0u8; LINE_SIZE];
-    match console::read_input(&mut rt.stdin(), &mut file) {
+    match console::read_input(input, &mut file) {
         Input::Failed(error) => {
-            console::complain(&rt, "standard input", error);
+            console::complain(rt, "standard input", error);
             let refusal = Refusal {
                 number: FILE_LENGTH,
                 spot: 0,
             };
             let size = write_refusal(&mut line, refusal);
-            console::print(&rt, &line[..size]);
+            console::print(rt, output, &line[..size]);
+            false
         }
         Input::Bytes(n) => {
             let size = write_file_verdict(&mut line, &file, n);
-            console::print(&rt, &line[..size]);
+            console::print(rt, output, &line[..size])
         }
     }
+}
+
+fn main(rt: HostRuntime) {
+    if console::has_arguments(&rt, &mut rt.stderr(), b"usage: judge < FILE\n") {
+        return;
+    }
+    answer(&rt, &mut rt.stdin(), &mut rt.stdout());
 }

@@ -57,7 +57,7 @@ fn commands() {
         "hov seal ",
         "hov unseal ",
         "examples/may_run.sh ",
-        "target/bin/judge ",
+        "crates/judge/out/judge ",
     ] {
         let shows = |shown: &Shown| shown.command.contains(used);
         assert!(commands.iter().any(shows), "no command shows {used}");

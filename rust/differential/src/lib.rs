@@ -27,7 +27,7 @@
 //!   clock. A test prints its seed, and every failed comparison names it.
 //! - `HOVMEKHAR_CASES`: a multiplier for the number of cases, for long runs.
 //! - `HOVMEKHAR_BIN_DIR`: the directory of `judge`, an absolute path.
-//!   Without it that is `target/bin` beside the Rust workspace.
+//!   Without it that is `crates/judge/out` beside the Rust workspace.
 
 #![forbid(unsafe_code)]
 #![deny(missing_docs)]

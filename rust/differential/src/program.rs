@@ -1,7 +1,7 @@
 //! The program `judge`, run as a person or a script runs it.
 //!
 //! It is taken from the directory that the environment variable `HOVMEKHAR_BIN_DIR`
-//! names, else from `target/bin` beside the Rust workspace.
+//! names, else from `crates/judge/out` beside the Rust workspace.
 
 use std::env;
 use std::ffi::OsStr;
@@ -32,12 +32,12 @@ pub struct Done {
 pub fn path() -> PathBuf {
     let directory = match env::var_os(VARIABLE) {
         Some(directory) => PathBuf::from(directory),
-        None => Path::new(env!("CARGO_MANIFEST_DIR")).join("../../target/bin"),
+        None => Path::new(env!("CARGO_MANIFEST_DIR")).join("../../crates/judge/out"),
     };
     let program = directory.join("judge");
     assert!(
         program.is_file(),
-        "The program {} is missing: build it with `rt check judge`, \
+        "The program {} is missing: build it with `rt run` in crates/judge, \
          or set {VARIABLE} to the absolute path of the directory that holds it.",
         program.display()
     );

@@ -6,7 +6,7 @@ use std::fs;
 use std::path::{Path, PathBuf};
 
 /// The public calls: the crate, the file in its `src`, and the function.
-const CALLS: [(&str, &str, &str); 19] = [
+const CALLS: [(&str, &str, &str); 20] = [
     ("block", "lib.rt", "open"),
     ("sealing", "lib.rt", "seal"),
     ("logs", "lib.rt", "fresh"),
@@ -18,6 +18,7 @@ const CALLS: [(&str, &str, &str); 19] = [
     ("files", "lib.rt", "run"),
     ("files", "lib.rt", "run_both"),
     ("judge", "main.rt", "judge_file"),
+    ("judge", "main.rt", "answer"),
     ("abi", "hov_block.rt", "hov_open"),
     ("abi", "hov_block.rt", "hov_seal"),
     ("abi", "hov_logs.rt", "hov_fresh"),
@@ -63,8 +64,9 @@ fn replaced<'e>(edit: &'e str, file: &str) -> Vec<&'e str> {
 /// The body of a function: from the brace in a line of its own behind the contract to the
 /// one that closes it, both as far in as the function.
 fn body(source: &str, function: &str) -> Option<String> {
-    let start = format!("fn {function}(");
-    let mut lines = source.lines().skip_while(|line| !line.contains(&start));
+    let starts = [format!("fn {function}("), format!("fn {function}<")];
+    let is_start = |line: &str| starts.iter().any(|start| line.contains(start.as_str()));
+    let mut lines = source.lines().skip_while(|line| !is_start(line));
     let first = lines.next()?;
     let indent = &first[..first.len() - first.trim_start().len()];
     let (opens, closes) = (format!("{indent}{{"), format!("{indent}}}"));

@@ -11,7 +11,7 @@ use std::path::Path;
 #[test]
 fn an_empty_variable_counts_as_unset() {
     assert_eq!(directory(Some("".into())), directory(None));
-    assert!(directory(None).ends_with("target/staticlib"));
+    assert!(directory(None).ends_with("crates/abi/out"));
     assert_eq!(directory(Some("/x y".into())), Path::new("/x y"));
 }
 
