@@ -15,7 +15,7 @@ use Rattle.limits.specs.Limits.{max_rows}
 use Rattle.refusals.specs.Table.{bundle_end_number}
 use Rattle.refusals.specs.Results.{refused}
 use Rattle.nets.specs.Nets.{rows, prefixes, add_row}
-use Rattle.nets.specs.LogLaws.{rows-longer}
+use Rattle.nets.proofs.LogLaws.{rows-longer}
 use Rattle.bundles.specs.Reading.{got, give, byte}
 use Rattle.bundles.specs.Layout.{CertificateFields, kind0, kind1, Head, HeadInLimits, CertificateInLimits, certificate_bytes, rows_in}
 use Rattle.bundles.specs.Layout.{words_in}

@@ -5,7 +5,7 @@ use Rattle.laws.specs.Lists.{all, any, among}
 use Rattle.refusals.specs.Table.{file_length_number, block_sums_number, output_short_number, bundle_length_number, block_number_number, block_use_number}
 use Rattle.refusals.specs.Results.{value, ◌>>◌, require, Refuses, refuses-value, refuses-require, refuses-then, refuses-wider}
 use Rattle.refusals.specs.Answers.{refusal, answer, number_of}
-use Rattle.refusals.specs.Laws.{written-numbers}
+use Rattle.refusals.proofs.Laws.{written-numbers}
 use Rattle.block.specs.Block.{is_zero, right_number, right_use, right_sums, unless, fault}
 use Rattle.block.specs.File.{block_count, fault_at, first_faulty, first_fault, bundle_of, opened, sealed_file, sealed}
 

@@ -12,7 +12,8 @@ use Rattle.laws.specs.Numbers.{Bytes, bytes_take, bytes_drop, bytes-append, byte
 use Rattle.limits.specs.Limits.{max_file_size, max_bundle_size, right_size-bounds, right_size_intro}
 use Rattle.refusals.specs.Results.{Result, value}
 use Rattle.refusals.specs.Answers.{refusal, answer, written}
-use Rattle.refusals.specs.Laws.{Ends, ends-written, answer-taken}
+use Rattle.refusals.specs.Laws.{Ends}
+use Rattle.refusals.proofs.Laws.{ends-written, answer-taken}
 use Rattle.refusals.specs.declared.Written.TheVariants.{Length}
 use Rattle.sums.specs.Checksums.{plain_sum, position_sum}
 use Rattle.block.specs.Block.{padded, summed_bytes, with_sums, block, right_count, used_count, used_contents}

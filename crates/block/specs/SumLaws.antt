@@ -9,7 +9,7 @@ use Rattle.laws.specs.Booleans.{and_left, and_right}
 use Rattle.laws.specs.Numbers.{Bytes, bytes_take, le16, number_at, number_at-part, le16-number_at}
 use Rattle.laws.specs.Distance.{distance, distance_self, distance_none, distance-parts}
 use Rattle.sums.specs.Checksums.{plain_sum, position_sum}
-use Rattle.sums.specs.Detection.{one-summed, two-summed}
+use Rattle.sums.proofs.Detection.{one-summed, two-summed}
 use Rattle.block.specs.Block.{right_sums}
 
 -- a field of two bytes is the same exactly where its bytes are

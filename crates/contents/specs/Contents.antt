@@ -15,7 +15,8 @@ use Rattle.bundles.specs.Reading.{Read, got, item}
 use Rattle.bundles.specs.Layout.{PlaceFields, Head, Contents, PlaceInLimits, InLimits, place_bytes, places_bytes, certificate_bytes, front_bytes, head_bytes, bytes_of}
 use Rattle.bundles.specs.PlaceReading.{place_size}
 use Rattle.verdicts.specs.Judging.{judging, judged, verdict_of, verdict}
-use Rattle.verdicts.specs.Acceptance.{AcceptedAs, accepted-exactly, judged-long, judged-judging, accepted-judging}
+use Rattle.verdicts.specs.Acceptance.{AcceptedAs}
+use Rattle.verdicts.proofs.Acceptance.{accepted-exactly, judged-long, judged-judging, accepted-judging}
 use Rattle.verdicts.specs.declared.Tally.{Tally}
 use Rattle.verdicts.specs.declared.Verdict.TheVariants as verdicts
 

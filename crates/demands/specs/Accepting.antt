@@ -7,14 +7,17 @@ use Rattle.laws.specs.Distinct.{Cardinality}
 use Rattle.laws.specs.Numbers.{Bytes}
 use Rattle.nets.specs.Nets.{net_permits, accepted, tally}
 use Rattle.nets.specs.Words.{Follows}
-use Rattle.nets.specs.Tallies.{PrefixCounts, WrongContinuation, row_count, allowed-count, refused-count, permitted-count}
-use Rattle.nets.specs.RegionCertificates.{ByRegions, accepted-regions}
+use Rattle.nets.specs.Tallies.{PrefixCounts, WrongContinuation}
+use Rattle.nets.proofs.Tallies.{row_count, allowed-count, refused-count, permitted-count}
+use Rattle.nets.specs.RegionCertificates.{ByRegions}
+use Rattle.nets.proofs.RegionCertificates.{accepted-regions}
 use Rattle.logs.specs.Answers.{table_size}
 use Rattle.bundles.specs.Layout.{Contents, HeadInLimits, InLimits, to_bundle, bytes_of}
 use Rattle.bundles.specs.Readers.{head_of, events_in, log_in, net_in}
 use Rattle.bundles.specs.Limits.{log-below}
 use Rattle.verdicts.specs.Judging.{tally_of, verdict}
-use Rattle.verdicts.specs.Acceptance.{AcceptedAs, accepted-exactly}
+use Rattle.verdicts.specs.Acceptance.{AcceptedAs}
+use Rattle.verdicts.proofs.Acceptance.{accepted-exactly}
 use Rattle.verdicts.specs.declared.Tally.{Tally}
 use Rattle.verdicts.specs.declared.Verdict.TheVariants.{Accepted}
 use Rattle.demands.specs.Demands.{FourCounts}

@@ -10,7 +10,7 @@ use Rattle.laws.specs.Numbers.{Bytes, bytes-set}
 use Rattle.limits.specs.Limits.{right_size_intro}
 use Rattle.refusals.specs.Results.{value}
 use Rattle.refusals.specs.Answers.{written}
-use Rattle.refusals.specs.Laws.{ends-refused, answer-taken}
+use Rattle.refusals.proofs.Laws.{ends-refused, answer-taken}
 use Rattle.block.specs.File.{block_count, block_at, fault_at, opened, sealed_file, sealed}
 use Rattle.block.specs.OpenLaws.{right_length-whole}
 use Rattle.block.specs.SealLaws.{sealed-file, sealed→}

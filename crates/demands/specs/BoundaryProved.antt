@@ -5,7 +5,7 @@ use Rattle.laws.specs.Booleans.{impossible}
 use Rattle.laws.specs.Lists.{any, among, not-among}
 use Rattle.refusals.specs.Results.{Result, value, refused, Refuses}
 use Rattle.refusals.specs.Answers.{refusal, fitted, answer, number_of, value_of}
-use Rattle.refusals.specs.Laws.{refuses-fitted, answer-refused}
+use Rattle.refusals.proofs.Laws.{refuses-fitted, answer-refused}
 use Rattle.refusals.specs.declared.Refusal.{Refusal}
 use Rattle.refusals.specs.declared.Written.{Written}
 use Rattle.refusals.specs.declared.Written.TheVariants as writing

@@ -15,8 +15,9 @@ use Rattle.nets.specs.Nets.{Word, step_after, permits, permitted, stopped_at, sc
 use Rattle.nets.specs.Words.{Prefix, prefix→}
 use Rattle.nets.specs.Fits.{Below, below-empty, below_snoc, prefix-below}
 use Rattle.nets.specs.TokenGame.{places_of}
-use Rattle.nets.specs.SeparationProblems.{Complete, Suboptimal, accepted-complete, accepted-suboptimal}
-use Rattle.nets.specs.Comparison.{first-exactly, second-permits, nets-agree, first-screened, second-screened, tallies_agree}
+use Rattle.nets.specs.SeparationProblems.{Complete, Suboptimal}
+use Rattle.nets.proofs.SeparationProblems.{accepted-complete, accepted-suboptimal}
+use Rattle.nets.proofs.Comparison.{first-exactly, second-permits, nets-agree, first-screened, second-screened, tallies_agree}
 use Rattle.rows.specs.Rows.{with_rows, cleared}
 use Rattle.logs.specs.Answers.{table_size}
 use Rattle.logs.specs.Log.{log_rows}
@@ -25,7 +26,8 @@ use Rattle.bundles.specs.Readers.{head_of, events_in, log_in, net_in}
 use Rattle.bundles.specs.Limits.{log-below}
 use Rattle.bundles.specs.Reading.{Read, item}
 use Rattle.verdicts.specs.Judging.{tally_of, judged, verdict_of, verdict, table_after}
-use Rattle.verdicts.specs.Acceptance.{AcceptedAs, judged-long, accepted-exactly, accepted-table}
+use Rattle.verdicts.specs.Acceptance.{AcceptedAs}
+use Rattle.verdicts.proofs.Acceptance.{judged-long, accepted-exactly, accepted-table}
 use Rattle.verdicts.specs.declared.Tally.{Tally}
 use Rattle.verdicts.specs.declared.Verdict.TheVariants.{Accepted}
 use Rattle.screening.specs.Screening.{replayed, screened}

@@ -8,13 +8,15 @@ use Rattle.laws.specs.Numbers.{number_at}
 use Rattle.limits.specs.Limits.{right_size}
 use Rattle.refusals.specs.Results.{bind}
 use Rattle.nets.specs.Nets.{Word, Net, no_place, event_count, permits}
-use Rattle.nets.specs.Joining.{permits-join, permits-order, permits-itself, join_grouped, stops_first, stops_second}
-use Rattle.nets.specs.Scaling.{permits-scaled-place, permits-scaled}
+use Rattle.nets.proofs.Joining.{permits-join, permits-order, permits-itself, join_grouped, stops_first, stops_second}
+use Rattle.nets.proofs.Scaling.{permits-scaled-place, permits-scaled}
 use Rattle.bundles.specs.Reading.{item_in, require, field, byte, number, each, onward}
 use Rattle.bundles.specs.Layout.{to_place, to_net}
 use Rattle.bundles.specs.Readers.{word_after, word, place, places, head_after, head, bundle_size, bundle_head, read_head, head_in, head_of}
-use Rattle.screening.specs.JoinLaws.{NoPlaces, JoinOf, joined-permitted, joined-order, joined-itself, joined-whole, joined_grouped, joined-none, none-joined, joined-stop-first, joined-stop-second, joined-place}
-use Rattle.screening.specs.ScalingLaws.{ScaledPlace, ScaledPlaces, screened-scaled-place, screened-scaled, joined-alike}
+use Rattle.screening.specs.JoinLaws.{NoPlaces, JoinOf}
+use Rattle.screening.proofs.JoinLaws.{joined-permitted, joined-order, joined-itself, joined-whole, joined_grouped, joined-none, none-joined, joined-stop-first, joined-stop-second, joined-place}
+use Rattle.screening.specs.ScalingLaws.{ScaledPlace, ScaledPlaces, screened-scaled-place, screened-scaled}
+use Rattle.screening.proofs.ScalingLaws.{joined-alike}
 use Rattle.demands.specs.Samples.{bytes_a, bytes_a', bytes_q, bytes_r}
 use Rattle.demands.specs.Joining.{NetsJoined, CallJoined, Request6}
 

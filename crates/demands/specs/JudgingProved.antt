@@ -17,7 +17,7 @@ use Rattle.refusals.specs.Results.{refused}
 use Rattle.refusals.specs.Answers.{refusal}
 use Rattle.nets.specs.Nets.{Log, Step, Place, no_place, fits}
 use Rattle.nets.specs.Fits.{Fits, LogBelow}
-use Rattle.nets.specs.Regions.{region_permits, region_fits}
+use Rattle.nets.proofs.Regions.{region_permits, region_fits}
 use Rattle.logs.specs.Answers.{table_size}
 use Rattle.bundles.specs.Reading.{byte, number}
 use Rattle.bundles.specs.Layout.{CertificateFields, WeightFields, kind0, kind1, Head, Contents, HeadInLimits, fits_in, to_net, words_in, rows_in}
@@ -31,9 +31,9 @@ use Rattle.beginnings.specs.Heads.{refused_unlimited, head-ends, head-departs}
 use Rattle.beginnings.specs.Words.{head_8, head_9}
 use Rattle.beginnings.specs.Certificates.{from_first, certificate-ends, certificate-departs}
 use Rattle.verdicts.specs.Judging.{unsolved, judging, verdict}
-use Rattle.verdicts.specs.Acceptance.{few-rows, one-row}
+use Rattle.verdicts.proofs.Acceptance.{few-rows, one-row}
 use Rattle.verdicts.specs.Reached.{UnsolvedNext, NotSolved, Misread}
-use Rattle.verdicts.specs.Causes.{judging_10, judging-unsolved, judging-field, judging_13, judge_4, judge_5, judge_later}
+use Rattle.verdicts.proofs.Causes.{judging_10, judging-unsolved, judging-field, judging_13, judge_4, judge_5, judge_later}
 use Rattle.verdicts.specs.declared.Verdict.TheVariants as verdicts
 use Rattle.demands.specs.Judging.{Sized, LowestMisfit, DueStops, JudgeExactly, FieldsExactly}
 

@@ -9,7 +9,7 @@ use Rattle.laws.specs.Lists.{all, member, all-member, member→}
 use Rattle.laws.specs.Numbers.{Bytes, all-bytes}
 use Rattle.limits.specs.Limits.{right_size}
 use Rattle.refusals.specs.Results.{value}
-use Rattle.refusals.specs.Laws.{ends-written}
+use Rattle.refusals.proofs.Laws.{ends-written}
 use Rattle.block.specs.File.{opened, sealed_file}
 use Rattle.block.specs.SealLaws.{sealed-file}
 use Rattle.block.specs.RoundTrip.{opened-sealed, sealed-small}
@@ -19,7 +19,7 @@ use Rattle.nets.specs.Comparison.{PrefixesIn}
 use Rattle.logs.specs.Answers.{table_size}
 use Rattle.bundles.specs.Readers.{events_in, log_in, net_in}
 use Rattle.verdicts.specs.Judging.{verdict_of, verdict}
-use Rattle.verdicts.specs.Acceptance.{judged-right}
+use Rattle.verdicts.proofs.Acceptance.{judged-right}
 use Rattle.verdicts.specs.declared.Tally.{Tally}
 use Rattle.verdicts.specs.declared.Verdict.TheVariants as verdicts
 use Rattle.demands.specs.Demands.{FileAccepted, LogContained, Compared}

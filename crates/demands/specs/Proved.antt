@@ -3,7 +3,7 @@ use Rattle.std.specs.Prelude.{◌≡◌, refl, List, ℕ, length}
 use Rattle.std.proofs.Common.{sym, ap, ◌∙◌}
 use Rattle.refusals.specs.Results.{value}
 use Rattle.refusals.specs.Answers.{number_of}
-use Rattle.refusals.specs.Laws.{answer-length, answer-rest, answer-taken, refused-writes-nothing}
+use Rattle.refusals.proofs.Laws.{answer-length, answer-rest, answer-taken, refused-writes-nothing}
 use Rattle.block.specs.File.{opened}
 use Rattle.block.specs.RefusalNumbers.{open_numbers_lem, seal_numbers_lem}
 use Rattle.block.specs.RoundTrip.{opened-small, seals, seal_then_open, open_then_seal}
@@ -13,17 +13,17 @@ use Rattle.logs.specs.AnswerLaws.{refused-table}
 use Rattle.logs.specs.LogTable.{log-table}
 use Rattle.nets.specs.Nets.{join}
 use Rattle.nets.specs.Words.{Prefix}
-use Rattle.nets.specs.Order.{wrong_sorted}
-use Rattle.nets.specs.SeparationProblems.{wrong_problem, constraint_unsolved}
+use Rattle.nets.proofs.Order.{wrong_sorted}
+use Rattle.nets.proofs.SeparationProblems.{wrong_problem, constraint_unsolved}
 use Rattle.bundles.specs.Readers.{events_in, net_in}
-use Rattle.verdicts.specs.Acceptance.{accepted-exactly}
+use Rattle.verdicts.proofs.Acceptance.{accepted-exactly}
 use Rattle.verdicts.specs.RefusalNumbers.{judge_numbers_lem, refused_judge}
 use Rattle.verdicts.specs.Judging.{verdict_number}
 use Rattle.verdicts.specs.declared.Tally.{Tally}
 use Rattle.screening.specs.Screening.{screened_number}
-use Rattle.screening.specs.RefusalNumbers.{screen-numbers, join-numbers}
+use Rattle.screening.proofs.RefusalNumbers.{screen-numbers, join-numbers}
 use Rattle.screening.specs.Screens.{permitted-exactly, stopped-exactly, readable-exactly, screenable-head, replay-permits, replay-stops}
-use Rattle.screening.specs.JoinLaws.{join-readable, joined-replayed}
+use Rattle.screening.proofs.JoinLaws.{join-readable, joined-replayed}
 use Rattle.pruning.specs.RefusalNumbers.{prune-numbers}
 use Rattle.demands.specs.Demands.{Demand1, Demand2, Demand3, FileAccepted}
 use Rattle.demands.specs.OpeningProved.{open_exactly, seal_exactly}

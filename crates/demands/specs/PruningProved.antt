@@ -17,12 +17,13 @@ use Rattle.limits.specs.Limits.{right_size}
 use Rattle.refusals.specs.Results.{value, refused, bind}
 use Rattle.refusals.specs.Results as results
 use Rattle.refusals.specs.Answers.{refusal, answer}
-use Rattle.refusals.specs.Laws.{ends-refused, ends-short, ends-written, answer-length, refused-writes-nothing}
+use Rattle.refusals.proofs.Laws.{ends-refused, ends-short, ends-written, answer-length, refused-writes-nothing}
 use Rattle.refusals.specs.declared.Refusal.{Refusal}
 use Rattle.refusals.specs.declared.Written.TheVariants as writing
 use Rattle.nets.specs.Nets.{Word, Bundle, same, occurrences, event_count, weighed, beginnings, prefixes, add_row, counts, tokens, surplus, place_permits, shortfall, net_permits, permits, first_refusing, shortfall_of, stopped_at, screen_after, screen, rows, allowed, passes, row_steps, continuations, allowed_steps, wrong_continuations, fits, refused_by, weighs_before, weighs_after, weights_hold, solves, is_by_place, tally}
 use Rattle.nets.specs.Events.{first_bad}
-use Rattle.nets.specs.Pruning.{prune, fewer-permits, prune-accepted, prune-tally, prune-permits, prune-more}
+use Rattle.nets.specs.Pruning.{prune}
+use Rattle.nets.proofs.Pruning.{fewer-permits, prune-accepted, prune-tally, prune-permits, prune-more}
 use Rattle.logs.specs.Answers.{table_size}
 use Rattle.bundles.specs.Bytes.{contents-bytes}
 use Rattle.bundles.specs.Reading.{item_in, require, field, byte, number, each, onward}
@@ -31,7 +32,8 @@ use Rattle.bundles.specs.Readers as readers
 use Rattle.bundles.specs.Readers.{head_of, events_in, log_in, net_in, word_after, word, place, places, head_after, bundle_size, bundle_head, read_head, term, weights, of_kind, certificate}
 use Rattle.verdicts.specs.Judging as verdicts
 use Rattle.verdicts.specs.Judging.{tally_of, unsolved, solved, at_end, after_head, contents, judged, verdict_of, verdict, verdict_number}
-use Rattle.verdicts.specs.Acceptance.{AcceptedAs, accepted-exactly, accepted-table}
+use Rattle.verdicts.specs.Acceptance.{AcceptedAs}
+use Rattle.verdicts.proofs.Acceptance.{accepted-exactly, accepted-table}
 use Rattle.verdicts.specs.RefusalNumbers.{judge_numbers_lem}
 use Rattle.verdicts.specs.declared.Tally.{Tally}
 use Rattle.verdicts.specs.declared.Verdict.{Verdict}

@@ -17,7 +17,7 @@ use Rattle.beginnings.specs.Words.{head_8}
 use Rattle.screening.specs.Screening.{screened}
 use Rattle.screening.specs.Causes.{screen_14, screen_4, screen-field, screen_15}
 use Rattle.screening.specs.Joins.{read-exactly}
-use Rattle.screening.specs.JoinCauses.{empty-refused, join_14, join-own, join_19, join_15}
+use Rattle.screening.proofs.JoinCauses.{empty-refused, join_14, join-own, join_19, join_15}
 use Rattle.screening.specs.declared.Screened.TheVariants as screening
 use Rattle.demands.specs.Screening.{ScreenExactly, JoinExactly}
 

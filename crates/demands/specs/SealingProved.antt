@@ -4,7 +4,7 @@ use Rattle.std.proofs.Math.Path.{sym}
 use Rattle.std.proofs.Common.{◌∙◌, subst, arith}
 use Rattle.refusals.specs.Results.{value}
 use Rattle.refusals.specs.Answers.{refusal, answer}
-use Rattle.refusals.specs.Laws.{answer-rest, answer-taken, refused-writes-nothing}
+use Rattle.refusals.proofs.Laws.{answer-rest, answer-taken, refused-writes-nothing}
 use Rattle.refusals.specs.declared.Written.TheVariants as writing
 use Rattle.block.specs.File.{part_at, sealed_file, sealed}
 use Rattle.block.specs.SealLaws.{blocks_for-is, sealed→}

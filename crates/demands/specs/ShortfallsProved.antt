@@ -10,7 +10,7 @@ use Rattle.laws.specs.Lists.{get_d_member}
 use Rattle.laws.specs.Numbers.{Bytes}
 use Rattle.nets.specs.Nets.{Word, Place, no_place, step_at, shortfall, shortfall_of}
 use Rattle.nets.specs.Fits.{Below, below-shorter}
-use Rattle.nets.specs.Shortfall.{shortfall-none, shortfall-some, shortfall-lacking, shortfall-least, shortfall-earlier, fits-none, refused-short, refused-there, refused-place}
+use Rattle.nets.proofs.Shortfall.{shortfall-none, shortfall-some, shortfall-lacking, shortfall-least, shortfall-earlier, fits-none, refused-short, refused-there, refused-place}
 use Rattle.bundles.specs.Layout.{TwoBytes, PlaceInLimits, HeadInLimits, to_place, to_net}
 use Rattle.bundles.specs.Readers.{head_of, events_in, net_in}
 use Rattle.screening.specs.Screening.{screened}

@@ -11,8 +11,8 @@ use Rattle.limits.specs.Limits.{max_events, max_log_events}
 use Rattle.nets.specs.Nets.{Log, Counts, counts, beginnings, rows, event_count, traffic, empty_words}
 use Rattle.nets.specs.Words.{empty-prefix}
 use Rattle.nets.specs.Fits.{LogBelow}
-use Rattle.nets.specs.Rows.{→row, first-row, other_row}
-use Rattle.nets.specs.Traffic.{passes-exactly, traffic-most, traffic-first, traffic-some, traffic-few, words-most}
+use Rattle.nets.proofs.Rows.{→row, first-row, other_row}
+use Rattle.nets.proofs.Traffic.{passes-exactly, traffic-most, traffic-first, traffic-some, traffic-few, words-most}
 use Rattle.rows.specs.Growth.{counts-none}
 use Rattle.rows.specs.Rows.{Row, rows_of, none, cleared}
 use Rattle.logs.specs.Answers.{table_size, fresh_summary, fresh_answer, fresh_table, taken_answer, taken_table}

@@ -5,7 +5,7 @@ use Rattle.laws.specs.Booleans.{impossible}
 use Rattle.laws.specs.Numbers.{Bytes}
 use Rattle.refusals.specs.Results.{Result, value, refused}
 use Rattle.refusals.specs.Answers.{refusal, fitted, answer, written}
-use Rattle.refusals.specs.Laws.{answer-refused, answer-fitted, fitted-written}
+use Rattle.refusals.proofs.Laws.{answer-refused, answer-fitted, fitted-written}
 use Rattle.refusals.specs.declared.Refusal.{Refusal}
 use Rattle.refusals.specs.declared.Written.TheVariants as writing
 use Rattle.block.specs.File.{opened}

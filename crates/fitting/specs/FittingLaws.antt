@@ -14,8 +14,9 @@ use Rattle.laws.specs.Scans.{failing-never}
 use Rattle.limits.specs.Limits.{max_events}
 use Rattle.nets.specs.Nets.{Log, Counts, Step, Place, no_place, tokens, surplus, place_permits, rows, allowed, allowed_steps, fits}
 use Rattle.nets.specs.CountLaws.{length-counts}
-use Rattle.nets.specs.Fits.{LogBelow, allowed-listed}
-use Rattle.nets.specs.Rows.{row→, continuation→, allowed_step→}
+use Rattle.nets.specs.Fits.{LogBelow}
+use Rattle.nets.proofs.Fits.{allowed-listed}
+use Rattle.nets.proofs.Rows.{row→, continuation→, allowed_step→}
 use Rattle.nets.specs.Wide.{wide, permits-wide}
 use Rattle.places.specs.Machine.{place_of}
 use Rattle.places.specs.declared.Place as Declared

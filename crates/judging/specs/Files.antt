@@ -2,7 +2,7 @@
 use Rattle.std.specs.Prelude.{◌≡◌, refl, List, ℕ, length, take}
 use Rattle.refusals.specs.Results.{Result, value, refused, ◌>>=◌, bind}
 use Rattle.refusals.specs.Answers.{fitted, answer, written}
-use Rattle.refusals.specs.Laws.{answer-fitted, answer-refused}
+use Rattle.refusals.proofs.Laws.{answer-fitted, answer-refused}
 use Rattle.refusals.specs.declared.Refusal.{Refusal}
 use Rattle.refusals.specs.declared.Written.TheVariants as writing
 use Rattle.block.specs.File.{opened}

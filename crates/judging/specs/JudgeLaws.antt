@@ -25,7 +25,7 @@ use Rattle.bundles.specs.Readers.{head, rows_in_limit, bundle_size, head_of, log
 use Rattle.bundles.specs.ReadingLaws.{and_then-got, require-got}
 use Rattle.bundles.specs.HeadReading.{net-size}
 use Rattle.verdicts.specs.Judging.{solved, at_end, after_head, contents, judging, judged, tally_of, verdict_of, verdict, table_on, table_after}
-use Rattle.verdicts.specs.Acceptance.{judged-right}
+use Rattle.verdicts.proofs.Acceptance.{judged-right}
 use Rattle.verdicts.specs.declared.Verdict.{Verdict}
 use Rattle.verdicts.specs.declared.Verdict.TheVariants as verdicts
 use Rattle.heads.specs.Heads.{HeadHeld}

@@ -18,10 +18,10 @@ use Rattle.limits.specs.Limits.{max_events}
 use Rattle.nets.specs.Nets.{Word, Log, Counts, Step, occurrences, counts, beginnings, prefixes, add_row, rows, allowed, passes, traffic}
 use Rattle.nets.specs.Words.{Begins, begins_snoc, allowed→, prefix-shorter}
 use Rattle.nets.specs.Fits.{Below, LogBelow}
-use Rattle.nets.specs.Rows.{→row, rows-distinct, add_row-old, add_row-new, add_row-distinct}
+use Rattle.nets.proofs.Rows.{→row, rows-distinct, add_row-old, add_row-new, add_row-distinct}
 use Rattle.nets.specs.CountLaws.{counts_snoc}
 use Rattle.nets.specs.LogLaws.{rows_snoc, allowed_snoc}
-use Rattle.nets.specs.Traffic.{traffic-empty, traffic-empty-other, traffic-next, traffic-next-other, traffic-row}
+use Rattle.nets.proofs.Traffic.{traffic-empty, traffic-empty-other, traffic-next, traffic-next-other, traffic-row}
 use Rattle.rows.specs.Growth.{counts-none}
 use Rattle.rows.specs.Rows.{max_traffic, Row, find_row, new_row, present, one_more, passed_once, visit, marked, update_at, follow, add_event, take_word, none}
 use Rattle.logs.specs.Log.{mask_at, traffic_at, log_row, log_rows, take_log}

@@ -15,7 +15,7 @@ use Rattle.nets.specs.Events.{first_bad, EventsBelow, none_bad, each_below}
 use Rattle.nets.specs.Nets.{Word, Log, Counts, event_count, rows, allowed, traffic}
 use Rattle.nets.specs.Fits.{Below, LogBelow}
 use Rattle.nets.specs.Wide.{wide, rows-wide, allowed-wide}
-use Rattle.nets.specs.Traffic.{traffic-wide}
+use Rattle.nets.proofs.Traffic.{traffic-wide}
 use Rattle.rows.specs.Rows.{row_size, max_traffic, Row, row_at, numbers, rows_of, flat, with_rows, new_row, visit, follow, add_event, take_word, none, cleared}
 use Rattle.logs.specs.Answers.{table_size, right_summary, fresh_summary, log_started, fresh_answer, fresh_table, rows_after, summary_after, word_taken, taken_answer, taken_table}
 use Rattle.logs.specs.AnswerLaws.{next→value, right_event_count-most}

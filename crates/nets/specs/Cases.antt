@@ -1,10 +1,7 @@
 -- The mistakes that the requirements name, as samples for the definitions: what is computed, with what is expected.
-use Rattle.std.specs.Prelude.{◌≡◌, refl, true, false, cond, ℕ, eqb, length}
-use mathlib.Core.List.{List, [], ◌∷◌, map, flat_map}
-use Rattle.laws.specs.Lists.{all, any, keep, tabulate, equal}
-use Rattle.laws.specs.Scans.{first_failing}
-use Rattle.laws.specs.Differences.{negative_part, sumℤ}
-use Rattle.nets.specs.Nets.{Log, Place, Weights, no_place, stopped, same, occurrences, weighed, beginnings, prefixes, add_row, counts, step_after, rows, allowed, passes, traffic, row_steps, continuations, allowed_steps, wrong_continuations, tokens, surplus, place_permits, shortfall, net_permits, permits_after, permits, first_refusing, shortfall_of, stopped_at, screen_after, screen, weighs_before, weighs_after, weights_hold}
+use Rattle.std.specs.Prelude.{◌≡◌, true, false, cond, ℕ, eqb, length}
+use mathlib.Core.List.{List, [], ◌∷◌, map}
+use Rattle.nets.specs.Nets.{Log, Place, Weights, no_place, stopped, step_after, rows, allowed, traffic, allowed_steps, wrong_continuations, permits, screen, weights_hold}
 
 -- the log of I: prefixes 0 1 and 1 0 have the same counts, so 3 is allowed after 0 1
 abbrev log_i : Log
@@ -56,20 +53,3 @@ pub record Computed : Type 0 where
   pub total_fails : weights_hold 2 log01 (step_after 2 (0 ∷ []) 0) (one_k [] 0 2) ≡ false
   -- 1 at the start: the step of 1 after 0 would do, but it has a 0 before it
   pub before_fails : weights_hold 2 log01 (step_after 2 [] 1) (one_k (0 ∷ []) 1 1) ≡ false
-
-pub computed : Computed
-unfolding all any keep tabulate equal first_failing negative_part sumℤ same occurrences weighed beginnings prefixes add_row counts rows allowed passes traffic row_steps continuations allowed_steps wrong_continuations tokens surplus place_permits shortfall net_permits permits_after permits first_refusing shortfall_of stopped_at screen_after screen weighs_before weighs_after weights_hold flat_map
-computed = record {
-  rows_i = refl;
-  allowed_i = refl;
-  wrong_i = refl;
-  after01 = refl;
-  traffic_i = refl;
-  traffic_empty = refl;
-  out_first = refl;
-  lacks = refl;
-  lacks_later = refl;
-  zero_fails = refl;
-  total_fails = refl;
-  before_fails = refl;
-}

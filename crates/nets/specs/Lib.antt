@@ -3,9 +3,7 @@ pub mod Cases
 pub mod Surplus
 pub mod Weights
 pub mod Words
-pub mod Rows
 pub mod Fits
-pub mod Certificates
 pub mod Screening
 pub mod Shortfall
 pub mod Joining
@@ -24,5 +22,4 @@ pub mod SeparationProblems
 pub mod RegionCertificates
 pub mod ParikhClosure
 pub mod Wide
-pub mod Traffic
 pub mod Pruning

@@ -1,13 +1,11 @@
 -- Laws for code that takes a log word by word: the prefixes, the rows and the allowed steps with one word more.
-use Rattle.std.specs.Prelude.{◌≡◌, ◌↔◌, ◌⊎◌, ℕ, ◌+◌, ◌≤◌, T, length}
-use Rattle.std.proofs.Common.{sym, ◌∙◌, subst, inl, inr, ⊎_elim, arith}
+use Rattle.std.specs.Prelude.{◌≡◌, ◌↔◌, ◌⊎◌, ℕ, ◌+◌, T, length}
+use Rattle.std.proofs.Common.{◌∙◌, subst, inl, inr, ⊎_elim, arith}
 use Rattle.std.proofs.Math.Path.{ap}
 use mathlib.Core.List.Memᴰ
 use mathlib.Core.List.{List, [], ◌∷◌, ◌++◌, map, flat_map, foldl, append-nil, foldl-append, Memᴰ}
 use Rattle.laws.specs.Lists.{flat_map-append, map-append}
-use Rattle.laws.specs.Distinct.{distinct-length_le}
 use Rattle.nets.specs.Nets.{Word, Log, Step, event_count, counts, beginnings, prefixes, add_row, rows, allowed}
-use Rattle.nets.specs.Rows.{row→, →row, rows-distinct}
 use Rattle.nets.specs.Words.{Prefix, prefix→, empty-prefix, word-begins, Begins, →beginning, beginning→, allowed→, →allowed}
 
 module _ (log : Log) (w : Word) where
@@ -60,7 +58,3 @@ event_count_snoc a w = omega (arith, event_count-append a (w ∷ []))
 -- a longer log has the rows of its beginning
 pub prefixes-longer : (log more : Log) (u : Word) → Prefix log u → Prefix (log ++ more) u
 prefixes-longer log more u m = ⊎_elim (λ e. Memᴰ.cast e (empty-prefix (log ++ more))) (λ r. word-begins (log ++ more) (Memᴰ.append_left more r.1) u r.2) (prefix→ log u m)
-
-pub rows-longer : (n : ℕ) (log more : Log) → length (rows n log) ≤ length (rows n (log ++ more))
-rows-longer n log more = distinct-length_le (rows n log) (rows n (log ++ more)) (rows-distinct n log)
-    (λ v m. let r = row→ n log m in Memᴰ.cast (sym r.2) (→row n (log ++ more) r.0 (prefixes-longer log more r.0 r.1)))

@@ -15,7 +15,8 @@ use Rattle.laws.specs.Lists.{any, any_witness, any_intro}
 use Rattle.laws.specs.Ranks.{keep_at, rank, keep_at-at, keep_at-from, keep_at-member, keep_at-most, keep_at-all, keep_at-map, keep_at-same, rank-all, rank_same}
 use Rattle.nets.specs.Nets.{Net, Certificate, by_place, by_weights, Bundle, accepted, tally}
 use Rattle.nets.specs.Pruning as theory
-use Rattle.nets.specs.Pruning.{prune, prune-accepted, prune-tally}
+use Rattle.nets.specs.Pruning.{prune}
+use Rattle.nets.proofs.Pruning.{prune-accepted, prune-tally}
 use Rattle.bundles.specs.Layout.{PlaceFields, CertificateFields, kind0, kind1, Head, Contents, to_place, to_net, to_term, to_weights, to_certificate, to_bundle, place_bytes, places_bytes, weight_bytes, certificate_bytes, head_bytes, bytes_of, PlaceInLimits, HeadInLimits, CertificateInLimits, InLimits, words_in, head_with, front_bytes}
 use Rattle.bundles.specs.LayoutLaws.{every_map}
 use Rattle.bundles.specs.PlaceReading.{place_size}

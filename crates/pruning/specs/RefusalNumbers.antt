@@ -4,7 +4,7 @@ use Rattle.laws.specs.Lists.{all, any, among}
 use Rattle.refusals.specs.Table.{output_short_number}
 use Rattle.refusals.specs.Results.{Refuses, refuses-value, refuses-then, refuses-wider}
 use Rattle.refusals.specs.Answers.{answer, number_of}
-use Rattle.refusals.specs.Laws.{written-numbers}
+use Rattle.refusals.proofs.Laws.{written-numbers}
 use Rattle.verdicts.specs.RefusalNumbers.{judge_numbers, judged-refuses}
 use Rattle.pruning.specs.Pruning.{pruning}
 

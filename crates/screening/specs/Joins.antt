@@ -1,24 +1,23 @@
 -- Screening with two bundles joined, by what screening with each of them says.
-use Rattle.std.specs.Prelude.{◌≡◌, true, false, cond, ◌↔◌, ℕ, ◌-◌, T, leb, eqb, length}
+use Rattle.std.specs.Prelude.{◌≡◌, true, false, cond, ◌↔◌, ℕ, T, leb, length}
 use Rattle.std.proofs.Math.Path.{refl, sym, ap}
 use Rattle.std.proofs.Common.{◌∙◌, subst}
 use Rattle.std.proofs.Math.Bool.{Bool}
 use mathlib.Core.List.{List, []}
-use borrow.Author.Tests.{eq-eqb, eqb-true}
+use borrow.Author.Tests.{eq-eqb}
 use Rattle.std.proofs.Math.Dec.{ltb}
 use Rattle.laws.specs.Booleans.{impossible}
 use Rattle.laws.specs.Lists.{all}
 use Rattle.limits.specs.Limits.{max_word_events}
-use Rattle.refusals.specs.Table.{word_length_number, word_event_number, event_counts_number}
-use Rattle.refusals.specs.Results.{Result, value, refused, bind, require, bind-value, passed}
+use Rattle.refusals.specs.Table.{word_length_number, word_event_number}
+use Rattle.refusals.specs.Results.{Result, value, refused, bind, require}
 use Rattle.refusals.specs.Answers.{refusal}
 use Rattle.refusals.specs.declared.Refusal.{Refusal}
-use Rattle.nets.specs.Nets as nets
-use Rattle.nets.specs.Nets.{Word, Net, join, permits, screen, permitted}
+use Rattle.nets.specs.Nets.{Word, Net, join, permits, screen}
 use Rattle.nets.specs.Events.{first_bad}
 use Rattle.bundles.specs.Layout.{Head, to_net}
 use Rattle.bundles.specs.Readers.{read_head, events_in, net_in}
-use Rattle.bundles.specs.HeadReading.{HeadIsRead, read-head-of, read_is}
+use Rattle.bundles.specs.HeadReading.{HeadIsRead, read_is}
 use Rattle.screening.specs.Screening.{word_on, screening, joining, replayed, screened_of, screened, screened_joined}
 use Rattle.screening.specs.Screens.{Readable, replayed-never, replay-permits}
 use Rattle.screening.specs.declared.Screened.{Screened}
@@ -110,26 +109,3 @@ permitted-alike w n one two same = (
   (λ e. let (passes, t) = (permitted-on w n one).0 e in (permitted-on w n two).1 (passes, subst T same t)),
   (λ e. let (passes, t) = (permitted-on w n two).0 e in (permitted-on w n one).1 (passes, subst T (sym same) t)),
 )
-
--- what a readable word has passed
-module _ (first second : List ℕ) (w : Word) where
-  joining→ : (x : nets.Answer) → joining first second w ≡ value x → HeadIsRead first × HeadIsRead second × (events_in first ≡ events_in second)
-  unfolding joining
-  joining→ x e =
-      let p = passed (leb (length w) max_word_events) word_length_number max_word_events _ x e in
-      let (one, is, rest) = bind-value (read_head first) _ x p.1 in
-      let (two, is', rest') = bind-value (read_head second) _ x rest in
-      let q = passed (eqb one.events two.events) event_counts_number 0 _ x rest' in
-      let events : (b : List ℕ) (h : Head) → read_head b ≡ value h → events_in b ≡ h.events = λ b h e. ap (λ (x : Head). x.events) (read-head-of b h e) in (
-        read_is first one is,
-        read_is second two is',
-        events first one is ∙ eqb-true one.events two.events q.0 ∙ sym (events second two is'),
-      )
-
-  pub joined→ : JoinReadable first second w → HeadIsRead first × HeadIsRead second × (events_in first ≡ events_in second)
-  unfolding screened_joined screened_of
-  joined→ readable = go (joining first second w) refl readable
-    where
-      go : (m : Result nets.Answer) → joining first second w ≡ m → ((r : Refusal) → screened_of m ≡ answers.Refused r → ⊥) → HeadIsRead first × HeadIsRead second × (events_in first ≡ events_in second)
-      go (value x) is rest = joining→ x is
-      go (refused number spot) is rest = absurd (rest (refusal number spot) refl)

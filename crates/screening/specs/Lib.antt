@@ -5,5 +5,4 @@ pub mod RefusalNumbers
 pub mod ScreenLaws
 pub mod Joins
 pub mod JoinLaws
-pub mod JoinCauses
 pub mod ScalingLaws

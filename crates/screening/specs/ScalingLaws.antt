@@ -4,14 +4,13 @@ use Rattle.std.proofs.Math.Path.{sym, ap}
 use Rattle.std.proofs.Common.{◌∙◌}
 use mathlib.Core.List.{List, ◌∷◌, ◌++◌, map, map-append}
 use Rattle.nets.specs.Nets.{Word, Net, permits}
-use Rattle.nets.specs.Scaling.{permits-scaled-place, permits-scaled}
+use Rattle.nets.proofs.Scaling.{permits-scaled-place, permits-scaled}
 use Rattle.bundles.specs.Layout.{PlaceFields, to_place, to_net}
 use Rattle.bundles.specs.Readers.{head_of, events_in, net_in}
 use Rattle.bundles.specs.HeadReading.{HeadIsRead}
 use Rattle.bundles.specs.Scaling.{scaled_fields, one-scaled, all-scaled}
-use Rattle.screening.specs.Screening.{screened, screened_joined}
+use Rattle.screening.specs.Screening.{screened}
 use Rattle.screening.specs.Joins.{answer_on, screened-on, permitted-alike}
-use Rattle.screening.specs.JoinLaws.{joined-permitted}
 use Rattle.screening.specs.declared.Screened.TheVariants as answers
 
 -- two bundles that are read, over the same events
@@ -59,11 +58,3 @@ module _ (k : ℕ) (some : 1 ≤ k) (b b' : List ℕ) where
   screened-scaled s w =
       alike b b' s.same w
       (sym (permits-scaled (events_in b) k some (net_in b) w) ∙ ap (λ (l : Net). permits (events_in b) l w) (sym (ap (map to_place) s.places ∙ all-scaled k (head_of b).places)))
-
--- joined with any other bundle
-pub joined-alike : (b b' other : List ℕ) → events_in b ≡ events_in b' → (w : Word) → (screened b w ≡ answers.Permitted) ↔ (screened b' w ≡ answers.Permitted)
-    → (screened_joined b other w ≡ answers.Permitted) ↔ (screened_joined b' other w ≡ answers.Permitted)
-joined-alike b b' other same w law = (
-  (λ e. let (one, two, events) = (joined-permitted b other w).0 e in (joined-permitted b' other w).1 (law.0 one, two, sym same ∙ events)),
-  (λ e. let (one, two, events) = (joined-permitted b' other w).0 e in (joined-permitted b other w).1 (law.1 one, two, same ∙ events)),
-)

@@ -1,5 +1,5 @@
 -- Demand 2 for screening: a readable word's first refused step is named, or the word is permitted where there is none.
-use Rattle.std.specs.Prelude.{◌≡◌, true, ◌↔◌, List, ◌++◌, ℕ, ◌≤◌, ◌<◌, T, leb, length}
+use Rattle.std.specs.Prelude.{◌≡◌, true, ◌↔◌, List, ℕ, ◌≤◌, T, leb, length}
 use Rattle.std.proofs.Math.Path.{refl}
 use Rattle.std.proofs.Common.{sym, ap, ◌∙◌, subst, le-leb, leb-true, ltb→lt, lt→ltb}
 use Rattle.std.proofs.Math.Dec.{ltb}
@@ -15,7 +15,8 @@ use Rattle.nets.specs.Nets as nets
 use Rattle.nets.specs.Nets.{Word, Net, permitted, stopped, permits, screen}
 use Rattle.nets.specs.Events.{first_bad}
 use Rattle.nets.specs.Fits.{Below}
-use Rattle.nets.specs.Screening.{FirstRefused, shortfall_at, screen-permitted, screen-stopped-exactly}
+use Rattle.nets.specs.Screening.{FirstRefused, shortfall_at, screen-permitted}
+use Rattle.nets.proofs.Screening.{screen-stopped-exactly}
 use Rattle.bundles.specs.Layout.{Head, to_net, HeadInFront}
 use Rattle.bundles.specs.Readers.{read_head, head_of, events_in, net_in}
 use Rattle.bundles.specs.Limits.{→size}

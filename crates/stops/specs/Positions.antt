@@ -11,7 +11,7 @@ use Rattle.std.proofs.Math.Seq.{get_or-append_seam}
 use Rattle.laws.specs.Lists.{all}
 use Rattle.laws.specs.Scans.{failing-append, failing-found, failing-behind, all-failing, some-failing}
 use Rattle.nets.specs.Nets.{Word, Net, Place, Step, no_place, permitted, stopped, step_after, step_at, place_permits, net_permits, first_refusing, shortfall, shortfall_of, stopped_at, screen_after, screen}
-use Rattle.nets.specs.Joining.{join_step}
+use Rattle.nets.proofs.Joining.{join_step}
 use Rattle.stops.specs.declared.Stop.{Stop}
 
 module _ (n : ℕ) where

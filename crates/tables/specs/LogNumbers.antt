@@ -19,7 +19,7 @@ use Rattle.limits.specs.Limits.{max_events, max_rows}
 use Rattle.nets.specs.Nets.{Word, Log, Counts, Step, counts, at, rows, allowed, traffic}
 use Rattle.nets.specs.Words.{Prefix, allowed→, →allowed}
 use Rattle.nets.specs.Fits.{LogBelow, prefix-below}
-use Rattle.nets.specs.Rows.{row→}
+use Rattle.nets.proofs.Rows.{row→}
 use Rattle.nets.specs.CountLaws.{length-counts}
 use Rattle.nets.specs.Wide.{wide}
 use Rattle.rows.specs.Rows.{row_size, max_traffic, Row, rows_of, with_rows, new_row, cleared}

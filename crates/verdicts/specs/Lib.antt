@@ -4,4 +4,3 @@ pub mod Acceptance
 pub mod RefusalNumbers
 pub mod Stopping
 pub mod Reached
-pub mod Causes

@@ -13,7 +13,7 @@ use Rattle.laws.specs.Lists.{all, all_map, all_below, all_below-same, all_below-
 use Rattle.laws.specs.Bits.{bit}
 use Rattle.limits.specs.Limits.{max_events}
 use Rattle.nets.specs.Nets.{Counts, Log, Step, Term, weight_of, at, same, rows, allowed, weighed, weighs_before, weighs_after, weights_hold}
-use Rattle.nets.specs.Rows.{row→}
+use Rattle.nets.proofs.Rows.{row→}
 use Rattle.nets.specs.CountLaws.{length-counts}
 use Rattle.nets.specs.Weights.{same_ne}
 use Rattle.nets.specs.Fits.{LogBelow}

@@ -4,7 +4,7 @@ use mathlib.Core.Bool.{true}
 use native.Mathlib.Omega.{arith}
 use lib.ListN.{length}
 use Rattle.refusals.specs.Results.{refused}
-use Rattle.refusals.specs.Laws.{ends-refused, ends-short, ends-written}
+use Rattle.refusals.proofs.Laws.{ends-refused, ends-short, ends-written}
 use Rattle.refusals.specs.declared.Refusal.{Refusal}
 use Rattle.block.specs.File.{block_count, first_fault, Sound, right_length}
 use Rattle.block.specs.OpenLaws.{right_length-whole, opened-length, opened-fault, opened-bundle, opened-sound}

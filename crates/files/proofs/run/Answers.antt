@@ -6,7 +6,7 @@ use native.Mathlib.Omega.{arith}
 use lib.ListN.{length, take}
 use lib.Seq.{length-take-le}
 use Rattle.refusals.specs.Answers.{answer, written}
-use Rattle.refusals.specs.Laws.{answer-within}
+use Rattle.refusals.proofs.Laws.{answer-within}
 use Rattle.refusals.specs.declared.Written.TheVariants as writing
 use Rattle.block.specs.File.{opened}
 use Rattle.verdicts.specs.Judging.{table_after}

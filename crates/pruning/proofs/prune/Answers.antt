@@ -6,7 +6,7 @@ use native.Mathlib.Omega.{arith}
 use lib.ListN.{length}
 use Rattle.refusals.specs.Results.{Result, value}
 use Rattle.refusals.specs.Answers.{answer, written}
-use Rattle.refusals.specs.Laws.{ends-refused}
+use Rattle.refusals.proofs.Laws.{ends-refused}
 use Rattle.bundles.specs.Layout.{bytes_of}
 use Rattle.contents.specs.Contents.{contents_of, IsBundle}
 use Rattle.pruning.specs.Pruning.{pruned, pruning}

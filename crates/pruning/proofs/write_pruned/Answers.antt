@@ -9,7 +9,7 @@ use Rattle.refusals.specs.Results.{value}
 use Rattle.refusals.specs.Table.{output_short_number}
 use Rattle.refusals.specs.Answers.{refusal}
 use Rattle.refusals.specs.declared.Written.TheVariants.{Length, Refused}
-use Rattle.refusals.specs.Laws.{ends-short, ends-written}
+use Rattle.refusals.proofs.Laws.{ends-short, ends-written}
 use Rattle.bundles.specs.Layout.{head_bytes, bytes_of}
 use Rattle.contents.specs.Contents.{contents_of, front-inside, count_at, head-length, head-inside}
 use Rattle.pruning.specs.Pruning.{pruned}

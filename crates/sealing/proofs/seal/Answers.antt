@@ -5,7 +5,7 @@ use Prim.Native.Nat.{◌≤◌}
 use native.Mathlib.Omega.{arith}
 use lib.ListN.{length}
 use Rattle.limits.specs.Limits.{max_bundle_size, right_size, right_size-bounds}
-use Rattle.refusals.specs.Laws.{ends-refused, ends-short, ends-written}
+use Rattle.refusals.proofs.Laws.{ends-refused, ends-short, ends-written}
 use Rattle.block.specs.File.{blocks_for, sealed_file}
 use Rattle.block.specs.SealLaws.{sealed-length, sealed-file, length-sealed_file}
 use Rattle.laws.specs.Clauses.{value-output_after}

@@ -5,7 +5,7 @@ use Prim.Native.Nat.{ℕ, ◌≤◌}
 use native.Mathlib.Omega.{arith}
 use lib.ListN.{length, take, length-take}
 use Rattle.refusals.specs.Answers.{answer}
-use Rattle.refusals.specs.Laws.{answer-within}
+use Rattle.refusals.proofs.Laws.{answer-within}
 use Rattle.refusals.specs.declared.Written.TheVariants as writing
 use Rattle.block.specs.File.{opened}
 use Rattle.verdicts.specs.Judging.{verdict, table_after}

@@ -16,7 +16,7 @@ use Rattle.laws.specs.Lists.{any_witness, any_intro, keep, keep-member, keep_int
 use Rattle.laws.specs.Keeping.{keep-first, keep-most, keep_all, keep-last, keep_same}
 use Rattle.nets.specs.Nets.{Word, Log, Counts, at, occurrences, beginnings, counts, rows, event_count, empty_words, passes, traffic}
 use Rattle.nets.specs.Words.{Begins, →beginning, beginning→, begins_snoc, word-begins, prefix→}
-use Rattle.nets.specs.Rows.{row→, →row}
+use Rattle.nets.proofs.Rows.{row→, →row}
 use Rattle.nets.specs.Fits.{Below, LogBelow, below-shorter}
 use Rattle.nets.specs.CountLaws.{at-counts, occurrences-append, occurrences_snoc, counts-wide}
 use Rattle.nets.specs.Weights.{same_refl}

@@ -22,14 +22,16 @@ use Rattle.refusals.specs.declared.Refusal.{Refusal}
 use Rattle.logs.specs.Answers.{table_size}
 use Rattle.bundles.specs.Reading.{Read, got, item, ◌>>◌, require}
 use Rattle.bundles.specs.Layout.{CertificateFields, kind0, kind1, Head, Contents, wrong_in, fits_in, to_net, head_bytes, bytes_of}
-use Rattle.bundles.specs.Readers.{head, bundle_size}
+use Rattle.bundles.specs.Readers.{bundle_size}
 use Rattle.bundles.specs.ReadingLaws.{part-front}
 use Rattle.bundles.specs.Causes.{require-chain}
 use Rattle.verdicts.specs.Judging.{unsolved, contents, judging, judged, verdict_of, verdict}
-use Rattle.verdicts.specs.Acceptance.{law-contents}
+use Rattle.verdicts.proofs.Acceptance.{law-contents}
 use Rattle.verdicts.specs.RefusalNumbers.{judging-refuses}
-use Rattle.verdicts.specs.Reached.{HeadThere, JudgedTo, Misread, NotSolved, acceptable-judged, judged-acceptable, not-unsolved, head-there, there-head, in_certificate, not-head, not-misread}
-use Rattle.verdicts.specs.Stopping.{InHead, judging-refused, head_numbers}
+use Rattle.verdicts.specs.Reached.{HeadThere, JudgedTo, Misread, NotSolved}
+use Rattle.verdicts.proofs.Reached.{acceptable-judged, judged-acceptable, not-unsolved, head-there, there-head, in_certificate, not-head, not-misread}
+use Rattle.verdicts.specs.Stopping.{InHead, head_numbers}
+use Rattle.verdicts.proofs.Stopping.{judging-refused}
 use Rattle.verdicts.specs.declared.Verdict.TheVariants as verdicts
 
 -- ---- Each number, in bundle order

@@ -1,0 +1,20 @@
+-- Theorems of `nets` that fall where a definition of specs/ is wrong, and what rests on them.
+pub mod Rows
+pub mod Certificates
+pub mod Traffic
+pub mod Comparison
+pub mod Joining
+pub mod Order
+pub mod Pruning
+pub mod RegionCertificates
+pub mod Scaling
+pub mod SeparationProblems
+pub mod Shortfall
+pub mod Tallies
+pub mod Cases
+pub mod Fits
+pub mod LogLaws
+pub mod ParikhClosure
+pub mod Regions
+pub mod Screening
+pub mod TokenGame

@@ -1,0 +1,2 @@
+-- Theorems of `sums` that fall where a definition of specs/ is wrong, and what rests on them.
+pub mod Detection
