@@ -1,7 +1,7 @@
 -- At which offset a head ends that is refused with 6: its fields have one byte up to the place count, and two behind it.
 use Rattle.std.proofs.Math.Path.{◌≡◌, refl, sym, subst}
 use Rattle.std.proofs.Common.{ap, ◌∙◌}
-use Rattle.std.specs.Prelude.{Bool, true, false, ◌⊎◌, ℕ, ◌+◌, ◌*◌, ◌-◌, ◌≤◌, T, ltb, length, get_or}
+use Rattle.std.specs.Prelude.{Bool, true, false, ℕ, ◌+◌, ◌*◌, ◌≤◌, T, ltb, length, get_or}
 use Rattle.std.proofs.Math.Logic.{⊎_elim}
 use mathlib.Core.List.{List, [], ◌∷◌, ◌++◌, flat_map}
 use native.Mathlib.Omega.{arith}

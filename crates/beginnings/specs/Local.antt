@@ -10,7 +10,7 @@ use Rattle.laws.specs.Booleans.{impossible, lt_or_le}
 use Rattle.laws.specs.Numbers.{number_at}
 use Rattle.refusals.specs.Table.{bundle_end_number}
 use Rattle.refusals.specs.Results.{refused, bind}
-use Rattle.bundles.specs.Reading.{got, Reader, onward, ◌>>=◌, ◌>>◌, give, offset, require, field, byte, number, each, times}
+use Rattle.bundles.specs.Reading.{got, Reader, onward, ◌>>=◌, give, offset, require, field, byte, number, each, times}
 use Rattle.bundles.specs.Readers.{anything}
 use Rattle.bundles.specs.ReadingLaws.{and_then-got, field-got, field-there}
 use Rattle.bundles.specs.Causes.{and_then-refused, field-refused}

@@ -1,5 +1,5 @@
 -- A head that is refused with 8 or 9: the word that is due passes 1,024 events, or the rows of the log do not fit with it.
-use Rattle.std.specs.Prelude.{◌≡◌, Bool, false, ◌&&◌, ◌↔◌, ◌⊎◌, T}
+use Rattle.std.specs.Prelude.{◌≡◌, Bool, false, ◌&&◌, ◌↔◌, T}
 use Rattle.std.proofs.Math.Path.{refl, sym, ap, subst}
 use Rattle.std.proofs.Common.{◌∙◌, add-zero, le→leb, length-drop, drop-cons, drop-drop, get_or-drop}
 use Rattle.std.proofs.lemmas.Bool.{false≢true}

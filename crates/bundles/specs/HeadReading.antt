@@ -1,5 +1,5 @@
 -- A bundle up to its last place: its head as the code reads it, and the answer of a call that reads it and does not judge.
-use Rattle.std.specs.Prelude.{◌≡◌, Bool, cond, List, [], ◌∷◌, ◌++◌, ℕ, ◌+◌, ◌-◌, ◌*◌, ◌≤◌, length, drop}
+use Rattle.std.specs.Prelude.{◌≡◌, Bool, cond, List, [], ◌∷◌, ℕ, ◌+◌, ◌-◌, ◌*◌, ◌≤◌, length, drop}
 use Rattle.std.proofs.Math.Path.{refl, ap, ap₂}
 use Rattle.std.proofs.Common.{sym, ◌∙◌, subst, arith}
 use Rattle.std.proofs.Math.Bool.{true, false}
@@ -15,7 +15,7 @@ use Rattle.refusals.specs.Results as results
 use Rattle.refusals.specs.Exactly.{Exactly, exactly-here, exactly-later}
 use Rattle.refusals.specs.declared.Refusal.{Refusal}
 use Rattle.nets.specs.Nets.{Log}
-use Rattle.bundles.specs.Reading.{Read, got, item, ◌>>=◌, ◌>>◌, and_then, give, require, byte, following, onward, item_in}
+use Rattle.bundles.specs.Reading.{Read, got, item, ◌>>=◌, and_then, give, require, byte, following, onward, item_in}
 use Rattle.bundles.specs.Layout.{head_bytes, HeadInFront, PlaceFields, Head, to_place, to_net}
 use Rattle.bundles.specs.Readers.{first_byte, anything, word, places, head_after, head, any_rows, bundle_size, bundle_head, head_in, head_of, net_in, read_head, events_in}
 use Rattle.bundles.specs.FieldReading.{between, between_true, byte-got}

@@ -1,6 +1,6 @@
 -- What a bundle holds, field by field; what it stands for in the definitions of nets; and its bytes.
 use mathlib.Core.List.{List, [], ◌∷◌, ◌++◌, map, flat_map}
-use Rattle.std.specs.Prelude.{◌≡◌, Bool, ℕ, ◌+◌, ◌≤◌, ◌<◌, length, get_or}
+use Rattle.std.specs.Prelude.{◌≡◌, Bool, ℕ, ◌≤◌, ◌<◌, length, get_or}
 use Rattle.laws.specs.Every.{Every}
 use Rattle.laws.specs.Numbers.{le16}
 use Rattle.limits.specs.Limits.{max_bundle_size, max_events, max_log_events, max_rows, max_places, max_terms}

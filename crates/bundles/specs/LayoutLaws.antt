@@ -12,7 +12,7 @@ use Rattle.laws.specs.Booleans.{impossible}
 use Rattle.laws.specs.Every.{Every, every_member, every_intro}
 use Rattle.laws.specs.Numbers.{le16, Bytes}
 use Rattle.limits.specs.Limits.{max_events, max_log_events, max_rows, max_places, max_terms}
-use Rattle.nets.specs.Nets.{Word, Log, rows, event_count}
+use Rattle.nets.specs.Nets.{Word, Log, event_count}
 use Rattle.bundles.specs.Reading.{byte, number}
 use Rattle.bundles.specs.Layout.{PlaceFields, TermFields, CertificateFields, kind0, kind1, Head, TwoBytes, WordInLimits, PlaceInLimits, TermInLimits, CertificateInLimits, word_bytes, place_bytes, places_bytes, term_bytes, certificate_bytes, front_bytes, head_bytes, WeightFields, weight_bytes, rows_in}
 use Rattle.bundles.specs.Readers.{anything, word_after, word, place, places, head_after, head, term, weights, of_kind, certificate}

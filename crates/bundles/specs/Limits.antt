@@ -1,5 +1,5 @@
 -- The limits of a bundle up to its last place: what holds after each word holds of the whole log, and the other way.
-use Rattle.std.specs.Prelude.{◌≡◌, Bool, true, ℕ, ◌≤◌, ◌<◌, T, length, drop}
+use Rattle.std.specs.Prelude.{◌≡◌, Bool, true, ℕ, ◌≤◌, T, length, drop}
 use Rattle.std.proofs.Common.{ap, arith}
 use mathlib.Core.List.{List, [], ◌∷◌, ◌++◌, append_assoc, append-nil}
 use Rattle.laws.specs.Every.{Every, every_member}

@@ -1,5 +1,5 @@
 -- Reading undoes writing: the law of a reader, for each kind of field, for sequences and for lists.
-use Rattle.std.specs.Prelude.{◌≡◌, Bool, ℕ, zero, suc, ◌+◌, ◌*◌, ◌-◌, ◌/◌, ◌%◌, ◌≤◌, ◌<◌, drop, replicate}
+use Rattle.std.specs.Prelude.{◌≡◌, Bool, ℕ, zero, suc, ◌+◌, ◌*◌, ◌/◌, ◌%◌, ◌≤◌, ◌<◌, drop, replicate}
 use Rattle.std.proofs.Math.Path.{refl, sym, ap, ap₂, subst}
 use Rattle.std.proofs.Common.{◌∙◌, add-zero, add-one, arith, le-leb, leb→le, length-append, length-drop, drop-cons, drop-drop, get_or-drop}
 use Rattle.std.proofs.Math.Bool.{true, false, cond}

@@ -13,7 +13,7 @@ use Rattle.limits.specs.Limits.{max_events}
 use Rattle.refusals.specs.Answers.{refusal}
 use Rattle.refusals.specs.Results.{value, refused, bind}
 use Rattle.refusals.specs.declared.Refusal.{Refusal}
-use Rattle.nets.specs.Nets.{Step, Certificate, rows, allowed, continuations, allowed_steps, wrong_continuations, is_by_place, tally}
+use Rattle.nets.specs.Nets.{Step, Certificate, continuations, allowed_steps, wrong_continuations, is_by_place, tally}
 use Rattle.bundles.specs.Reading.{Read, got, item, Reader, each, onward}
 use Rattle.bundles.specs.Layout.{WeightFields, CertificateFields, kind0, kind1, Head, rows_in, allowed_in, wrong_in, to_certificate, to_bundle, continuations_in, allowed_steps_in}
 use Rattle.bundles.specs.Readers.{head_of}

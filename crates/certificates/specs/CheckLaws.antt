@@ -15,13 +15,13 @@ use Rattle.limits.specs.Limits.{max_events}
 use Rattle.refusals.specs.Table.{place_permits_number, weights_number}
 use Rattle.refusals.specs.Answers.{refusal}
 use Rattle.refusals.specs.Results.{value, refused, bind}
-use Rattle.nets.specs.Nets.{Place, Step, Counts, rows, surplus, place_permits, refused_by, solves}
+use Rattle.nets.specs.Nets.{Place, Step, Counts, surplus, place_permits, refused_by, solves}
 use Rattle.nets.specs.Surplus.{tokens-row}
 use Rattle.nets.specs.Wide.{wide}
 use Rattle.rows.specs.Rows.{row_size, Row, row_at, rows_of, new_row, none}
 use Rattle.rows.specs.Flat.{rows_at}
 use Rattle.logs.specs.Log.{log_rows}
-use Rattle.bundles.specs.Reading.{Read, got, item, and_then, give, require, byte, number, onward}
+use Rattle.bundles.specs.Reading.{Read, got, item, and_then, give, require, byte, onward}
 use Rattle.bundles.specs.Layout.{PlaceFields, CertificateFields, kind0, kind1, Head, CertificateInLimits, to_place, to_net, to_certificate, WeightFields, WeightsInLimits, rows_in, allowed_in, solves_in, words_in, weights_hold_in}
 use Rattle.bundles.specs.LayoutLaws.{law-certificate}
 use Rattle.bundles.specs.Readers.{weights, of_kind, certificate, head_of}

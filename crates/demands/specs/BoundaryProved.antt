@@ -4,7 +4,7 @@ use Rattle.std.proofs.Common.{sym, ap, subst, arith}
 use Rattle.laws.specs.Booleans.{impossible}
 use Rattle.laws.specs.Lists.{any, among, not-among}
 use Rattle.refusals.specs.Results.{Result, value, refused, Refuses}
-use Rattle.refusals.specs.Answers.{refusal, fitted, answer, number_of, value_of}
+use Rattle.refusals.specs.Answers.{refusal, answer, number_of, value_of}
 use Rattle.refusals.proofs.Laws.{refuses-fitted, answer-refused}
 use Rattle.refusals.specs.declared.Refusal.{Refusal}
 use Rattle.refusals.specs.declared.Written.{Written}
@@ -19,7 +19,7 @@ use Rattle.logs.specs.declared.Taken.{Taken}
 use Rattle.logs.specs.declared.Taken.TheVariants as taking
 use Rattle.bundles.specs.Layout.{Contents}
 use Rattle.bundles.specs.Reading.{Read, item}
-use Rattle.verdicts.specs.Judging.{judged, verdict_of, verdict, verdict_number}
+use Rattle.verdicts.specs.Judging.{verdict_of, verdict, verdict_number}
 use Rattle.verdicts.specs.RefusalNumbers.{judged-refuses}
 use Rattle.verdicts.specs.declared.Tally.{Tally}
 use Rattle.verdicts.specs.declared.Verdict.{Verdict}

@@ -10,7 +10,7 @@ use Rattle.laws.specs.Sums.{weighted}
 use Rattle.laws.specs.Bits.{with_bit}
 use Rattle.limits.specs.Limits.{right_size}
 use Rattle.refusals.specs.Results.{Result, value, refused, bind, require}
-use Rattle.refusals.specs.Answers.{refusal, fitted, answer_of, answer, number_of, value_of}
+use Rattle.refusals.specs.Answers.{fitted, answer_of, answer, number_of, value_of}
 use Rattle.refusals.specs.declared.Written.{Written}
 use Rattle.nets.specs.Nets.{Word}
 use Rattle.nets.specs.Events.{first_bad}

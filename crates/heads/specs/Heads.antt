@@ -5,7 +5,6 @@ use Rattle.laws.specs.Booleans.{impossible}
 use Rattle.limits.specs.Limits.{max_rows}
 use Rattle.refusals.specs.Results.{value, refused, bind}
 use Rattle.refusals.specs.declared.Refusal.{Refusal}
-use Rattle.nets.specs.Nets.{rows}
 use Rattle.rows.specs.Rows.{row_size, rows_of, Holds}
 use Rattle.logs.specs.Answers.{table_size}
 use Rattle.logs.specs.Log.{log_rows}

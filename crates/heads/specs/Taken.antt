@@ -25,7 +25,7 @@ use Rattle.logs.specs.LogRows.{take-word, first-row}
 use Rattle.logs.specs.LogTable.{length-log_rows}
 use Rattle.rows.specs.Growth.{length-take}
 use Rattle.rows.specs.Flat.{length-rows}
-use Rattle.bundles.specs.Reading.{got, ◌>>◌, following, onward}
+use Rattle.bundles.specs.Reading.{got, following, onward}
 use Rattle.bundles.specs.Readers.{word_after, word, rows_in_limit}
 use Rattle.bundles.specs.FieldReading.{below}
 use Rattle.bundles.specs.WordReading.{map_read, map_read-got, map_read-failed, rest, rest_all, rest-none, rest_more, rest-failed, part_before, word_got, word-tested}

@@ -1,5 +1,5 @@
 -- What taking a word does to the traffic of any rows: one more in each row that it uses, an appended row starting from 0.
-use Rattle.std.specs.Prelude.{◌≡◌, Bool, true, false, not, ◌⊎◌, ℕ, zero, suc, ◌+◌, ◌<◌, ◌≤◌, get_or}
+use Rattle.std.specs.Prelude.{◌≡◌, Bool, true, false, not, ◌⊎◌, ℕ, zero, suc, ◌<◌, ◌≤◌, get_or}
 use Rattle.std.proofs.Math.Path.{refl, subst}
 use Rattle.std.proofs.Common.{sym, ap, ◌∙◌, true≢false, inl, inr, not-suc-le-zero, le_of_suc-le-suc, arith, lt-ltb}
 use Rattle.std.proofs.Math.Logic.{⊎_elim}

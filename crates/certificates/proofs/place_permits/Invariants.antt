@@ -1,7 +1,7 @@
 -- `certificates::place_permits` meets its contract. The loop's invariant: `tokens` is what the place holds after the events below `i`.
 use mathlib.Core.Path.{◌≡◌}
 use Prim.Native.Nat.{◌-◌, ◌≤◌}
-use Rattle.nets.specs.Nets.{at, tokens}
+use Rattle.nets.specs.Nets.{tokens}
 use Rattle.bundles.specs.PlaceReading.{place_on}
 use Rattle.certificates.proofs.place_permits.Given as goal
 

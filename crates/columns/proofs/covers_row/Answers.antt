@@ -38,13 +38,15 @@ loop-j-preserved c =
     let args = c.args in
     let here = c.surplus-all.result in
     let bits = of_z w64 here in
-    let is = c.surplus-all.ensures ∙ ap (λ (t : ℤ). t -ℤ pos (get_or args.matrix.now (args.at + l.j) 0)) (back (goal.at.loop-j-preserved c).After-surplus-arg-1) in
-    (omega arith, λ i b t.
-        let clear : bit_or l.all-bits bits < 2 ^ 63 = sign_clear (bit_or l.all-bits bits) (yes_true (non_neg (to_z w64 (bit_or l.all-bits bits))) t) in
-        let before : l.all-bits < 2 ^ 63 = omega (arith, or_left l.all-bits bits) in
-        each_next (λ k. T (non_neg (get_or args.tokens.now k (pos 0) -ℤ pos (get_or args.matrix.now (args.at + k) 0)))) l.j
-        (λ k h. l.invariant.1 k h (rw (to_z_pos w64 before) tt))
-        (subst (λ (z : ℤ). T (non_neg z)) is (clear_sign here (record { sfits = c.surplus-all.type_inv }) (omega (arith, or_right l.all-bits bits)))) i b)
+    let is = c.surplus-all.ensures ∙ ap (λ (t : ℤ). t -ℤ pos (get_or args.matrix.now (args.at + l.j) 0)) (back (goal.at.loop-j-preserved c).After-surplus-arg-1) in (
+      omega arith,
+      λ i b t.
+          let clear : bit_or l.all-bits bits < 2 ^ 63 = sign_clear (bit_or l.all-bits bits) (yes_true (non_neg (to_z w64 (bit_or l.all-bits bits))) t) in
+          let before : l.all-bits < 2 ^ 63 = omega (arith, or_left l.all-bits bits) in
+          each_next (λ k. T (non_neg (get_or args.tokens.now k (pos 0) -ℤ pos (get_or args.matrix.now (args.at + k) 0)))) l.j
+          (λ k h. l.invariant.1 k h (rw (to_z_pos w64 before) tt))
+          (subst (λ (z : ℤ). T (non_neg z)) is (clear_sign here (record { sfits = c.surplus-all.type_inv }) (omega (arith, or_right l.all-bits bits)))) i b,
+    )
 
 pub returns : goal.returns
 returns c held j b =

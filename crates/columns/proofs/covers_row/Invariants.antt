@@ -1,5 +1,5 @@
 -- `columns::covers_row` meets its contract. The invariant: where `all` is 0 or more, the surplus of each column below j is 0 or more.
-use Prim.Native.Nat.{ℕ, ◌+◌, ◌-◌, ◌^◌, ◌≤◌, ◌<◌}
+use Prim.Native.Nat.{ℕ, ◌+◌, ◌-◌, ◌≤◌, ◌<◌}
 use lib.Dec.{T}
 use lib.IntN.{pos, ◌-ℤ◌}
 use lib.ListN.{get_or}

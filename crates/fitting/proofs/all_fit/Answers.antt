@@ -1,6 +1,5 @@
 -- `fitting::all_fit` meets its contract.
 use native.Mathlib.Omega.{arith}
-use borrow.Author.Rules.{rules}
 use Rattle.fitting.specs.FittingLaws.{all_fit}
 use Rattle.fitting.proofs.all_fit.Goals as goal
 

@@ -4,7 +4,7 @@ use native.Mathlib.Nat.{zero-add}
 use native.Mathlib.Omega.{arith}
 use lib.ListN.{length}
 use Rattle.laws.specs.Scans.{failing-here, failing-again, failing-end}
-use Rattle.nets.specs.Nets.{no_place, fits}
+use Rattle.nets.specs.Nets.{no_place}
 use Rattle.bundles.specs.HeadReading.{net-size}
 use Rattle.bundles.specs.Readers.{net_in}
 use Rattle.bundles.specs.NextPlace.{place_in, next_start, next-is, next-inside, next-again}

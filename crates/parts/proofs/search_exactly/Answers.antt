@@ -1,5 +1,4 @@
 use mathlib.Core.Path.{◌≡◌, sym, ap, ◌∙◌, subst}
-use mathlib.Core.Logic.{⊎_elim}
 use Prim.Native.Nat.{ℕ, ◌+◌, ◌*◌, ◌-◌, ◌≤◌}
 use native.Mathlib.Omega.{arith}
 use lib.IntN.{ℤ, pos}
@@ -87,8 +86,8 @@ loop-j-preserved c =
       next-again loop.invariant.0 turn.loop-j-test.true,
       elim c.if-done-found.branch [ then-done-found x ↦ omega arith | else-done-found x ↦ omega (arith, loop.invariant.1) ],
       elim c.if-done-found.branch [
-        then-done-found x ↦ rw (x.best-is, x.lowest-is, x.missing-is, found (goal.at.loop-j-preserved c).After-stop_of_place_from-found) (exact-earlier args.n w below args.bundle.now args.at loop.j loop.invariant.2 r loop.invariant.1 (omega (arith, position, x.if-done-found.true))) |
-        else-done-found x ↦ rw (x.best-is, x.lowest-is, x.missing-is) (exact-stays args.n w below args.bundle.now args.at loop.j loop.invariant.2 r loop.invariant.1 (omega (arith, position, x.if-done-found.false)))
+        | then-done-found x ↦ rw (x.best-is, x.lowest-is, x.missing-is, found (goal.at.loop-j-preserved c).After-stop_of_place_from-found) (exact-earlier args.n w below args.bundle.now args.at loop.j loop.invariant.2 r loop.invariant.1 (omega (arith, position, x.if-done-found.true)))
+        | else-done-found x ↦ rw (x.best-is, x.lowest-is, x.missing-is) (exact-stays args.n w below args.bundle.now args.at loop.j loop.invariant.2 r loop.invariant.1 (omega (arith, position, x.if-done-found.false)))
       ],
     )
 

@@ -1,5 +1,4 @@
 use mathlib.Core.Path.{◌≡◌}
-use mathlib.Core.Logic.{⊎_elim}
 use Prim.Native.Nat.{◌+◌, ◌*◌, ◌-◌, min, ◌≤◌, ◌<◌}
 use native.Mathlib.Nat.{mul-le-mul_right}
 use native.Mathlib.Omega.{arith}
@@ -70,8 +69,8 @@ loop-j-preserved c =
       (i + 1, omega (arith, is)),
       rw eight
           (elim c.if-found-best.branch [
-            then-found-best x ↦ rw (x.best-is, x.lowest-is, x.missing-is) (next-earlier _ _ _ _ _ _ _ start.requires loop.invariant.1 turn.loop-j-test.true (room (goal.at.loop-j-preserved c).In-loop-j) (search rules) found left x.if-found-best.true (best_late (next-marked _ _ _ _ _ _ _ start.requires loop.invariant.1 turn.loop-j-test.true (room (goal.at.loop-j-preserved c).In-loop-j)).places found)) |
-            else-found-best x ↦ rw (x.best-is, x.lowest-is, x.missing-is) (next-stays _ _ _ _ _ _ _ start.requires loop.invariant.1 turn.loop-j-test.true (room (goal.at.loop-j-preserved c).In-loop-j) (search rules) found left x.if-found-best.false)
+            | then-found-best x ↦ rw (x.best-is, x.lowest-is, x.missing-is) (next-earlier _ _ _ _ _ _ _ start.requires loop.invariant.1 turn.loop-j-test.true (room (goal.at.loop-j-preserved c).In-loop-j) (search rules) found left x.if-found-best.true (best_late (next-marked _ _ _ _ _ _ _ start.requires loop.invariant.1 turn.loop-j-test.true (room (goal.at.loop-j-preserved c).In-loop-j)).places found))
+            | else-found-best x ↦ rw (x.best-is, x.lowest-is, x.missing-is) (next-stays _ _ _ _ _ _ _ start.requires loop.invariant.1 turn.loop-j-test.true (room (goal.at.loop-j-preserved c).In-loop-j) (search rules) found left x.if-found-best.false)
           ]),
     )
 

@@ -1,5 +1,5 @@
-use mathlib.Core.Path.{◌≡◌, sym, ap, ap₂, ◌∙◌, subst}
-use Prim.Native.Nat.{ℕ, ◌+◌}
+use mathlib.Core.Path.{◌≡◌, sym, ap₂, ◌∙◌}
+use Prim.Native.Nat.{◌+◌}
 use native.Mathlib.Omega.{arith}
 use borrow.Author.Rules.{rules}
 use lib.IntN.{◌+ℤ◌}
@@ -7,10 +7,9 @@ use lib.ListN.{get_or}
 use mir.Syntax.{w16, w64}
 use mir.Val.{Fits, SFits, to_z, of_z}
 use mir.Facts.{to_z_pos, to_z-of_z}
-use Rattle.limits.specs.Limits.{max_events}
 use Rattle.nets.specs.Nets.{tokens}
 use Rattle.nets.specs.Surplus.{tokens-first, tokens-next}
-use Rattle.places.specs.Machine.{place_of, Held}
+use Rattle.places.specs.Machine.{place_of}
 use Rattle.places.proofs.Bounds.{Small, tokens-held, tokens-fits}
 use Rattle.places.proofs.tokens.Goals as goal
 use Rattle.places.proofs.tokens.Goals.{After-gain-total, At-loop-i}

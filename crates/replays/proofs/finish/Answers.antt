@@ -1,7 +1,6 @@
 use mathlib.Core.Path.{◌≡◌, sym, ap, ap₂, ◌∙◌}
 use Prim.Native.Nat.{ℕ, ◌+◌, ◌^◌, ◌<◌}
 use native.Mathlib.Omega.{arith}
-use borrow.Author.Rules.{rules}
 use lib.Bits.{bit_or}
 use lib.Dec.{T, eqb}
 use lib.IntN.{ℤ, pos, ◌+ℤ◌}
@@ -39,13 +38,16 @@ loop-j-preserved c =
     let here = (goal.at.loop-j-preserved c).After-tokens-in-loop-j-1 in
     let fits : SFits w64 (get_or all l.j (pos 0)) = record { sfits = c.any-1.given } in
     let step = stepped c.args.changes.now c.args.surplus.now c.args.at l.j in
-    let next : to_z w64 (of_z w64 step) ≡ step = to_z-of_z {w = w64} (c.requires.0.fits l.j (omega arith)) in
-    (omega arith, written_next _ (omega (arith, c.requires.1)) l.invariant.1 (rw (summed here) next), λ i b t.
-        let clear : bit_or l.any-bits bits < 2 ^ 63 = sign_clear (bit_or l.any-bits bits) (yes_true (non_neg (to_z w64 (bit_or l.any-bits bits))) t) in
-        let before : l.any-bits < 2 ^ 63 = omega (arith, or_left l.any-bits bits) in
-        each_next (λ k. T (non_neg (get_or all k (pos 0)))) l.j
-        (λ k h. l.invariant.2 k h (rw (to_z_pos w64 before) tt))
-        (clear_sign (get_or all l.j (pos 0)) fits (omega (arith, or_right l.any-bits bits))) i b)
+    let next : to_z w64 (of_z w64 step) ≡ step = to_z-of_z {w = w64} (c.requires.0.fits l.j (omega arith)) in (
+      omega arith,
+      written_next _ (omega (arith, c.requires.1)) l.invariant.1 (rw (summed here) next),
+      λ i b t.
+          let clear : bit_or l.any-bits bits < 2 ^ 63 = sign_clear (bit_or l.any-bits bits) (yes_true (non_neg (to_z w64 (bit_or l.any-bits bits))) t) in
+          let before : l.any-bits < 2 ^ 63 = omega (arith, or_left l.any-bits bits) in
+          each_next (λ k. T (non_neg (get_or all k (pos 0)))) l.j
+          (λ k h. l.invariant.2 k h (rw (to_z_pos w64 before) tt))
+          (clear_sign (get_or all l.j (pos 0)) fits (omega (arith, or_right l.any-bits bits))) i b,
+    )
 
 pub returns-clause-t : goal.returns-clause-t
 returns-clause-t c held j b =

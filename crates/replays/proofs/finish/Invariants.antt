@@ -1,7 +1,7 @@
 -- `replays::finish` meets its contract. The invariant: the tokens below j are written; and where the sign of `any` is clear, so is that of each
 -- number below j of `all`.
 use mathlib.Core.Path.{◌≡◌}
-use Prim.Native.Nat.{ℕ, ◌-◌, ◌^◌, ◌≤◌, ◌<◌}
+use Prim.Native.Nat.{ℕ, ◌-◌, ◌≤◌, ◌<◌}
 use lib.Dec.{T}
 use lib.IntN.{pos}
 use lib.ListN.{get_or}

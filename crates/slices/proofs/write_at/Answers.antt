@@ -1,5 +1,5 @@
 -- `slices::write_at` meets its contract.
-use Rattle.std.proofs.Common.{◌≡◌, ◌+◌, ◌-◌, ◌++◌, List, ℕ, length, take, drop, ◌∙◌, arith, append_assoc, ap}
+use Rattle.std.proofs.Common.{◌≡◌, ◌++◌, List, ℕ, length, take, drop, arith, append_assoc}
 use Rattle.std.proofs.Math.Seq.{drop-drop}
 use Rattle.laws.specs.Parts.{spliced}
 use Rattle.slices.proofs.write_at.Goals as goal

@@ -1,5 +1,4 @@
 use mathlib.Core.Path.{◌≡◌, sym, ap, ap₂, ◌∙◌, subst}
-use mathlib.Core.Logic.{⊎_elim}
 use Prim.Native.Nat.{ℕ, ◌+◌, ◌*◌, ◌/◌, ◌≤◌}
 use native.Mathlib.Nat.{zero-mul}
 use native.Mathlib.Omega.{arith}
@@ -74,8 +73,8 @@ loop-k-preserved c =
           let so_far = loop.invariant.3 net size best in
           rw (← two-more)
           (elim c.if-found-best.branch [
-            then-found-best w ↦ rw (w.best-is, w.lowest-is, w.missing-is, first-of, ← size) (pair_earlier n word events net b first (2 * loop.k) so_far (omega (arith, position, w.if-found-best.true))) |
-            else-found-best w ↦ rw (w.best-is, w.lowest-is, w.missing-is) (pair_stays n word events net b first (2 * loop.k) so_far (omega (arith, position, w.if-found-best.false)))
+            | then-found-best w ↦ rw (w.best-is, w.lowest-is, w.missing-is, first-of, ← size) (pair_earlier n word events net b first (2 * loop.k) so_far (omega (arith, position, w.if-found-best.true)))
+            | else-found-best w ↦ rw (w.best-is, w.lowest-is, w.missing-is) (pair_stays n word events net b first (2 * loop.k) so_far (omega (arith, position, w.if-found-best.false)))
           ]),
     )
 

@@ -5,7 +5,6 @@ use native.Mathlib.Omega.{arith}
 use borrow.Author.Rules.{rules}
 use Rattle.laws.specs.Lists.{all_below-none, all_below-next}
 use Rattle.limits.specs.Limits.{max_events}
-use Rattle.nets.specs.Nets.{same}
 use Rattle.weights.specs.Totals.{max_number, sums_hold}
 use Rattle.weights.proofs.sums_hold.Goals as goal
 

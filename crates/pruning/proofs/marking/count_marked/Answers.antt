@@ -18,8 +18,8 @@ loop-j-preserved c =
     let next = ap (rank (marked marks)) (add-one loop.j) ∙ rank-next (marked marks) loop.j in (
       omega arith,
       elim c.if-marks-j-ne0.branch [
-        then-marks-j-ne0 w ↦ w.kept-is ∙ rw (next, mark_is marks loop.j, ne_eqb _ 0 w.if-marks-j-ne0.true) (omega (arith, loop.invariant.1)) |
-        else-marks-j-ne0 w ↦ w.kept-is ∙ rw (next, mark_is marks loop.j, eq-eqb _ 0 w.if-marks-j-ne0.false) (omega (arith, loop.invariant.1))
+        | then-marks-j-ne0 w ↦ w.kept-is ∙ rw (next, mark_is marks loop.j, ne_eqb _ 0 w.if-marks-j-ne0.true) (omega (arith, loop.invariant.1))
+        | else-marks-j-ne0 w ↦ w.kept-is ∙ rw (next, mark_is marks loop.j, eq-eqb _ 0 w.if-marks-j-ne0.false) (omega (arith, loop.invariant.1))
       ],
     )
 

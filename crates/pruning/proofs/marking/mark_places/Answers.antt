@@ -54,8 +54,8 @@ loop-at-preserved c =
       loop.invariant.0 + 1,
       rw c.end_of-at.ensures (walk_next start.requires.0 start.requires.1 loop.invariant.1 (more (goal.at.loop-at-preserved c).In-loop-at)),
       elim c.if-byte_at-eq0.branch [
-        then-byte_at-eq0 w ↦ w.marks-is ∙ rw (w.byte_at-then-byte_at-eq0.ensures.0, loop.invariant.2) (walk_place start.requires.0 start.requires.1 loop.invariant.1 (more (goal.at.loop-at-preserved c).In-loop-at) (sym tested ∙ w.if-byte_at-eq0.true)).2 |
-        else-byte_at-eq0 w ↦ w.marks-is ∙ loop.invariant.2 ∙ walk_weights start.requires.0 start.requires.1 loop.invariant.1 (more (goal.at.loop-at-preserved c).In-loop-at) (λ e. w.if-byte_at-eq0.false (tested ∙ e))
+        | then-byte_at-eq0 w ↦ w.marks-is ∙ rw (w.byte_at-then-byte_at-eq0.ensures.0, loop.invariant.2) (walk_place start.requires.0 start.requires.1 loop.invariant.1 (more (goal.at.loop-at-preserved c).In-loop-at) (sym tested ∙ w.if-byte_at-eq0.true)).2
+        | else-byte_at-eq0 w ↦ w.marks-is ∙ loop.invariant.2 ∙ walk_weights start.requires.0 start.requires.1 loop.invariant.1 (more (goal.at.loop-at-preserved c).In-loop-at) (λ e. w.if-byte_at-eq0.false (tested ∙ e))
       ],
     )
 
