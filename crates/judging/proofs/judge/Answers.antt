@@ -39,9 +39,7 @@ judge_fields-verdict-requires c =
 -- past both tests the verdict is that on the fields
 judged : (c : After-is_refused) → let call = c in let start = call in
     (verdict (length start.args.table.now) start.args.bundle.now ≡ verdict_of (judging start.args.bundle.now 0)) × (table_after start.args.bundle.now start.args.table.now ≡ table_on (judging start.args.bundle.now 0) start.args.table.now)
-judged c =
-    let long = c in
-    answer-rest _ _ (fits (goal.at.After-is_refused c).Else-not-size_fits) long.if-table-lt-TABLE.false
+judged c = answer-rest _ _ (fits (goal.at.After-is_refused c).Else-not-size_fits) (omega arith)
 
 -- and the table is the one that they left in a cleared one
 left : (c : After-is_refused) → let call = c in let start = call in
