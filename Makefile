@@ -24,7 +24,7 @@ VERSION = $(shell sed -n 's/^.define HOV_VERSION "\(.*\)"/\1/p' include/hovmekha
 all: $(ARCHIVE) $(HOV)
 
 crates/abi/out/libabi.a: crates.txt $(wildcard crates/*/src/*.rt)
-	cd crates/abi && rt lib
+	cd crates/abi && rt lib --cpu x86-64
 
 rust/target/release/hov: $(ARCHIVE) $(wildcard rust/Cargo.* rust/cli/src/*.rs rust/hovmekhar/src/*.rs)
 	cargo build --release --locked --offline --manifest-path rust/Cargo.toml -p cli

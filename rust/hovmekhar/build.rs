@@ -1,5 +1,5 @@
 //! Links the static library: `libhovmekhar.a`, as it is installed, or `libabi.a`,
-//! as `rt lib` in `crates/abi` writes it.
+//! as `rt lib --cpu x86-64` in `crates/abi` writes it.
 //!
 //! It is taken from the directory that the environment variable
 //! `HOVMEKHAR_LIB_DIR` names (an absolute path), else from `crates/abi/out`
@@ -16,7 +16,7 @@ fn main() {
     let directory = directory(env::var_os(VARIABLE));
     let Some((name, archive)) = archive(&directory) else {
         println!(
-            "cargo::error=The static library is missing in {}: build it with `rt lib` in crates/abi, \
+            "cargo::error=The static library is missing in {}: build it with `rt lib --cpu x86-64` in crates/abi, \
              or set {VARIABLE} to the absolute path of the directory that holds \
              libhovmekhar.a or libabi.a.",
             directory.display()
