@@ -1,4 +1,4 @@
-// The limits of files, bundles, logs and words, by name. Every crate takes them from here; specs/Limits.antt has the same names.
+// The limits of files, bundles, logs and words, by name. Every crate takes them from here; specs/Limits.antt has them in small letters.
 #![tactic(auto)]
 
 ghost use Rattle.std.specs.Prelude.{◌≡◌};
