@@ -3,6 +3,8 @@ use Rattle.std.specs.Prelude.{◌≡◌, refl, ℕ}
 use Rattle.std.proofs.Common.{ap}
 use mathlib.Core.List.{List, [], ◌∷◌, flat_map}
 use Rattle.laws.specs.Lists.{all}
+use Rattle.refusals.specs.Table.{file_length_number}
+use Rattle.refusals.specs.Answers.{refusal}
 use Rattle.lines.specs.Decimals.{last_digit, digits_in, decimal}
 use Rattle.lines.specs.Lines.{ascii, spaced, line, refusal_line, in_word, line_unique, words-differ, refusal-line_unique}
 use Rattle.judge.specs.Files.{input_verdict}
@@ -22,6 +24,10 @@ verdict_line (Refused r) = refusal_line r
 -- what the program prints for an input
 abbrev pub input_line : List ℕ → List ℕ
 input_line input = verdict_line (input_verdict input)
+
+-- what it prints for an input that could not be read: the refusal of one of a wrong length
+abbrev pub unread_line : List ℕ
+unread_line = refusal_line (refusal file_length_number 0)
 
 -- the line determines the verdict
 pub verdict-line_unique : (v w : Verdict) → verdict_line v ≡ verdict_line w → v ≡ w
@@ -48,3 +54,8 @@ pub counts-sample : verdict_line (Accepted (record { rows = 7; allowed = 6; by_p
     ≡ 97 ∷ 99 ∷ 99 ∷ 101 ∷ 112 ∷ 116 ∷ 101 ∷ 100 ∷ 32 ∷ 55 ∷ 32 ∷ 54 ∷ 32 ∷ 53 ∷ 32 ∷ 51 ∷ 10 ∷ []
 unfolding verdict_line line flat_map spaced decimal digits_in last_digit
 counts-sample = refl
+
+-- `refused 1 0`
+pub unread-sample : unread_line ≡ 114 ∷ 101 ∷ 102 ∷ 117 ∷ 115 ∷ 101 ∷ 100 ∷ 32 ∷ 49 ∷ 32 ∷ 48 ∷ 10 ∷ []
+unfolding refusal_line line flat_map spaced decimal digits_in last_digit
+unread-sample = refl

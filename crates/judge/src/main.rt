@@ -8,7 +8,7 @@ ghost use Rattle.laws.specs.Parts.{front};
 ghost use Rattle.limits.specs.Limits.{max_file_size};
 ghost use Rattle.block.specs.Whole.{InputRead};
 ghost use Rattle.judge.specs.Files.{input_verdict};
-ghost use Rattle.judge.specs.Lines.{verdict_line, input_line};
+ghost use Rattle.judge.specs.Lines.{verdict_line, input_line, unread_line};
 
 use console::Input;
 use limits::{MAX_BUNDLE_SIZE, MAX_FILE_SIZE};
@@ -60,8 +60,21 @@ fn write_file_verdict(output: &mut [u8; LINE_SIZE], buffer: &[u8], n: usize) -> 
     write_verdict(output, judge_file(buffer, n))
 }
 
+// Writes the line of an input that could not be read, that of one of a wrong length. Whether it was written whole.
+fn print_unread<E: Eprint + AllocGlobal, W: Write>(rt: &E, output: &mut W) -> bool
+    ensures { OnTrue result (Appends (W.contents output.old) (W.contents output.new) unread_line) }
+{
+    let mut line = [0u8; LINE_SIZE];
+    let refusal = Refusal {
+        number: FILE_LENGTH,
+        spot: 0,
+    };
+    let size = write_refusal(&mut line, refusal);
+    console::print(rt, output, &line[..size])
+}
+
 // Judges the sealed file that an input has, and writes the line that the program owes it. Where something could not be read or written, says so on
-// standard error and returns false; an input that could not be read is answered as one of a wrong length.
+// standard error and returns false.
 fn answer<E: Eprint + AllocGlobal, R: Read, W: Write>(rt: &E, input: &mut R, output: &mut W) -> bool
     ensures { OnTrue result (IfSome (R.remaining input.old) (λ file. Appends (W.contents output.old) (W.contents output.new) (input_line file))) }
 {
@@ -71,12 +84,7 @@ fn answer<E: Eprint + AllocGlobal, R: Read, W: Write>(rt: &E, input: &mut R, out
     match console::read_input(input, &mut file) {
         Input::Failed(error) => {
             console::complain(rt, "standard input", error);
-            let refusal = Refusal {
-                number: FILE_LENGTH,
-                spot: 0,
-            };
-            let size = write_refusal(&mut line, refusal);
-            console::print(rt, output, &line[..size]);
+            print_unread(rt, output);
             false
         }
         Input::Bytes(n) => {

@@ -1,0 +1,2 @@
+-- Laws that several proofs of `judge` cite.
+pub mod Written
