@@ -4,7 +4,7 @@ ghost use Rattle.refusals.specs.Answers.{answer as answer_to, written, number_of
 ghost use Rattle.block.specs.File.{opened, sealed};
 ghost use Rattle.numbers.specs.Numbers.{with_value};
 
-use numbers::written::handed;
+use numbers::handed;
 
 // Opens a sealed file. answer[0]: the length of the bundle, in front of the output.
 #[unsafe(no_mangle)]

@@ -3,7 +3,7 @@ ghost use Rattle.std.specs.Prelude.{◌≡◌, length};
 ghost use Rattle.verdicts.specs.Judging.{verdict, verdict_number, table_after};
 ghost use Rattle.numbers.specs.Numbers.{with_verdict};
 
-use numbers::verdict::handed;
+use numbers::handed;
 
 // Judges a bundle. answer[0] to [3]: the rows, the allowed steps, and the certificates of kind 0 and of kind 1.
 #[unsafe(no_mangle)]

@@ -4,7 +4,7 @@ ghost use Rattle.logs.specs.Answers.{fresh_answer, fresh_table, taken_answer, ta
 ghost use Rattle.numbers.specs.Numbers.{with_taken};
 
 use logs::Summary;
-use numbers::taken::handed;
+use numbers::handed;
 
 // Starts the empty log over n events. answer[0], [1], [2]: n, rows and events of its summary.
 #[unsafe(no_mangle)]

@@ -5,7 +5,7 @@ ghost use Rattle.verdicts.specs.Judging.{table_after};
 ghost use Rattle.pruning.specs.Pruning.{pruning};
 ghost use Rattle.numbers.specs.Numbers.{with_value};
 
-use numbers::written::handed;
+use numbers::handed;
 
 // Prunes an accepted bundle. answer[0]: the length of the pruned bundle, in front of the output. The table is left as hov_judge leaves it.
 #[unsafe(no_mangle)]

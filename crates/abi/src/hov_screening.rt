@@ -3,7 +3,7 @@ ghost use Rattle.std.specs.Prelude.{◌≡◌};
 ghost use Rattle.screening.specs.Screening.{screened, screened_joined, screened_number};
 ghost use Rattle.numbers.specs.Numbers.{with_screened};
 
-use numbers::screened::handed;
+use numbers::handed;
 
 // Screens a word with a bundle. Returns 256 where the word is stopped: answer[0] to [2] are then the position of the first refused step, the
 // lowest place that refuses it, and how many tokens that place lacks there.

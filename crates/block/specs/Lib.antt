@@ -1,5 +1,6 @@
 pub mod Block
 pub mod File
+pub mod Faults
 pub mod BlockLaws
 pub mod OpenLaws
 pub mod SealLaws

@@ -1,12 +1,14 @@
 -- Laws of opening: the parts of a sound file, the lowest fault, and one law for each way that opening ends.
-use Rattle.std.specs.Prelude.{◌≡◌, cond, List, take, drop, leb}
+use Rattle.std.specs.Prelude.{◌≡◌, cond, List, [], ◌∷◌, ◌++◌, take, drop, leb}
 use Rattle.std.proofs.Math.Path.{refl, sym, ap}
-use Rattle.std.proofs.Common.{◌∙◌, eq-or-lt_of_le, length-append, length-take, length-drop, drop-drop}
+use Rattle.std.proofs.Common.{◌∙◌, eq-or-lt_of_le, mul-zero, length-append, length-take, length-drop, drop-drop}
 use Rattle.std.proofs.Math.Bool.{Bool, true, false}
 use Rattle.std.proofs.Math.Logic.{⊎_elim}
-use Prim.Native.Nat.{ℕ, ◌+◌, ◌-◌, ◌*◌, ◌/◌, ◌%◌, ◌≤◌, ◌<◌}
+use Prim.Native.Nat.{ℕ, zero, suc, ◌+◌, ◌-◌, ◌*◌, ◌/◌, ◌%◌, ◌≤◌, ◌<◌}
 use native.Mathlib.Omega.{arith}
-use Rattle.std.proofs.Math.ListN.{length}
+use Rattle.std.specs.Simd.{first_chunks}
+use Rattle.std.proofs.Math.ListN.{length, get_or}
+use Rattle.std.proofs.Math.Seq.{get_or-append_seam}
 use Rattle.std.proofs.Math.Dec.{eqb}
 use borrow.Author.Tests.{leb-true, eqb-true, eqb-false, ne_eqb, eq-eqb}
 use Rattle.laws.specs.Booleans.{and_left, and_right}
@@ -20,6 +22,39 @@ use Rattle.refusals.specs.Answers.{refusal}
 use Rattle.block.specs.Block.{is_zero, used_count, used_contents, right_count}
 use Rattle.block.specs.File.{block_count, block_at, fault_at, first_faulty, first_fault, contents_at, bundle_of, right_length, opened, Sound}
 use Rattle.block.specs.BlockLaws.{Rules, rules, right_count-most}
+
+-- ---- The blocks of a file, as the library cuts them
+
+-- a piece of n elements among the first k
+chunk : (n k : ℕ) (l : List ℕ) (i : ℕ) (d : List ℕ) → i < k → get_or (first_chunks n k l) i d ≡ take n (drop (n * i) l)
+chunk n zero l i d h = absurd (omega arith)
+chunk n (suc k) l zero d h = rw mul-zero refl
+chunk n (suc k) l (suc i) d h =
+    let next : n + n * i ≡ n * suc i = omega arith in
+    chunk n k (drop n l) i d (omega arith) ∙ ap (take n) (drop-drop (n * i) n l ∙ ap (λ (m : ℕ). drop m l) next)
+
+chunk-count : (n k : ℕ) (l : List ℕ) → length (first_chunks n k l) ≡ k
+chunk-count n zero l = refl
+chunk-count n (suc k) l = ap suc (chunk-count n k (drop n l))
+
+module _ (file : List ℕ) (blocks : List (List ℕ)) (cut : blocks ≡ first_chunks 512 (length file / 512) file) where
+  pub blocks-count : length blocks ≡ block_count file
+  unfolding block_count
+  blocks-count = ap length cut ∙ chunk-count 512 (length file / 512) file
+
+  pub blocks_at : (k : ℕ) (d : List ℕ) → k < block_count file → get_or blocks k d ≡ block_at file k
+  unfolding block_count block_at
+  blocks_at k d h = ap (λ (l : List (List ℕ)). get_or l k d) cut ∙ chunk 512 (length file / 512) file k d h
+
+  -- the last of them
+  pub blocks-last : (full : List (List ℕ)) (last : List ℕ) → blocks ≡ full ++ last ∷ []
+      → (length full + 1 ≡ block_count file) × (block_at file (block_count file - 1) ≡ last)
+  blocks-last full last e =
+      let size : length full + 1 ≡ block_count file = omega (arith, blocks-count, ap length e, length-append full (last ∷ [])) in
+      let before : block_count file - 1 ≡ length full = omega (arith, size) in (
+        size,
+        rw before (sym (blocks_at (length full) [] (omega (arith, size))) ∙ ap (λ (l : List (List ℕ)). get_or l (length full) []) e ∙ get_or-append_seam full last [] []),
+      )
 
 -- ---- The parts of a sound file
 

@@ -1,5 +1,5 @@
 -- Sealing and opening undo each other.
-use Rattle.std.specs.Prelude.{◌≡◌, true, List, ◌++◌, ℕ, ◌+◌, ◌-◌, ◌*◌, ◌%◌, ◌≤◌, ◌<◌, min, length, drop, replicate, eqb}
+use Rattle.std.specs.Prelude.{◌≡◌, true, List, ◌++◌, ℕ, ◌+◌, ◌-◌, ◌*◌, ◌%◌, ◌≤◌, ◌<◌, min, length, drop, replicate, eqb, Ok}
 use Rattle.std.proofs.Math.Path.{sym, ap}
 use Rattle.std.proofs.Common.{◌∙◌, subst, ⊎_elim, eq-or-lt_of_le, length-drop}
 use native.Mathlib.Omega.{arith}
@@ -14,7 +14,6 @@ use Rattle.refusals.specs.Results.{Result, value}
 use Rattle.refusals.specs.Answers.{refusal, answer, written}
 use Rattle.refusals.specs.Laws.{Ends}
 use Rattle.refusals.proofs.Laws.{ends-written, answer-taken}
-use Rattle.refusals.specs.declared.Written.TheVariants.{Length}
 use Rattle.sums.specs.Checksums.{plain_sum, position_sum}
 use Rattle.block.specs.Block.{padded, summed_bytes, with_sums, block, right_count, used_count, used_contents}
 use Rattle.block.specs.File.{block_count, block_at, fault_at, first_fault, contents_at, bundle_of, right_length, opened, Sound, part_at, sealed_block_at, blocks_for, sealed_file, sealed}
@@ -176,24 +175,24 @@ sealed-small bundle small = bytes-joined (sealed_block_at bundle) (blocks_for (l
 
 -- two calls of which the second undoes the first: what the first wrote to a long enough output, the second takes back to where it came from
 undone : (f g : List ℕ → Result (List ℕ)) (x : List ℕ) → ((y : List ℕ) → f x ≡ value y → g y ≡ value x)
-    → (first second : List ℕ) (n : ℕ) → answer (f x) (length first) ≡ Length n → length x ≤ length second
-    → Ends (g (take n (written (f x) first))) second (Length (length x)) (front x second)
+    → (first second : List ℕ) (n : ℕ) → answer (f x) (length first) ≡ Ok n → length x ≤ length second
+    → Ends (g (take n (written (f x) first))) second (Ok (length x)) (front x second)
 undone f g x back first second n e room = ends-written _ second x (back _ (answer-taken (f x) first n e)) room
 
 -- a bundle of 1 to 64,512 bytes is sealed into a long enough output
 pub seals : (bundle output : List ℕ) → 1 ≤ length bundle → length bundle ≤ max_bundle_size → 512 * blocks_for (length bundle) ≤ length output
-    → answer (sealed bundle) (length output) ≡ Length (512 * blocks_for (length bundle))
+    → answer (sealed bundle) (length output) ≡ Ok (512 * blocks_for (length bundle))
 seals bundle output some most room =
     let size = length-sealed_file bundle in
     let ends = ends-written (sealed bundle) output (sealed_file bundle) (sealed-file bundle (right_size_intro (length bundle) some most)) (omega (arith, size)) in
-    sym ends.0 ∙ ap Length size
+    sym ends.0 ∙ ap Ok size
 
 -- a bundle sealed into one output, and the file opened into another
-pub seal_then_open : (bundle first second : List ℕ) (n : ℕ) → answer (sealed bundle) (length first) ≡ Length n → length bundle ≤ length second
-    → Ends (opened (take n (written (sealed bundle) first))) second (Length (length bundle)) (front bundle second)
+pub seal_then_open : (bundle first second : List ℕ) (n : ℕ) → answer (sealed bundle) (length first) ≡ Ok n → length bundle ≤ length second
+    → Ends (opened (take n (written (sealed bundle) first))) second (Ok (length bundle)) (front bundle second)
 seal_then_open bundle = undone sealed opened bundle (opened-sealed bundle)
 
 -- a file opened into one output, and the bundle sealed into another
-pub open_then_seal : (file first second : List ℕ) (n : ℕ) → Bytes file → answer (opened file) (length first) ≡ Length n → length file ≤ length second
-    → Ends (sealed (take n (written (opened file) first))) second (Length (length file)) (front file second)
+pub open_then_seal : (file first second : List ℕ) (n : ℕ) → Bytes file → answer (opened file) (length first) ≡ Ok n → length file ≤ length second
+    → Ends (sealed (take n (written (opened file) first))) second (Ok (length file)) (front file second)
 open_then_seal file first second n small = undone opened sealed file (λ y. sealed-opened file y small) first second n

@@ -9,8 +9,8 @@ ghost use Rattle.std.specs.Prelude.{◌≡◌, length};
 ghost use Rattle.refusals.specs.Answers.{answer, written};
 ghost use Rattle.block.specs.File.{opened};
 
-use contents::{bundle_length, write_bundle};
-use refusals::{FILE_LENGTH, OUTPUT_SHORT, Written, refused};
+use contents::SoundFile;
+use refusals::{Cause, Written};
 use rules::{first_fault, length_fits};
 
 // Opens a sealed file: writes its bundle to the front of the output and returns the bundle's length.
@@ -20,16 +20,14 @@ pub fn open(file: &[u8], output: &mut [u8]) -> Written
     ensures output_after { output.new ≡ written (opened file.now) output.old }
 {
     if !length_fits(file.len()) {
-        return refused(FILE_LENGTH, 0);
+        return Err(Cause::FileLength.at(0));
     }
-    let fault = first_fault(file);
-    if fault.number != 0 {
-        return Written::Refused(fault);
-    }
-    let length = bundle_length(file);
+    first_fault(file)?;
+    let sound = SoundFile { bytes: file };
+    let length = sound.bundle_length();
     if output.len() < length {
-        return refused(OUTPUT_SHORT, length);
+        return Err(Cause::OutputShort.at(length));
     }
-    write_bundle(file, output);
-    Written::Length(length)
+    sound.write_bundle(output);
+    Ok(length)
 }

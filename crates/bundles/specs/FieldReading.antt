@@ -1,22 +1,21 @@
--- What the code reads, in the words of the definitions, and the laws of a field by its three answers.
-use Rattle.std.specs.Prelude.{◌≡◌, refl, Bool, ◌&&◌, List, ℕ, ◌+◌, ◌≤◌, ◌<◌, leb, ltb, length, get_or}
+-- The laws of a field by its three answers, and what the code answers for one.
+use Rattle.std.specs.Prelude.{◌≡◌, refl, Bool, ◌&&◌, List, ℕ, ◌+◌, ◌≤◌, ◌<◌, leb, ltb, length, get_or, Ok, Err}
 use Rattle.std.proofs.Common.{sym, ap, ◌∙◌, arith, leb-true}
 use Rattle.std.proofs.Math.Bool.{true, false, cond}
 use Rattle.std.proofs.lemmas.Bool.{lt-leb}
 use Rattle.laws.specs.Booleans.{impossible}
 use Rattle.laws.specs.Numbers.{number_at}
 use Rattle.refusals.specs.Table.{bundle_end_number, value_number}
+use Rattle.std.specs.Bool.{then_some}
+use Rattle.std.specs.Option.{ok_or}
 use Rattle.refusals.specs.Results.{refused}
-use Rattle.bundles.specs.Reading.{Read, got, field, byte, number}
+use Rattle.bundles.specs.Reading.{got, field, byte, number}
 use Rattle.bundles.specs.ReadingLaws.{ranged, field-there}
 use Rattle.bundles.specs.Readers.{anything}
-use Rattle.bundles.specs.declared.Field.{Field}
-use Rattle.bundles.specs.declared.Field.TheVariants.{Value, Refused}
-
--- a field as a reader's answer
-unfoldable pub read_of : Field → Read ℕ
-read_of (Value x next) = got x next
-read_of (Refused r) = refused r.number r.spot
+use Rattle.refusals.specs.Answers.{refusal}
+use Rattle.bundles.specs.Chains.{ReadBy, read_got, read-refused, →got, →refused}
+use Rattle.refusals.specs.declared.Refusal.{Refusal}
+use Rattle.bundles.specs.declared.Reader.{Reader}
 
 -- from `low` to `most`
 abbrev pub between : ℕ → ℕ → ℕ → Bool
@@ -110,3 +109,61 @@ byte-got in_range b at x next e = go (leb (at + 1) (length b)) refl (in_range (g
         (ap in_range (sym value) ∙ g, sym value, sym end, omega (arith, leb-true (at + 1) (length b) t))
     go true t false g q = impossible cc
     go false t good g q = impossible cc
+
+-- ---- the code's fields
+
+module _ (old : Reader) where
+  pub byte_missing : length old.bytes.now ≤ old.at → ReadBy old old (Err (refusal bundle_end_number old.at)) (byte anything)
+  byte_missing short = →refused refl (byte-missing anything old.bytes.now old.at short)
+
+  pub byte_read : old.at < length old.bytes.now → ReadBy old (record old { at = old.at + 1 }) (Ok (get_or old.bytes.now old.at 0)) (byte anything)
+  unfolding ranged
+  byte_read there = →got refl (byte-there anything old.bytes.now old.at there)
+
+  pub number_missing : length old.bytes.now < old.at + 2 → ReadBy old old (Err (refusal bundle_end_number old.at)) (number anything)
+  number_missing short = →refused refl (number-missing anything old.bytes.now old.at short)
+
+  pub number_read : old.at + 2 ≤ length old.bytes.now → ReadBy old (record old { at = old.at + 2 }) (Ok (number_at old.bytes.now old.at)) (number anything)
+  unfolding ranged
+  number_read there = →got refl (number-there anything old.bytes.now old.at there)
+
+-- a value, or a refusal, as a test decides
+pub chosen : {A : Type 0} (b : Bool) (x : A) (e : Refusal) → ok_or (then_some b x) e ≡ cond b (Ok x) (Err e)
+chosen true x e = refl
+chosen false x e = refl
+
+-- a value that was read, and then tested
+module _ {old new : Reader} (p : ℕ → Bool) where
+  pub byte_tested : {x : ℕ} → ReadBy old new (Ok x) (byte anything) → ReadBy old new (cond (p x) (Ok x) (Err (refusal value_number old.at))) (byte p)
+  unfolding ranged
+  byte_tested {x} r = go (p x) refl
+    where
+      is : byte p old.bytes.now old.at ≡ ranged p x old.at new.at
+      is = byte-ranged p old.bytes.now old.at (read_got r)
+
+      go : (fits : Bool) → p x ≡ fits → ReadBy old new (cond fits (Ok x) (Err (refusal value_number old.at))) (byte p)
+      go true e = →got r.bytes (is ∙ rw e)
+      go false e = →refused r.bytes (is ∙ rw e)
+
+  pub byte_passed : {x : ℕ} → p x ≡ true → ReadBy old new (Ok x) (byte anything) → ReadBy old new (Ok x) (byte p)
+  byte_passed passed r = rw passed at (byte_tested r)
+
+  pub byte-failed : {x : ℕ} → p x ≡ false → ReadBy old new (Ok x) (byte anything) → ReadBy old new (Err (refusal value_number old.at)) (byte p)
+  byte-failed fails r = rw fails at (byte_tested r)
+
+  pub byte_untested : {e : Refusal} → ReadBy old new (Err e) (byte anything) → ReadBy old new (Err e) (byte p)
+  byte_untested r = →refused r.bytes (byte-refused p old.bytes.now old.at (read-refused r))
+
+  pub number_tested : {x : ℕ} → ReadBy old new (Ok x) (number anything) → ReadBy old new (cond (p x) (Ok x) (Err (refusal value_number old.at))) (number p)
+  unfolding ranged
+  number_tested {x} r = go (p x) refl
+    where
+      is : number p old.bytes.now old.at ≡ ranged p x old.at new.at
+      is = number-ranged p old.bytes.now old.at (read_got r)
+
+      go : (fits : Bool) → p x ≡ fits → ReadBy old new (cond fits (Ok x) (Err (refusal value_number old.at))) (number p)
+      go true e = →got r.bytes (is ∙ rw e)
+      go false e = →refused r.bytes (is ∙ rw e)
+
+  pub number_untested : {e : Refusal} → ReadBy old new (Err e) (number anything) → ReadBy old new (Err e) (number p)
+  number_untested r = →refused r.bytes (number-refused p old.bytes.now old.at (read-refused r))

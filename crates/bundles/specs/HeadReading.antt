@@ -1,5 +1,5 @@
 -- A bundle up to its last place: its head as the code reads it, and the answer of a call that reads it and does not judge.
-use Rattle.std.specs.Prelude.{◌≡◌, Bool, cond, List, [], ◌∷◌, ℕ, ◌+◌, ◌-◌, ◌*◌, ◌≤◌, length, drop}
+use Rattle.std.specs.Prelude.{◌≡◌, Bool, cond, List, [], ◌∷◌, ℕ, ◌+◌, ◌-◌, ◌*◌, ◌≤◌, ◌<◌, length, drop, Ok, Err}
 use Rattle.std.proofs.Math.Path.{refl, ap, ap₂}
 use Rattle.std.proofs.Common.{sym, ◌∙◌, subst, arith}
 use Rattle.std.proofs.Math.Bool.{true, false}
@@ -22,39 +22,43 @@ use Rattle.bundles.specs.FieldReading.{between, between_true, byte-got}
 use Rattle.bundles.specs.ReadingLaws.{and_then-got, require-got}
 use Rattle.bundles.specs.NumberReading.{items_at, items-length}
 use Rattle.bundles.specs.WordReading.{words_unlimited}
-use Rattle.bundles.specs.PlaceReading.{place_size, fields_at, kept_places, places_read, PlacesAt, places-got}
+use Rattle.bundles.specs.PlaceReading.{place_size, place_spot, behind, fields_at, kept_places, places_read, placed, place_inside, PlacesAt, places-got}
 use Rattle.bundles.specs.Limits.{got→front, front→got}
 use Rattle.bundles.specs.Refusing.{reader_head}
-use Rattle.bundles.specs.declared.Places.{Places}
-use Rattle.bundles.specs.declared.PlacesRead.{PlacesRead}
-use Rattle.bundles.specs.declared.PlacesRead.TheVariants as places-read
-use Rattle.bundles.specs.declared.Head as declared
-use Rattle.bundles.specs.declared.HeadRead.{HeadRead}
-use Rattle.bundles.specs.declared.HeadRead.TheVariants as head_variants
+use Rattle.std.specs.Borrow.{Bor}
+use Rattle.nets.specs.Nets.{event_count}
+use Rattle.refusals.specs.Answers.{Answer}
+use Rattle.bundles.specs.Reading as reading
+use Rattle.bundles.specs.Chains.{answer_in, mapped, map_read}
+use Rattle.bundles.specs.declared.net.Net.{Net}
 
 -- a first byte that was read is 1 to 12
 pub first-limits : (b : List ℕ) (at n next : ℕ) → first_byte b at ≡ got n next → (1 ≤ n) × (n ≤ max_events)
 first-limits b at n next e = between_true 1 max_events n (byte-got (between 1 max_events) b at n next e).0
 
 -- what the code keeps of a head: the event count, and where the places are
-unfoldable pub head_read : Read Head → HeadRead
-head_read (value (item h next)) = head_variants.Read (record { n = h.events; places = kept_places h.events h.places next })
-head_read (refused number spot) = head_variants.Refused (record { number = number; spot = spot })
+unfoldable pub net_read : Bor (List ℕ) → Read Head → Read Net
+net_read bundle (value (item h next)) = got (kept_places bundle h.events h.places next) next
+net_read bundle (refused number spot) = refused number spot
 
-unfoldable pub with_places : ℕ → PlacesRead → HeadRead
-with_places n (places-read.Read p) = head_variants.Read (record { n = n; places = p })
-with_places n (places-read.Refused r) = head_variants.Refused r
+-- a reader of a head, as the code keeps it
+abbrev pub headed : Bor (List ℕ) → reading.Reader Head → reading.Reader Net
+headed bundle r b at = net_read bundle (r b at)
+
+-- without the offset behind it
+abbrev pub head_read : Bor (List ℕ) → Read Head → Answer Net
+head_read bundle m = answer_in (net_read bundle m)
 
 -- ---- the laws
 
 module _ (rows_fit : ℕ → Log → Bool) (b : List ℕ) where
-  pub head-failed : {number spot : ℕ} → first_byte b 0 ≡ refused number spot → head rows_fit b 0 ≡ refused number spot
+  pub head-failed : (start : ℕ) {number spot : ℕ} → first_byte b start ≡ refused number spot → head rows_fit b start ≡ refused number spot
   unfolding head bind onward
-  head-failed e = rw e
+  head-failed start e = rw e
 
-  pub head-got : {n at : ℕ} → first_byte b 0 ≡ got n at → head rows_fit b 0 ≡ head_after rows_fit n b at
+  pub head-got : (start : ℕ) {n at : ℕ} → first_byte b start ≡ got n at → head rows_fit b start ≡ head_after rows_fit n b at
   unfolding head bind onward
-  head-got {n} {at} e = rw e
+  head-got start e = rw e
 
   module _ (n at : ℕ) where
     pub after-failed : {number spot : ℕ} → byte anything b at ≡ refused number spot → head_after rows_fit n b at ≡ refused number spot
@@ -66,13 +70,41 @@ module _ (rows_fit : ℕ → Log → Bool) (b : List ℕ) where
       unfolding head_after bind onward
       words-failed e = rw (counted, e)
 
-      pub words-got : {log : Log} {end : ℕ} → following words (word (rows_fit n) n) b start ≡ got log end → head_read (head_after rows_fit n b at) ≡ with_places n (places_read n (places n b end))
-      unfolding head_after bind onward head_read with_places places_read
-      words-got {log} {end} e = rw (counted, e) (go (places n b end))
-        where
-          go : (m : Read (List PlaceFields)) → head_read (and_then m (λ ps. give (record { events = n; log = log; places = ps })) b) ≡ with_places n (places_read n m)
-          go (value (item ps next)) = refl
-          go (refused number spot) = refl
+-- what the code keeps of a head, by the reads that it makes: behind the words, the word count and the event count
+module _ (bundle : Bor (List ℕ)) (rows_fit : ℕ → Log → Bool) (n : ℕ) where
+  abbrev pub behind_words : ℕ → reading.Reader Net
+  behind_words events = placed bundle n (places n)
+
+  abbrev pub behind_count : ℕ → reading.Reader Net
+  behind_count count = mapped event_count (following count (word (rows_fit n) n)) >>= behind_words
+
+  abbrev pub behind_n : reading.Reader Net
+  behind_n = byte anything >>= behind_count
+
+pub head_chain : (bundle : Bor (List ℕ)) (rows_fit : ℕ → Log → Bool) (b : List ℕ) (at : ℕ)
+    → headed bundle (head rows_fit) b at ≡ (first_byte >>= behind_n bundle rows_fit) b at
+unfolding head head_after bind onward net_read places_read map_read
+head_chain bundle rows_fit b at = by_n (first_byte b at)
+  where
+    by_places : (n : ℕ) (log : Log) (m : Read (List PlaceFields)) → net_read bundle (and_then m (λ ps. give (record { events = n; log = log; places = ps })) b) ≡ places_read bundle n m
+    by_places n log (value (item ps next)) = refl
+    by_places n log (refused number spot) = refl
+
+    by_words : (n : ℕ) (m : Read Log)
+        → net_read bundle (and_then m (λ log. places n >>= λ ps. give (record { events = n; log = log; places = ps })) b)
+        ≡ and_then (map_read event_count m) (behind_words bundle rows_fit n) b
+    by_words n (value (item log next)) = by_places n log (places n b next)
+    by_words n (refused number spot) = refl
+
+    by_count : (n : ℕ) (m : Read ℕ)
+        → net_read bundle (and_then m (λ count. following count (word (rows_fit n) n) >>= λ log. places n >>= λ ps. give (record { events = n; log = log; places = ps })) b)
+        ≡ and_then m (behind_count bundle rows_fit n) b
+    by_count n (value (item count next)) = by_words n (following count (word (rows_fit n) n) b next)
+    by_count n (refused number spot) = refl
+
+    by_n : (m : Read ℕ) → net_read bundle (and_then m (head_after rows_fit) b) ≡ and_then m (behind_n bundle rows_fit) b
+    by_n (value (item n next)) = by_count n (byte anything b next)
+    by_n (refused number spot) = refl
 
 -- behind the bundle's length
 module _ (b : List ℕ) where
@@ -90,24 +122,27 @@ module _ (b : List ℕ) where
 
 -- ---- a head that was read
 
--- n and ps are what the code keeps of the head of the bundle b, which is read up to its last place
-pub record HeadAt (b : List ℕ) (n : ℕ) (ps : Places) : Type 0 where
-  pub read : head any_rows b 0 ≡ got (head_of b) ps.next
-  pub events : (head_of b).events ≡ n
-  pub limits : (1 ≤ n) × (n ≤ max_events)
-  pub few : ps.count ≤ max_places
-  pub places : (head_of b).places ≡ items_at (place_size n) (fields_at n) ps.count b ps.first
-  pub end : ps.next ≡ ps.first + 2 * (ps.count * place_size n)
-  pub inside : ps.first + 2 * (ps.count * place_size n) ≤ length b
+-- the net is what the code keeps of the head of its bundle, which is read up to the last place
+pub record HeadAt (net : Net) : Type 0 where
+  pub read : head any_rows net.bundle.now 0 ≡ got (head_of net.bundle.now) (behind net)
+  pub events : (head_of net.bundle.now).events ≡ net.n
+  pub limits : (1 ≤ net.n) × (net.n ≤ max_events)
+  pub few : net.count ≤ max_places
+  pub places : (head_of net.bundle.now).places ≡ items_at (place_size net.n) (fields_at net.n) net.count net.bundle.now net.first
+  pub inside : behind net ≤ length net.bundle.now
 
--- so many places are there
-module _ {b : List ℕ} {n : ℕ} {ps : Places} (found : HeadAt b n ps) where
-  pub place-count : length (head_of b).places ≡ ps.count
-  place-count = ap length found.places ∙ items-length (place_size n) (fields_at n) ps.count b ps.first
+module _ {net : Net} (found : HeadAt net) where
+  -- so many places are there
+  pub place-count : length (head_of net.bundle.now).places ≡ net.count
+  place-count = ap length found.places ∙ items-length (place_size net.n) (fields_at net.n) net.count net.bundle.now net.first
 
-  pub net-size : length (net_in b) ≡ ps.count
+  pub net-size : length (net_in net.bundle.now) ≡ net.count
   unfolding to_net
-  net-size = length-map (head_of b).places to_place ∙ place-count
+  net-size = length-map (head_of net.bundle.now).places to_place ∙ place-count
+
+  -- each lies in the bundle
+  pub place_within : (j : ℕ) → j < net.count → place_spot net j + 2 * place_size net.n ≤ length net.bundle.now
+  place_within j h = place_inside net.n net.first net.count j (length net.bundle.now) h found.inside
 
 module _ (rows_fit : ℕ → Log → Bool) (b : List ℕ) (n : ℕ) (h : Head) (next : ℕ) where
   -- what the last reader of a head says of its places
@@ -133,10 +168,10 @@ head-parts rows_fit b h next e = go (first_byte b 0) refl
   where
     go : (m : Read ℕ) → first_byte b 0 ≡ m → ((1 ≤ h.events) × (h.events ≤ max_events)) × PlacesAt h.events b h.places next
     go (value (item n at)) is =
-        let rest = after-got rows_fit b n h next at (sym (head-got rows_fit b is) ∙ e) in
+        let rest = after-got rows_fit b n h next at (sym (head-got rows_fit b 0 is) ∙ e) in
         let limits = first-limits b 0 n at is in
         ((omega (arith, limits, rest.0), omega (arith, limits, rest.0)), subst (λ (k : ℕ). PlacesAt k b h.places next) (sym rest.0) rest.1)
-    go (refused number spot) is = let never : refused number spot ≡ got h next = sym (head-failed rows_fit b is) ∙ e in impossible cc
+    go (refused number spot) is = let never : refused number spot ≡ got h next = sym (head-failed rows_fit b 0 is) ∙ e in impossible cc
 
 -- ---- the bundle's head
 
@@ -155,41 +190,52 @@ unfolding head_of head_in
 head-of b h next e = rw e
 
 -- what the code keeps of a head
-kept_of : (b : List ℕ) (h : Head) (next : ℕ) → head any_rows b 0 ≡ got h next → head_of b ≡ h → HeadAt b h.events (kept_places h.events h.places next)
-kept_of b h next is same =
+kept_of : (bundle : Bor (List ℕ)) (h : Head) (next : ℕ) → head any_rows bundle.now 0 ≡ got h next → head_of bundle.now ≡ h
+    → HeadAt (kept_places bundle h.events h.places next) × (behind (kept_places bundle h.events h.places next) ≡ next)
+kept_of bundle h next is same =
+    let b = bundle.now in
     let parts = head-parts any_rows b h next is in
     let p = parts.1 in
     let n = h.events in
     let size : length h.places ≡ p.count = ap length p.items ∙ items-length (place_size n) (fields_at n) p.count b p.first in
     let product : length h.places * place_size n ≡ p.count * place_size n = ap (λ (k : ℕ). k * place_size n) size in
-    let first : next - 2 * (length h.places * place_size n) ≡ p.first = omega (arith, p.end, product) in
-    record {
-      read = is ∙ ap (λ (x : Head). got x next) (sym same);
-      events = ap (λ (x : Head). x.events) same;
-      limits = parts.0;
-      few = omega (arith, size, p.few);
-      places = ap (λ (x : Head). x.places) same ∙ p.items ∙ ap₂ (λ (k at : ℕ). items_at (place_size n) (fields_at n) k b at) (sym size) (sym first);
-      end = omega (arith, p.end, product);
-      inside = omega (arith, p.end, p.within, product);
-    }
+    let first_of = next - 2 * (length h.places * place_size n) in
+    let first : first_of ≡ p.first = omega (arith, p.end, product) in
+    let end : first_of + 2 * (length h.places * place_size n) ≡ next = omega (arith, p.end, product) in (
+      record {
+        read = is ∙ ap₂ got (sym same) (sym end);
+        events = ap (λ (x : Head). x.events) same;
+        limits = parts.0;
+        few = omega (arith, size, p.few);
+        places = ap (λ (x : Head). x.places) same ∙ p.items ∙ ap₂ (λ (k at : ℕ). items_at (place_size n) (fields_at n) k b at) (sym size) (sym first);
+        inside = omega (arith, p.end, p.within, product);
+      },
+      end,
+    )
 
-pub head-taken : (rows_fit : ℕ → Log → Bool) (b : List ℕ) (h : Head) (next : ℕ) → head rows_fit b 0 ≡ got h next → (head_of b ≡ h) × HeadAt b h.events (kept_places h.events h.places next)
-head-taken rows_fit b h next e =
-    let is = head_unlimited rows_fit b h next e in
-    let same = head-of b h next is in
-    (same, kept_of b h next is same)
+pub head-taken : (rows_fit : ℕ → Log → Bool) (bundle : Bor (List ℕ)) (h : Head) (next : ℕ) → head rows_fit bundle.now 0 ≡ got h next
+    → (head_of bundle.now ≡ h) × HeadAt (kept_places bundle h.events h.places next) × (behind (kept_places bundle h.events h.places next) ≡ next)
+head-taken rows_fit bundle h next e =
+    let is = head_unlimited rows_fit bundle.now h next e in
+    let same = head-of bundle.now h next is in
+    let kept = kept_of bundle h next is same in
+    (same, kept.0, kept.1)
 
 -- a head that the code has read, behind the bundle's length
-pub head-kept : (b : List ℕ) (kept : declared.Head) → head_read (bundle_head b 0) ≡ head_variants.Read kept → HeadAt b kept.n kept.places × (bundle_head b 0 ≡ got (head_of b) kept.places.next)
-unfolding head_read
-head-kept b kept e = go (bundle_head b 0) refl e
+pub head-kept : (bundle : Bor (List ℕ)) (net : Net) → head_read bundle (bundle_head bundle.now 0) ≡ Ok net
+    → HeadAt net × (net.bundle.now ≡ bundle.now) × (bundle_head bundle.now 0 ≡ got (head_of bundle.now) (behind net))
+unfolding net_read answer_in
+head-kept bundle net e = go (bundle_head bundle.now 0) refl e
   where
-    go : (m : Read Head) → bundle_head b 0 ≡ m → head_read m ≡ head_variants.Read kept → HeadAt b kept.n kept.places × (bundle_head b 0 ≡ got (head_of b) kept.places.next)
+    go : (m : Read Head) → bundle_head bundle.now 0 ≡ m → head_read bundle m ≡ Ok net
+        → HeadAt net × (net.bundle.now ≡ bundle.now) × (bundle_head bundle.now 0 ≡ got (head_of bundle.now) (behind net))
     go (value (item h next)) is q =
-        let same : record { n = h.events; places = kept_places h.events h.places next } ≡ kept = cc in
-        let read = behind-size b h next is in
-        let of-b = head-of b h next read in
-        subst (λ (k : declared.Head). HeadAt b k.n k.places × (bundle_head b 0 ≡ got (head_of b) k.places.next)) same (kept_of b h next read of-b, is ∙ ap (λ (x : Head). got x next) (sym of-b))
+        let same : kept_places bundle h.events h.places next ≡ net = cc in
+        let read = behind-size bundle.now h next is in
+        let of_b = head-of bundle.now h next read in
+        let kept = kept_of bundle h next read of_b in
+        subst (λ (k : Net). HeadAt k × (k.bundle.now ≡ bundle.now) × (bundle_head bundle.now 0 ≡ got (head_of bundle.now) (behind k))) same
+        (kept.0, refl, is ∙ ap₂ got (sym of_b) (sym kept.1))
     go (refused number spot) is q = impossible cc
 
 -- ---- a call that reads a bundle's head
@@ -274,18 +320,19 @@ module _ (b : List ℕ) where
   pub read-few : HeadIsRead b → (events_in b ≤ max_events) × (length (net_in b) ≤ max_places)
   read-few e =
       let r = read→ (head_of b) e in
-      let found = (head-taken any_rows b (head_of b) r.1.0 r.1.1).1 in
+      let found = (head-taken any_rows (record { ref_ptr = (0, 0); now = b }) (head_of b) r.1.0 r.1.1).1 in
       (found.limits.1, omega (arith, found.few, net-size found))
 
-  -- what the code keeps of it
-  pub kept-refused : (r : Refusal) → head_read (bundle_head b 0) ≡ head_variants.Refused r → read_head b ≡ refused r.number r.spot
-  unfolding read_head head_read bind
-  kept-refused r e = go (bundle_head b 0) e
+-- what the code keeps of it
+module _ (bundle : Bor (List ℕ)) where
+  pub kept-refused : (r : Refusal) → head_read bundle (bundle_head bundle.now 0) ≡ Err r → read_head bundle.now ≡ refused r.number r.spot
+  unfolding read_head net_read answer_in bind
+  kept-refused r e = go (bundle_head bundle.now 0) e
     where
-      go : (m : Read Head) → head_read m ≡ head_variants.Refused r → bind m (λ i. value (item_in i)) ≡ refused r.number r.spot
+      go : (m : Read Head) → head_read bundle m ≡ Err r → bind m (λ i. value (item_in i)) ≡ refused r.number r.spot
       go (value (item h next)) q = impossible cc
       go (refused number spot) q = let same : record { number = number; spot = spot } ≡ r = cc in ap (λ (r : Refusal). refused r.number r.spot) same
 
-  pub kept_read : (kept : declared.Head) → head_read (bundle_head b 0) ≡ head_variants.Read kept → HeadAt b kept.n kept.places × HeadIsRead b
+  pub kept_read : (net : Net) → head_read bundle (bundle_head bundle.now 0) ≡ Ok net → HeadAt net × (net.bundle.now ≡ bundle.now) × HeadIsRead bundle.now
   unfolding read_head bind item_in
-  kept_read kept e = let found = head-kept b kept e in (found.0, rw found.1)
+  kept_read net e = let found = head-kept bundle net e in (found.0, found.1, rw found.2)

@@ -7,6 +7,7 @@ pub mod Limits
 pub mod Bytes
 pub mod Refusing
 pub mod Causes
+pub mod Chains
 pub mod FieldReading
 pub mod WordReading
 pub mod NumberReading

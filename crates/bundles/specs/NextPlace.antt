@@ -1,18 +1,17 @@
--- The places of a bundle, one after another: where the next one is, and that the code's place there is that of the net.
-use Rattle.std.specs.Prelude.{◌≡◌, List, ℕ, ◌+◌, ◌*◌, ◌≤◌, ◌<◌, length, get_or}
+-- The places of a bundle: that the code's place j is that of the net, and where they are, one after another.
+use Rattle.std.specs.Prelude.{◌≡◌, List, ℕ, ◌+◌, ◌*◌, ◌≤◌, ◌<◌, get_or}
 use Rattle.std.proofs.Common.{sym, ◌∙◌, zero-mul, suc-mul, add-one, arith}
 use Rattle.std.proofs.Math.Path.{ap}
 use Rattle.laws.specs.Lists.{get_d_map}
-use Rattle.limits.specs.Limits.{max_events}
 use Rattle.nets.specs.Nets.{Place, no_place}
 use Rattle.places.specs.Machine.{place_of}
 use Rattle.places.specs.declared.Place as Declared
 use Rattle.bundles.specs.Layout.{to_place, to_net}
 use Rattle.bundles.specs.Readers.{net_in}
 use Rattle.bundles.specs.NumberReading.{items_at, items-length, get_d_items}
-use Rattle.bundles.specs.PlaceReading.{place_size, fields_at, place_on, machine_place, place_means, place_inside}
+use Rattle.bundles.specs.PlaceReading.{place_size, fields_at, place_on, machine_place, place_means, place_inside, place_spot}
 use Rattle.bundles.specs.HeadReading.{HeadAt}
-use Rattle.bundles.specs.declared.Places.{Places}
+use Rattle.bundles.specs.declared.net.Net.{Net}
 
 -- of `count` places from `first` on, j are done, and `spot` is the offset of the next one
 pub record Next (n first count spot j : ℕ) : Type 0 where
@@ -40,20 +39,18 @@ module _ {n first count spot j : ℕ} (next : Next n first count spot j) (h : j 
 abbrev pub place_in : List ℕ → ℕ → Place
 place_in b j = get_or (net_in b) j no_place
 
-module _ {b : List ℕ} {n : ℕ} {ps : Places} (found : HeadAt b n ps) where
-  pub place_is : (j : ℕ) → j < ps.count → place_in b j ≡ place_on n b (ps.first + 2 * (j * place_size n))
+module _ {net : Net} (found : HeadAt net) (j : ℕ) (h : j < net.count) where
+  pub place_is : place_in net.bundle.now j ≡ place_on net.n net.bundle.now (place_spot net j)
   unfolding to_net
-  place_is j h =
+  place_is =
+      let n = net.n in
+      let b = net.bundle.now in
       let d = fields_at n b 0 in
-      let items = items_at (place_size n) (fields_at n) ps.count b ps.first in
+      let items = items_at (place_size n) (fields_at n) net.count b net.first in
       rw found.places
-      (get_d_map to_place items j d no_place (rw (items-length (place_size n) (fields_at n) ps.count b ps.first) h)
-      ∙ ap to_place (get_d_items (place_size n) (fields_at n) ps.count b ps.first j d h))
+      (get_d_map to_place items j d no_place (rw (items-length (place_size n) (fields_at n) net.count b net.first) h)
+      ∙ ap to_place (get_d_items (place_size n) (fields_at n) net.count b net.first j d h))
 
-  module _ {spot j : ℕ} (next : Next n ps.first ps.count spot j) (h : j < ps.count) where
-    -- the code's place there is place j of the net
-    pub next-is : {q : Declared.Place} → q ≡ machine_place (fields_at n b spot) → place_of q ≡ place_in b j
-    next-is e = next_place next h b e ∙ sym (place_is j h)
-
-    pub next-inside : (n ≤ max_events) × (spot + 2 * place_size n ≤ length b)
-    next-inside = (found.limits.1, next-there next h (length b) found.inside)
+  -- the code's place j is place j of the net
+  pub place_same : {q : Declared.Place} → q ≡ machine_place (fields_at net.n net.bundle.now (place_spot net j)) → place_of q ≡ place_in net.bundle.now j
+  place_same e = ap place_of e ∙ place_means (fields_at net.n net.bundle.now (place_spot net j)) ∙ sym place_is

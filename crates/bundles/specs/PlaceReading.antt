@@ -1,5 +1,5 @@
--- Places: their bytes, the code's struct, and what the code keeps of a list of places.
-use Rattle.std.specs.Prelude.{◌≡◌, Bool, cond, ◌⊎◌, List, [], ◌∷◌, ◌++◌, ℕ, suc, ◌+◌, ◌-◌, ◌*◌, ◌≤◌, ◌<◌, leb, length, get_or}
+-- Places: their bytes, the code's structs for one and for those of a bundle.
+use Rattle.std.specs.Prelude.{◌≡◌, Bool, cond, ◌⊎◌, List, [], ◌∷◌, ◌++◌, ℕ, suc, ◌+◌, ◌-◌, ◌*◌, ◌≤◌, ◌<◌, leb, length, get_or, Ok, Err}
 use Rattle.std.proofs.Math.Path.{refl, ap}
 use Rattle.std.proofs.Common.{sym, ◌∙◌, subst, inl, inr, ⊎_elim, append_assoc, mul-one, suc-mul, mul-le-mul_right, add-one, length-append}
 use Rattle.std.proofs.Math.Bool.{true, false}
@@ -18,15 +18,19 @@ use Rattle.refusals.specs.Results.{value, refused, bind}
 use Rattle.nets.specs.Nets as theory
 use Rattle.places.specs.Machine.{place_of}
 use Rattle.places.specs.declared.Place.{Place}
+use Rattle.std.specs.Borrow.{Bor}
+use Rattle.bundles.specs.Reading as reading
 use Rattle.bundles.specs.Reading.{Read, got, item, byte, number, times, onward}
 use Rattle.bundles.specs.Layout.{PlaceFields, to_place}
 use Rattle.bundles.specs.Readers.{anything, place, places}
 use Rattle.bundles.specs.FieldReading.{up_to, byte-got}
 use Rattle.bundles.specs.ReadingLaws.{and_then-got}
 use Rattle.bundles.specs.NumberReading.{Spans, spans_number, spans_give, spans_same, spans_then, spans_times, numbers_left, items_at, items-length, items_snoc, get_d_items}
-use Rattle.bundles.specs.declared.Places.{Places}
-use Rattle.bundles.specs.declared.PlacesRead.{PlacesRead}
-use Rattle.bundles.specs.declared.PlacesRead.TheVariants as places-read
+use Rattle.refusals.specs.Answers.{refusal}
+use Rattle.refusals.specs.declared.Refusal.{Refusal}
+use Rattle.bundles.specs.Chains.{ReadBy, read_got, read-refused, →got, →refused}
+use Rattle.bundles.specs.declared.Reader.{Reader}
+use Rattle.bundles.specs.declared.net.Net.{Net}
 
 -- ---- one place
 
@@ -153,13 +157,25 @@ module _ (n : ℕ) (b : List ℕ) (at : ℕ) where
 
 -- ---- the places of a bundle
 
--- what the code keeps of places that end at `next`: their count, the offset of the first, and the offset behind the last
-abbrev pub kept_places : ℕ → List PlaceFields → ℕ → Places
-kept_places n ps next = record { count = length ps; first = next - 2 * (length ps * place_size n); next = next }
+-- the offset of place j
+abbrev pub place_spot : Net → ℕ → ℕ
+place_spot net j = net.first + 2 * (j * place_size net.n)
 
-unfoldable pub places_read : ℕ → Read (List PlaceFields) → PlacesRead
-places_read n (value (item ps next)) = places-read.Read (kept_places n ps next)
-places_read n (refused number spot) = places-read.Refused (record { number = number; spot = spot })
+-- the offset behind the last place
+abbrev pub behind : Net → ℕ
+behind net = place_spot net net.count
+
+-- what the code keeps of places that end at `next`: the bundle and n, their count, and the offset of the first
+abbrev pub kept_places : Bor (List ℕ) → ℕ → List PlaceFields → ℕ → Net
+kept_places bundle n ps next = record { bundle = bundle; n = n; count = length ps; first = next - 2 * (length ps * place_size n) }
+
+unfoldable pub places_read : Bor (List ℕ) → ℕ → Read (List PlaceFields) → Read Net
+places_read bundle n (value (item ps next)) = got (kept_places bundle n ps next) next
+places_read bundle n (refused number spot) = refused number spot
+
+-- a reader of places, as the code keeps them
+abbrev pub placed : Bor (List ℕ) → ℕ → reading.Reader (List PlaceFields) → reading.Reader Net
+placed bundle n r b at = places_read bundle n (r b at)
 
 module _ (n : ℕ) (b : List ℕ) (at : ℕ) where
   pub places-failed : {number spot : ℕ} → byte (up_to max_places) b at ≡ refused number spot → places n b at ≡ refused number spot
@@ -175,12 +191,36 @@ module _ (n : ℕ) (b : List ℕ) (at : ℕ) where
     unfolding places bind onward
     places-there h = rw (e) ((spans_times (place_size n) (fields_at n) (spans_place n) count).there b first h)
 
-    pub places-kept : count * place_size n ≤ numbers_left b first → places_read n (places n b at) ≡ places-read.Read (record { count = count; first = first; next = first + 2 * (count * place_size n) })
+    pub places-kept : (bundle : Bor (List ℕ)) → count * place_size n ≤ numbers_left b first
+        → places_read bundle n (places n b at) ≡ got (record { bundle = bundle; n = n; count = count; first = first }) (first + 2 * (count * place_size n))
     unfolding places_read
-    places-kept h =
+    places-kept bundle h =
         let size = items-length (place_size n) (fields_at n) count b first in
         let start : first + 2 * (count * place_size n) - 2 * (count * place_size n) ≡ first = omega arith in
-        ap (places_read n) (places-there h) ∙ rw (size, start)
+        ap (places_read bundle n) (places-there h) ∙ rw (size, start)
+
+-- the code's places, behind their count
+module _ {old new : Reader} (n count : ℕ) (counted : ReadBy old new (Ok count) (byte (up_to max_places))) where
+  pub count-few : count ≤ max_places
+  count-few = leb-true count max_places (byte-got (up_to max_places) old.bytes.now old.at count new.at (read_got counted)).0
+
+  pub read-missing : numbers_left new.bytes.now new.at < count * place_size n
+      → ReadBy old new (Err (refusal bundle_end_number (new.at + 2 * numbers_left new.bytes.now new.at))) (placed old.bytes n (places n))
+  unfolding places_read
+  read-missing short =
+      let here = rw counted.bytes at short in
+      →refused counted.bytes (rw counted.bytes (ap (places_read old.bytes n) (places-missing n old.bytes.now old.at (read_got counted) here)))
+
+  pub read_kept : count * place_size n ≤ numbers_left new.bytes.now new.at
+      → ReadBy old (record new { at = new.at + 2 * (count * place_size n) }) (Ok (record { bundle = new.bytes; n = n; count = count; first = new.at }))
+      (placed old.bytes n (places n))
+  read_kept there =
+      let here = rw counted.bytes at there in
+      →got counted.bytes (rw counted.bytes (places-kept n old.bytes.now old.at (read_got counted) old.bytes here))
+
+pub read-uncounted : {old new : Reader} {e : Refusal} (n : ℕ) → ReadBy old new (Err e) (byte (up_to max_places)) → ReadBy old new (Err e) (placed old.bytes n (places n))
+unfolding places_read
+read-uncounted {old} n refuses = →refused refuses.bytes (ap (places_read old.bytes n) (places-failed n old.bytes.now old.at (read-refused refuses)))
 
 -- places that were read: so many, one behind the other
 pub record PlacesAt (n : ℕ) (b : List ℕ) (ps : List PlaceFields) (next : ℕ) : Type 0 where

@@ -1,12 +1,34 @@
--- Terms, as the code reads them.
-use Rattle.refusals.specs.Results.{refused}
-use Rattle.bundles.specs.Reading as Reading
-use Rattle.bundles.specs.Reading.{got}
+-- The fields of a certificate, as the code reads them.
+use Rattle.std.specs.Prelude.{◌≡◌, List, ℕ}
+use Rattle.std.proofs.Common.{refl}
+use Rattle.refusals.specs.Results.{bind}
+use Rattle.bundles.specs.Reading.{Reader, ◌>>=◌, give, byte, number, onward}
 use Rattle.bundles.specs.Layout.{TermFields}
-use Rattle.bundles.specs.declared.TermRead.{TermRead}
-use Rattle.bundles.specs.declared.TermRead.TheVariants.{Read, Refused}
+use Rattle.bundles.specs.Readers.{anything, term}
+use Rattle.bundles.specs.FieldReading.{below}
+use Rattle.bundles.specs.declared.terms.Term.{Term}
+use Rattle.bundles.specs.declared.terms.Kind.{Kind}
+use Rattle.bundles.specs.declared.terms.Kind.TheVariants.{Place, Weights}
 
--- a term as a reader's answer
-unfoldable pub term_read_of : TermRead → Reading.Read TermFields
-term_read_of (Read t next) = got (record { row = t.row; event = t.event; weight = t.weight }) next
-term_read_of (Refused r) = refused r.number r.spot
+-- the byte of a kind
+abbrev pub kind_number : Kind → ℕ
+kind_number Place = 0
+kind_number Weights = 1
+
+-- the fields of a term
+abbrev pub term_fields : Term → TermFields
+term_fields t = record { row = t.row; event = t.event; weight = t.weight }
+
+-- a term's fields behind its row, and behind its event
+abbrev pub made_term : ℕ → ℕ → ℕ → Reader TermFields
+made_term row event weight = give (record { row = row; event = event; weight = weight })
+
+abbrev pub behind_event : ℕ → ℕ → Reader TermFields
+behind_event row event = number anything >>= made_term row event
+
+abbrev pub behind_row : ℕ → ℕ → Reader TermFields
+behind_row n row = byte (below n) >>= behind_event row
+
+pub term_chain : (n rows : ℕ) (b : List ℕ) (at : ℕ) → term n rows b at ≡ (number (below rows) >>= behind_row n) b at
+unfolding term bind onward
+term_chain n rows b at = refl

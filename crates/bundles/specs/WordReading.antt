@@ -1,39 +1,27 @@
 -- Reading lists of fields in a loop, and the words of a log.
-use Rattle.std.specs.Prelude.{◌≡◌, Bool, true, false, cond, List, [], ◌∷◌, ◌++◌, leb, get_or, take, drop, replicate}
+use Rattle.std.specs.Prelude.{◌≡◌, Bool, true, false, cond, List, [], ◌∷◌, ◌++◌, leb, get_or, take, drop, replicate, ◌&&◌, Some, None, min}
 use Rattle.std.proofs.Math.Path.{refl, ap}
-use Rattle.std.proofs.Common.{sym, ap₂, ◌∙◌, subst, append-nil, append_assoc, not-suc-le-zero, length-append, length-take, length-drop, drop-cons, leb-true}
+use Rattle.std.proofs.Common.{sym, ap₂, ◌∙◌, subst, append-nil, append_assoc, not-suc-le-zero, length-append, length-take, length-drop, drop-cons, leb-true, ⊎_elim, add-one, drop_of_length-le, take_all, true≢false}
 use Prim.Native.Nat.{ℕ, zero, suc, ◌+◌, ◌-◌, ◌≤◌, ◌<◌}
 use native.Mathlib.Omega.{arith}
 use Rattle.std.proofs.Math.ListN.{length}
 use Rattle.std.proofs.lemmas.List.{length-replicate}
-use Rattle.laws.specs.Booleans.{impossible}
+use Rattle.laws.specs.Booleans.{impossible, lt_or_le}
+use Rattle.laws.specs.Lists.{all}
+use Rattle.laws.specs.Scans.{first_failing}
+use Rattle.nets.specs.Events.{first_bad}
+use Rattle.places.specs.Words.{bad_event, bad_event-none, bad_event-some}
 use Rattle.laws.specs.Every.{Every, every_last}
 use Rattle.limits.specs.Limits.{max_log_events}
-use Rattle.refusals.specs.Table.{events_number, rows_number}
+use Rattle.refusals.specs.Table.{events_number, rows_number, bundle_end_number, value_number}
 use Rattle.refusals.specs.Results.{value, refused, bind}
 use Rattle.nets.specs.Nets.{Word, Log, event_count}
 use Rattle.nets.specs.LogLaws.{event_count_snoc}
-use Rattle.bundles.specs.Reading.{Read, got, item, Reader, and_then, ◌>>◌, give, require, byte, each, times, following, onward}
+use Rattle.bundles.specs.Reading.{Read, got, item, Reader, and_then, ◌>>=◌, ◌>>◌, give, require, byte, each, times, following, onward}
 use Rattle.bundles.specs.Readers.{anything, any_rows, word_after, word}
-use Rattle.bundles.specs.ReadingLaws.{and_then-got, require-got}
-use Rattle.bundles.specs.FieldReading.{below, byte-got}
-
--- ---- a value made of what was read
-
-unfoldable pub map_read : {A B : Type 0} → (A → B) → Read A → Read B
-map_read f (value (item x next)) = got (f x) next
-map_read f (refused number spot) = refused number spot
-
-module _ {A B : Type 0} (f : A → B) where
-  pub map_read-got : (m : Read A) (y : B) (next : ℕ) → map_read f m ≡ got y next → (x : A) × (m ≡ got x next) × (f x ≡ y)
-  unfolding map_read
-  map_read-got (value (item x mid)) y next e = (x, (cc), (cc))
-  map_read-got (refused number spot) y next e = impossible cc
-
-  pub map_read-failed : (m : Read A) (number spot : ℕ) → map_read f m ≡ refused number spot → m ≡ refused number spot
-  unfolding map_read
-  map_read-failed (value (item x mid)) number spot e = impossible cc
-  map_read-failed (refused number' spot') number spot e = (cc)
+use Rattle.bundles.specs.ReadingLaws.{ranged, and_then-got, require-got}
+use Rattle.bundles.specs.FieldReading.{below, byte-got, byte-there, byte-missing}
+use Rattle.bundles.specs.Chains.{map_read}
 
 -- ---- lists of fields, as a loop reads them
 
@@ -76,6 +64,14 @@ give-again b (refused number spot) = refl
 pub word-any : (n : ℕ) (log : Log) (b : List ℕ) (at : ℕ) → word (λ l. true) n log b at ≡ word_after n (event_count log) b at
 unfolding word bind onward require
 word-any n log b at = give-again b (word_after n (event_count log) b at)
+
+-- what follows the length byte of a word that stands at `start`
+abbrev pub behind_size : ℕ → ℕ → ℕ → ℕ → Reader Word
+behind_size n count start size = require (leb (count + size) max_log_events) events_number start >> times size (byte (below n))
+
+pub word_chain : (n count : ℕ) (b : List ℕ) (at : ℕ) → word_after n count b at ≡ (byte anything >>= behind_size n count at) b at
+unfolding word_after bind onward
+word_chain n count b at = refl
 
 -- ---- sizes
 
@@ -123,6 +119,110 @@ each-byte p b (suc size) before at ys next h e =
             within = r.2.within;
           },
         )
+
+-- so many bytes that are all in a range, or fewer at the end of the bundle, or one of them that is not
+module _ (p : ℕ → Bool) (b : List ℕ) where
+  abbrev bytes_on : ℕ → List ℕ → ℕ → Read (List ℕ)
+  bytes_on size before at = each (λ (s : Unit {0}) items. byte p) (replicate size (tt {0})) before b at
+
+  byte_good : (at : ℕ) → at < length b → p (get_or b at 0) ≡ true → byte p b at ≡ got (get_or b at 0) (at + 1)
+  unfolding ranged
+  byte_good at h good = byte-there p b at h ∙ rw good
+
+  byte-bad : (at : ℕ) → at < length b → p (get_or b at 0) ≡ false → byte p b at ≡ refused value_number at
+  unfolding ranged
+  byte-bad at h bad = byte-there p b at h ∙ rw bad
+
+  part_cons : (k at : ℕ) → at < length b → take (suc k) (drop at b) ≡ get_or b at 0 ∷ take k (drop (at + 1) b)
+  part_cons k at h = ap (take (suc k)) (drop-cons b at 0 h) ∙ rw add-one
+
+  test_cons : (k at : ℕ) → at < length b → all p (take (suc k) (drop at b)) ≡ (p (get_or b at 0) && all p (take k (drop (at + 1) b)))
+  unfolding all
+  test_cons k at h = ap (all p) (part_cons k at h)
+
+  both : (x y : Bool) → (x && y) ≡ true → (x ≡ true) × (y ≡ true)
+  both true true e = (refl, refl)
+  both true false e = impossible cc
+  both false y e = impossible cc
+
+  all_good : (size : ℕ) (before : List ℕ) (at : ℕ) → at + size ≤ length b → all p (take size (drop at b)) ≡ true
+      → bytes_on size before at ≡ got (before ++ take size (drop at b)) (at + size)
+  unfolding each bind onward
+  all_good zero before at h good = ap₂ got (sym (append-nil before)) (omega arith)
+  all_good (suc k) before at h good =
+      let inside : at < length b = omega arith in
+      let here = both (p (get_or b at 0)) (all p (take k (drop (at + 1) b))) (sym (test_cons k at inside) ∙ good) in
+      rw (byte_good at inside here.0)
+      (all_good k (before ++ get_or b at 0 ∷ []) (at + 1) (omega arith) here.1
+      ∙ ap₂ got
+      (append_assoc before (get_or b at 0 ∷ []) (take k (drop (at + 1) b)) ∙ ap (λ (l : List ℕ). before ++ l) (sym (part_cons k at inside)))
+      (omega arith))
+
+  too-few : (size : ℕ) (before : List ℕ) (at : ℕ) → at ≤ length b → length b < at + size → all p (take size (drop at b)) ≡ true
+      → bytes_on size before at ≡ refused bundle_end_number (length b)
+  unfolding each bind onward
+  too-few zero before at h short good = absurd (omega arith)
+  too-few (suc k) before at h short good = ⊎_elim
+      (λ inside.
+      let test = both (p (get_or b at 0)) (all p (take k (drop (at + 1) b))) (sym (test_cons k at inside) ∙ good) in
+      rw (byte_good at inside test.0) (too-few k (before ++ get_or b at 0 ∷ []) (at + 1) (omega arith) (omega arith) test.1))
+      (λ past. let end : at ≡ length b = omega arith in rw (byte-missing p b at past) (ap (refused bundle_end_number) end))
+      (lt_or_le at (length b))
+
+  one-bad : (size : ℕ) (before : List ℕ) (at : ℕ) → all p (take size (drop at b)) ≡ false
+      → bytes_on size before at ≡ refused value_number (at + first_failing p (take size (drop at b)))
+  unfolding all each bind onward first_failing
+  one-bad zero before at bad = impossible cc
+  one-bad (suc k) before at bad = ⊎_elim
+      (λ inside. rw (part_cons k at inside) (step inside (p (get_or b at 0)) refl (one-bad k (before ++ get_or b at 0 ∷ []) (at + 1))))
+      (λ past. absurd (true≢false (rw (drop_of_length-le b past) at bad)))
+      (lt_or_le at (length b))
+    where
+      step : at < length b → (good : Bool) → p (get_or b at 0) ≡ good
+          → (all p (take k (drop (at + 1) b)) ≡ false
+          → bytes_on k (before ++ get_or b at 0 ∷ []) (at + 1) ≡ refused value_number (at + 1 + first_failing p (take k (drop (at + 1) b))))
+          → bytes_on (suc k) before at ≡ refused value_number (at + first_failing p (get_or b at 0 ∷ take k (drop (at + 1) b)))
+      step inside true good others =
+          let later : all p (take k (drop (at + 1) b)) ≡ false = rw good at (sym (test_cons k at inside) ∙ bad) in
+          rw (byte_good at inside good, good) (others later ∙ ap (refused value_number) (omega arith))
+      step inside false good others = rw (byte-bad at inside good, good) (ap (refused value_number) (omega arith))
+
+-- so many events, of which the code tests what the bundle has of them: those before `end`
+module _ (n size : ℕ) (b : List ℕ) (at end : ℕ) (inside : at ≤ length b) (ends : end ≡ min (length b) (at + size)) where
+  abbrev present : Word
+  present = take (end - at) (drop at b)
+
+  present_all : present ≡ take size (drop at b)
+  present_all = ⊎_elim
+      (λ fewer. let all : end - at ≡ length b - at = omega arith in
+      rw all (take_all (length b - at) (drop at b) (omega (arith, length-drop at b)) ∙ sym (take_all size (drop at b) (omega (arith, length-drop at b)))))
+      (λ there. let all : end - at ≡ size = omega arith in rw all)
+      (lt_or_le (length b) (at + size))
+
+  present-size : at + length present ≡ end
+  present-size = simp (length-take, length-drop) (omega arith)
+
+  pub events-good : size ≤ length present → None ≡ bad_event n present → times size (byte (below n)) b at ≡ got present end
+  events-good whole none =
+      all_good (below n) b size [] at (omega (arith, present-size)) (rw present_all at (bad_event-none n present none).0)
+      ∙ ap₂ got (sym present_all) (omega (arith, present-size))
+
+  pub events-few : length present < size → None ≡ bad_event n present → times size (byte (below n)) b at ≡ refused bundle_end_number end
+  events-few short none =
+      let last : length b ≡ end = omega (arith, present-size) in
+      too-few (below n) b size [] at inside (omega (arith, present-size)) (rw present_all at (bad_event-none n present none).0)
+      ∙ ap (refused bundle_end_number) last
+
+  pub events-bad : {bad : ℕ} → Some bad ≡ bad_event n present → times size (byte (below n)) b at ≡ refused value_number (at + bad)
+  unfolding first_bad
+  events-bad {bad} some =
+      let found = bad_event-some n present some in
+      one-bad (below n) b size [] at (rw present_all at found.2)
+      ∙ ap (λ (w : Word). refused value_number (at + first_bad n w)) (sym present_all)
+      ∙ ap (λ (i : ℕ). refused value_number (at + i)) (sym found.0)
+
+  pub bad-within : {bad : ℕ} → Some bad ≡ bad_event n present → at + bad < length b
+  bad-within some = omega (arith, present-size, (bad_event-some n present some).1)
 
 -- the bytes of x end at the offset `next`
 pub record EndsAt (b x : List ℕ) (next : ℕ) : Type 0 where
@@ -193,20 +293,18 @@ module _ (n : ℕ) (b : List ℕ) (at count : ℕ) where
   words-done {next} {events} {left} s h = let none : left ≡ 0 = omega arith in rw (s.same, none, rest-none, s.total)
 
   module _ {next events left : ℕ} (s : WordsLeft n b at count next events left) (more : 0 < left) where
-    pub words-failed : {number spot : ℕ} → map_read length (word_after n events b next) ≡ refused number spot → map_read event_count (following count (word (any_rows n) n) b at) ≡ refused number spot
+    pub words-failed : {number spot : ℕ} → word_after n events b next ≡ refused number spot → map_read event_count (following count (word (any_rows n) n) b at) ≡ refused number spot
     unfolding map_read
     words-failed {number} {spot} e =
-        ap (map_read event_count) (s.same ∙ rest-failed (word (any_rows n) n) b left s.log next number spot more (word-any n s.log b next ∙ rw s.total (map_read-failed length (word_after n events b next) number spot e)))
+        ap (map_read event_count) (s.same ∙ rest-failed (word (any_rows n) n) b left s.log next number spot more (word-any n s.log b next ∙ rw s.total e))
 
-    pub words-next : {size after : ℕ} → map_read length (word_after n events b next) ≡ got size after → WordsLeft n b at count after (events + size) (left - 1)
-    words-next {size} {after} e =
-        let w = map_read-got length (word_after n events b next) size after e in
-        record {
-          log = s.log ++ w.0 ∷ [];
-          total = event_count_snoc s.log w.0 ∙ rw (s.total, w.2);
-          limit = omega (arith, (word_got n events b next w.0 after w.1).limit, w.2);
-          same = s.same ∙ rest_more (word (any_rows n) n) b left s.log next w.0 after more (word-any n s.log b next ∙ rw s.total w.1);
-        }
+    pub words-next : {w : Word} {after : ℕ} → word_after n events b next ≡ got w after → WordsLeft n b at count after (events + length w) (left - 1)
+    words-next {w} {after} e = record {
+      log = s.log ++ w ∷ [];
+      total = event_count_snoc s.log w ∙ rw s.total;
+      limit = (word_got n events b next w after e).limit;
+      same = s.same ∙ rest_more (word (any_rows n) n) b left s.log next w after more (word-any n s.log b next ∙ rw s.total e);
+    }
 
 -- a word and the test behind it, for judging
 pub word-tested : (fits : Log → Bool) (n : ℕ) (log : Log) (b : List ℕ) (at : ℕ) (w : Word) (next : ℕ) → word_after n (event_count log) b at ≡ got w next

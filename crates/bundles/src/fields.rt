@@ -1,122 +1,69 @@
-// One field of a bundle at an offset: a byte, or a number of two bytes. All are inner functions.
-ghost use Rattle.std.specs.Prelude.{◌≡◌, leb};
+// One field of a bundle: a byte, or a number of two bytes. All are inner functions.
+ghost use Rattle.std.specs.Prelude.{◌≡◌, Bool, ℕ};
 ghost use Rattle.bundles.specs.Reading.{byte, number};
 ghost use Rattle.bundles.specs.Readers.{anything};
-ghost use Rattle.bundles.specs.FieldReading.{read_of, between, up_to, below};
+ghost use Rattle.bundles.specs.Chains.{ReadBy, Decides};
 ghost use Rattle.bundles.specs.NumberReading.{numbers_left};
-ghost use Rattle.bundles.specs.ReadingLaws.{ranged};
 
-use crate::Field;
-use refusals::{BUNDLE_END, Refusal, VALUE};
-use slices::{byte_at, number_at};
+use crate::Reader;
+use refusals::{Cause, Refusal};
+use slices::number_at;
 
-// A value of a field from `at` to `next`, where it is in range.
-fn checked(value: usize, at: usize, next: usize, in_range: bool) -> Field
-    ensures { read_of result ≡ ranged (λ x. in_range) value at next }
-{
-    if in_range {
-        return Field::Value(value, next);
+impl<'a> Reader<'a> {
+    // Any byte.
+    #[inline(always)]
+    pub fn any_byte(&mut self) -> Result<u8, Refusal>
+        ensures { ReadBy self.old self.new result (byte anything) }
+    {
+        let at = self.at;
+        let Some(byte) = self.bytes.get(at) else {
+            return Err(Cause::BundleEnd.at(at));
+        };
+        self.at += 1;
+        Ok(*byte)
     }
-    Field::Refused(Refusal {
-        number: VALUE,
-        spot: at,
-    })
-}
 
-// Any byte, at an offset.
-pub fn any_byte(bundle: &[u8], at: usize) -> Field
-    ensures { read_of result ≡ byte anything bundle.now at }
-{
-    if bundle.len() <= at {
-        return Field::Refused(Refusal {
-            number: BUNDLE_END,
-            spot: at,
-        });
+    // A byte that passes a test.
+    #[inline(always)]
+    pub fn byte<F: Fn(u8) -> bool>(&mut self, in_range: F) -> Result<u8, Refusal>
+        requires { F.IsAlwaysCallable in_range }
+        ensures { (p : ℕ → Bool) → Decides 256 (F.post in_range) p → ReadBy self.old self.new result (byte p) }
+    {
+        let at = self.at;
+        let byte = self.any_byte()?;
+        in_range(byte).then_some(byte).ok_or(Cause::Value.at(at))
     }
-    Field::Value(byte_at(bundle, at), at + 1)
-}
 
-// A byte below `end`.
-pub fn byte_below(bundle: &[u8], at: usize, end: usize) -> Field
-    ensures { read_of result ≡ byte (below end) bundle.now at }
-{
-    let byte = any_byte(bundle, at);
-    let Field::Value(value, next) = byte else {
-        return byte;
-    };
-    checked(value, at, next, value < end)
-}
-
-// A byte that is at most `most`.
-pub fn byte_up_to(bundle: &[u8], at: usize, most: usize) -> Field
-    ensures { read_of result ≡ byte (up_to most) bundle.now at }
-{
-    let byte = any_byte(bundle, at);
-    let Field::Value(value, next) = byte else {
-        return byte;
-    };
-    checked(value, at, next, value <= most)
-}
-
-// Whether a value is from `low` to `most`.
-fn is_between(low: usize, most: usize, value: usize) -> bool
-    ensures { result ≡ between low most value }
-{
-    low <= value && value <= most
-}
-
-// A byte from `low` to `most`.
-pub fn byte_between(bundle: &[u8], at: usize, low: usize, most: usize) -> Field
-    ensures { read_of result ≡ byte (between low most) bundle.now at }
-{
-    let byte = any_byte(bundle, at);
-    let Field::Value(value, next) = byte else {
-        return byte;
-    };
-    checked(value, at, next, is_between(low, most, value))
-}
-
-// How many whole numbers stand from an offset on.
-pub fn numbers_left(bundle: &[u8], at: usize) -> usize
-    ensures { result ≡ numbers_left bundle.now at }
-{
-    if bundle.len() < at {
-        return 0;
+    // How many whole numbers are left.
+    pub(crate) fn numbers_left(&self) -> usize
+        ensures { result ≡ numbers_left self.now.bytes.now self.now.at }
+    {
+        self.bytes.len().saturating_sub(self.at) / 2
     }
-    (bundle.len() - at) / 2
-}
 
-// Any two-byte number, at an offset.
-pub fn any_number(bundle: &[u8], at: usize) -> Field
-    ensures { read_of result ≡ number anything bundle.now at }
-{
-    if numbers_left(bundle, at) < 1 {
-        return Field::Refused(Refusal {
-            number: BUNDLE_END,
-            spot: at,
-        });
+    // Any two-byte number.
+    #[inline(always)]
+    pub fn any_number(&mut self) -> Result<u16, Refusal>
+        ensures { ReadBy self.old self.new result (number anything) }
+    {
+        let at = self.at;
+        if self.numbers_left() < 1 {
+            return Err(Cause::BundleEnd.at(at));
+        }
+        self.at += 2;
+        Ok(number_at(self.bytes, at))
     }
-    Field::Value(number_at(bundle, at), at + 2)
-}
 
-// A two-byte number below `end`.
-pub fn number_below(bundle: &[u8], at: usize, end: usize) -> Field
-    ensures { read_of result ≡ number (below end) bundle.now at }
-{
-    let number = any_number(bundle, at);
-    let Field::Value(value, next) = number else {
-        return number;
-    };
-    checked(value, at, next, value < end)
-}
-
-// A two-byte number that is at least `low`.
-pub fn number_from(bundle: &[u8], at: usize, low: usize) -> Field
-    ensures { read_of result ≡ number (leb low) bundle.now at }
-{
-    let number = any_number(bundle, at);
-    let Field::Value(value, next) = number else {
-        return number;
-    };
-    checked(value, at, next, low <= value)
+    // A two-byte number that passes a test. No twin of `byte` by a type: one function of both would be longer than the two.
+    #[inline(always)]
+    pub fn number<F: Fn(u16) -> bool>(&mut self, in_range: F) -> Result<u16, Refusal>
+        requires { F.IsAlwaysCallable in_range }
+        ensures { (p : ℕ → Bool) → Decides 65536 (F.post in_range) p → ReadBy self.old self.new result (number p) }
+    {
+        let at = self.at;
+        let number = self.any_number()?;
+        in_range(number)
+            .then_some(number)
+            .ok_or(Cause::Value.at(at))
+    }
 }

@@ -1,39 +1,70 @@
-// The places of a net. Any two bytes are a number, so they are there when so many numbers are. All are inner
-// functions.
-ghost use Rattle.std.specs.Prelude.{◌≡◌, cond, ◌+◌, ◌*◌, ◌≤◌, ltb, length};
+// The places of a net. Any two bytes are a number, so they are there when so many numbers are. All are inner functions.
+ghost use Rattle.std.specs.Prelude.{◌≡◌, cond, ◌+◌, ◌*◌, ◌≤◌, ◌<◌, ltb, length};
+ghost use Rattle.laws.specs.Numbers.{number_at};
 ghost use Rattle.limits.specs.Limits.{max_events};
+ghost use Rattle.nets.specs.Nets.{place_permits};
 ghost use Rattle.bundles.specs.Readers.{places};
-ghost use Rattle.bundles.specs.PlaceReading.{place_size, numbers_at, fields_at, widened, machine_place, places_read};
+ghost use Rattle.bundles.specs.Chains.{ReadBy};
+ghost use Rattle.bundles.specs.PlaceReading.{place_size, numbers_at, fields_at, widened, machine_place, place_on, placed, place_spot};
+ghost use Rattle.bundles.specs.HeadReading.{HeadAt};
+ghost use Rattle.bundles.specs.NextPlace.{place_in};
 
-use crate::fields::{byte_up_to, numbers_left};
-use crate::{Field, Places, PlacesRead};
+use crate::Reader;
 use limits::{MAX_EVENTS, MAX_PLACES};
-use places::Place;
-use refusals::{BUNDLE_END, Refusal};
+use places::{Place, covers, gain};
+use refusals::{Cause, Refusal};
 use slices::number_at;
+
+// The places of a bundle over n events: how many they are, and the offset of the first. `HeadAt` is a clause and no ghost field: `Reader::places`
+// makes a net before it is known that what was read is the bundle's head.
+#[derive(Clone, Copy)]
+pub struct Net<'a> {
+    pub bundle: &'a [u8],
+    pub n: u8,
+    pub count: usize,
+    pub first: usize,
+}
+
+impl<'a> Reader<'a> {
+    // The place count, and the places of n events behind it.
+    #[inline(always)]
+    pub fn places(&mut self, n: u8) -> Result<Net<'a>, Refusal>
+        requires { n ≤ max_events }
+        ensures { ReadBy self.old self.new result (placed self.old.bytes n (places n)) }
+    {
+        let count = usize::from(self.byte(|k| usize::from(k) <= MAX_PLACES)?);
+        let first = self.at;
+        let left = self.numbers_left();
+        let numbers = count * (1 + 2 * usize::from(n));
+        if left < numbers {
+            return Err(Cause::BundleEnd.at(first + 2 * left));
+        }
+        self.at = first + 2 * numbers;
+        Ok(Net {
+            bundle: self.bytes,
+            n,
+            count,
+            first,
+        })
+    }
+}
 
 // A number of event i, or zero where there are only n events.
 fn kept(number: u16, i: usize, n: usize) -> u16
     ensures { result ≡ cond (ltb i n) number 0 }
 {
-    if i < n {
-        return number;
-    }
-    0
+    if i < n { number } else { 0 }
 }
 
 // The numbers of n events from an offset on; zero from n on. Twelve numbers stand behind it, of which the first n are kept: a loop of n turns
-// becomes calls that copy and clear memory, which take longer than a row does.
+// becomes calls that copy and clear memory, which take longer than a row does. An index, since it is the offset, too; so in `permits_at`.
 fn row_within(bundle: &[u8], at: usize, n: usize) -> [u16; MAX_EVENTS]
     requires { (n ≤ max_events) × (at + 2 * max_events ≤ length bundle.now) }
     ensures { result ≡ widened (numbers_at n bundle.now at) }
 {
     let mut row = [0u16; MAX_EVENTS];
-    let mut i = 0;
-    while i < MAX_EVENTS {
-        let number = number_at(bundle, at + 2 * i) as u16;
-        row[i] = kept(number, i, n);
-        i += 1;
+    for i in 0..MAX_EVENTS {
+        row[i] = kept(number_at(bundle, at + 2 * i), i, n);
     }
     row
 }
@@ -44,15 +75,14 @@ fn row_at_end(bundle: &[u8], at: usize, n: usize) -> [u16; MAX_EVENTS]
     ensures { result ≡ widened (numbers_at n bundle.now at) }
 {
     let mut row = [0u16; MAX_EVENTS];
-    let mut i = 0;
-    while i < n {
-        row[i] = number_at(bundle, at + 2 * i) as u16;
-        i += 1;
+    for i in 0..n {
+        row[i] = number_at(bundle, at + 2 * i);
     }
     row
 }
 
-// The same, anywhere in a bundle.
+// The same, anywhere in a bundle. No struct has these parameters: it would be made for one call.
+#[inline(always)]
 fn row_at(bundle: &[u8], at: usize, n: usize) -> [u16; MAX_EVENTS]
     requires { (n ≤ max_events) × (at + 2 * n ≤ length bundle.now) }
     ensures { result ≡ widened (numbers_at n bundle.now at) }
@@ -63,42 +93,72 @@ fn row_at(bundle: &[u8], at: usize, n: usize) -> [u16; MAX_EVENTS]
     row_within(bundle, at, n)
 }
 
-// The place of n events at an offset.
-pub fn place_at(bundle: &[u8], at: usize, n: usize) -> Place
-    requires { (n ≤ max_events) × (at + 2 * place_size n ≤ length bundle.now) }
-    ensures { result ≡ machine_place (fields_at n bundle.now at) }
+// Whether the place at an offset permits the event after the counts. The tokens are added as `Place::tokens` does, but straight from the bytes, since
+// building a place costs more than this one test of it.
+#[inline(always)]
+fn permits_at(bundle: &[u8], at: usize, n: usize, counts: &[u16], event: usize) -> bool
+    requires { (n ≤ max_events)
+        × (event < n)
+        × (at + 2 * place_size n ≤ length bundle.now)
+        × (n ≤ length counts.now) }
+    ensures { result ≡ place_permits n (place_on n bundle.now at) (record { row = counts.now; event = event }) }
 {
-    let initial = number_at(bundle, at) as u16;
-    let produced = row_at(bundle, at + 2, n);
-    let consumed = row_at(bundle, at + 2 + 2 * n, n);
-    Place {
-        initial,
-        produced,
-        consumed,
+    let produced = at + 2;
+    let consumed = produced + 2 * n;
+    let mut tokens = i64::from(number_at(bundle, at));
+    for i in 0..n {
+        let put = number_at(bundle, produced + 2 * i);
+        let took = number_at(bundle, consumed + 2 * i);
+        tokens += gain(counts[i], put, took);
     }
+    covers(tokens, number_at(bundle, consumed + 2 * event))
 }
 
-// The place count at an offset, and the places of n events behind it.
-pub fn read_places(bundle: &[u8], at: usize, n: usize) -> PlacesRead
-    requires { n ≤ max_events }
-    ensures { result ≡ places_read n (places n bundle.now at) }
-{
-    match byte_up_to(bundle, at, MAX_PLACES) {
-        Field::Refused(refusal) => PlacesRead::Refused(refusal),
-        Field::Value(count, first) => {
-            let left = numbers_left(bundle, first);
-            let numbers = count * (1 + 2 * n);
-            if left < numbers {
-                return PlacesRead::Refused(Refusal {
-                    number: BUNDLE_END,
-                    spot: first + 2 * left,
-                });
-            }
-            PlacesRead::Read(Places {
-                count,
-                first,
-                next: first + 2 * numbers,
-            })
+impl<'a> Net<'a> {
+    // The offset of place j, or the one behind the last place.
+    #[inline(always)]
+    pub fn offset(&self, j: usize) -> usize
+        requires { HeadAt self.now × (j ≤ self.now.count) }
+        ensures { result ≡ place_spot self.now j }
+    {
+        self.first + 2 * (j * (1 + 2 * usize::from(self.n)))
+    }
+
+    // Place j.
+    #[inline(always)]
+    pub fn place(&self, j: usize) -> Place
+        requires { HeadAt self.now × (j < self.now.count) }
+        ensures { result ≡ machine_place (fields_at self.now.n self.now.bundle.now (place_spot self.now j)) }
+    {
+        let at = self.offset(j);
+        let n = usize::from(self.n);
+        Place {
+            initial: number_at(self.bundle, at),
+            produced: row_at(self.bundle, at + 2, n),
+            consumed: row_at(self.bundle, at + 2 + 2 * n, n),
         }
+    }
+
+    // The initial tokens of place j alone.
+    #[inline(always)]
+    pub fn initial(&self, j: usize) -> u16
+        requires { HeadAt self.now × (j < self.now.count) }
+        ensures { result ≡ number_at self.now.bundle.now (place_spot self.now j) }
+    {
+        number_at(self.bundle, self.offset(j))
+    }
+
+    // Whether place j permits the event after the counts.
+    pub fn permits(&self, j: usize, counts: &[u16], event: usize) -> bool
+        requires { HeadAt self.now × (j < self.now.count) × (self.now.n ≤ length counts.now) × (event < self.now.n) }
+        ensures { result ≡ place_permits self.now.n (place_in self.now.bundle.now j) (record { row = counts.now; event = event }) }
+    {
+        permits_at(
+            self.bundle,
+            self.offset(j),
+            usize::from(self.n),
+            counts,
+            event,
+        )
     }
 }

@@ -1,23 +1,57 @@
-// A term of a certificate with weights. (Inner function.)
-ghost use Rattle.std.specs.Prelude.{◌≡◌};
+// The fields of a certificate: its kind, and a term of its weights. All are inner functions.
+ghost use Rattle.std.specs.Prelude.{◌≡◌, leb};
+ghost use Rattle.bundles.specs.Reading.{byte};
 ghost use Rattle.bundles.specs.Readers.{term};
-ghost use Rattle.bundles.specs.TermReading.{term_read_of};
+ghost use Rattle.bundles.specs.Chains.{ReadAs};
+ghost use Rattle.bundles.specs.TermReading.{kind_number, term_fields};
 
-use crate::fields::{any_number, byte_below, number_below};
-use crate::{Field, Term, TermRead};
+use crate::Reader;
+use refusals::{Cause, Refusal};
 
-// The term at an offset, where there are so many rows and n events.
-pub fn read_term(bundle: &[u8], at: usize, n: usize, rows: usize) -> TermRead
-    ensures { term_read_of result ≡ term n rows bundle.now at }
-{
-    match number_below(bundle, at, rows) {
-        Field::Refused(refusal) => TermRead::Refused(refusal),
-        Field::Value(row, second) => match byte_below(bundle, second, n) {
-            Field::Refused(refusal) => TermRead::Refused(refusal),
-            Field::Value(event, third) => match any_number(bundle, third) {
-                Field::Refused(refusal) => TermRead::Refused(refusal),
-                Field::Value(weight, next) => TermRead::Read(Term { row, event, weight }, next),
-            },
-        },
+// What a certificate shows a wrong continuation by: a place that refuses it, or weights.
+#[derive(Clone, Copy)]
+pub enum Kind {
+    Place = 0,
+    Weights = 1,
+}
+
+impl From<Kind> for u8 {
+    ghost from_gives = { λ kind number. number ≡ kind_number kind };
+
+    fn from(kind: Kind) -> u8 {
+        kind as u8
+    }
+}
+
+// A term: the number of a row, an event and a weight.
+#[derive(Clone, Copy)]
+pub struct Term {
+    pub row: u16,
+    pub event: u8,
+    pub weight: u16,
+}
+
+impl<'a> Reader<'a> {
+    // The kind of a certificate. It is read here alone, and refused at its byte, so a `TryFrom` is no plainer.
+    #[inline(always)]
+    pub fn kind(&mut self) -> Result<Kind, Refusal>
+        ensures { ReadAs kind_number self.old self.new result (byte (λ kind. leb kind 1)) }
+    {
+        let at = self.at;
+        match self.any_byte()? {
+            0 => Ok(Kind::Place),
+            1 => Ok(Kind::Weights),
+            _ => Err(Cause::Value.at(at)),
+        }
+    }
+
+    // A term, where there are so many rows and n events.
+    pub fn term(&mut self, n: usize, rows: usize) -> Result<Term, Refusal>
+        ensures { ReadAs term_fields self.old self.new result (term n rows) }
+    {
+        let row = self.number(|row| usize::from(row) < rows)?;
+        let event = self.byte(|event| usize::from(event) < n)?;
+        let weight = self.any_number()?;
+        Ok(Term { row, event, weight })
     }
 }

@@ -1,24 +1,26 @@
 -- What reading the certificates of a bundle gives.
-use Rattle.std.specs.Prelude.{Bool, cond, List, [], ℕ, ◌+◌, ◌*◌, get_or}
+use Rattle.std.specs.Prelude.{Bool, not, List, [], ℕ, zero, suc, get_or, Ok, Err}
 use Rattle.refusals.specs.Table.{place_permits_number, weights_number}
-use Rattle.refusals.specs.Answers.{refusal}
+use Rattle.refusals.specs.Answers.{Answer, refusal}
 use Rattle.refusals.specs.Results.{value, refused}
-use Rattle.nets.specs.Nets.{Counts, Step, tally, place_permits}
-use Rattle.bundles.specs.Reading.{Read, item}
+use Rattle.nets.specs.Nets.{Step, tally, place_permits}
+use Rattle.bundles.specs.Reading.{Read, Reader, item, ◌>>=◌, ◌>>◌, give, require, byte}
 use Rattle.bundles.specs.Layout.{CertificateFields, kind0, kind1, Head, rows_in, to_bundle}
-use Rattle.bundles.specs.PlaceReading.{place_size, place_on}
+use Rattle.bundles.specs.Readers.{head_of, weights}
+use Rattle.bundles.specs.FieldReading.{up_to, below}
+use Rattle.bundles.specs.NextPlace.{place_in}
+use Rattle.bundles.specs.declared.terms.Kind.{Kind}
+use Rattle.bundles.specs.declared.terms.Kind.TheVariants.{Place, Weights}
 use Rattle.verdicts.specs.Judging.{tally_of}
-use Rattle.weights.specs.declared.Weighed.{Weighed}
-use Rattle.weights.specs.declared.Weighed.TheVariants as weighed
-use Rattle.certificates.specs.declared.Certified.{Certified}
-use Rattle.certificates.specs.declared.Certified.TheVariants as certified
-use Rattle.certificates.specs.declared.Checked.{Checked}
-use Rattle.certificates.specs.declared.Checked.TheVariants as checked
+use Rattle.verdicts.specs.declared.Tally.{Tally}
+use Rattle.weights.specs.Terms.{weighed_by}
+use Rattle.weights.specs.Steps.{counts_before, holds_for}
+use Rattle.weights.specs.declared.Step as certified
 
--- the certificates of the head h as a verdict's counts
-unfoldable pub certified_of : Head → Read (List CertificateFields) → Certified
-certified_of h (value (item cs next)) = certified.Read (tally_of (tally (to_bundle (record { head = h; certificates = cs })))) next
-certified_of h (refused number spot) = certified.Refused (refusal number spot)
+-- the certificates of the head h as a verdict's counts, and the offset behind the last
+unfoldable pub certified_of : Head → Read (List CertificateFields) → Answer (Tally × ℕ)
+certified_of h (value (item cs next)) = Ok (tally_of (tally (to_bundle (record { head = h; certificates = cs }))), next)
+certified_of h (refused number spot) = Err (refusal number spot)
 
 -- ---- one certificate
 
@@ -26,23 +28,28 @@ certified_of h (refused number spot) = certified.Refused (refusal number spot)
 abbrev pub step_of : Head → ℕ → ℕ → Step
 step_of h i e = record { row = get_or (rows_in h) i []; event = e }
 
--- a certificate that was read and solves its step
-unfoldable pub checked_of : Read CertificateFields → Checked
-checked_of (value (item (kind0 j) next)) = checked.ByPlace next
-checked_of (value (item (kind1 w) next)) = checked.ByWeights next
-checked_of (refused number spot) = checked.Refused (refusal number spot)
+-- the kind of a certificate
+unfoldable pub kind_in : CertificateFields → Kind
+kind_in (kind0 j) = Place
+kind_in (kind1 w) = Weights
 
--- place j of a bundle's places, the first at this offset, permits the event e after the counts v
-abbrev pub permits_at : ℕ → List ℕ → ℕ → Counts → ℕ → ℕ → Bool
-permits_at n b first v e j = place_permits n (place_on n b (first + 2 * (j * place_size n))) (record { row = v; event = e })
+-- place j of the net permits the step
+abbrev pub permits_for : certified.Step → ℕ → Bool
+permits_for s j = place_permits s.head.now.net.n (place_in s.head.now.net.bundle.now j) (record { row = counts_before s; event = s.event })
 
--- a place's number that was read, with a test whether the place permits the step
-unfoldable pub place_checked : (ℕ → Bool) → ℕ → Read ℕ → Checked
-place_checked permitted number (value (item j next)) = cond (permitted j) (checked.Refused (refusal place_permits_number number)) (checked.ByPlace next)
-place_checked permitted number (refused cause spot) = checked.Refused (refusal cause spot)
+-- a place's number, whose place refuses the step; the certificate has so many before it
+abbrev pub place_checked : certified.Step → ℕ → Reader (Unit {0})
+place_checked s number = byte (below s.head.now.net.count) >>= λ j. require (not (permits_for s j)) place_permits_number number
 
--- weights that were read
-unfoldable pub weights_checked : ℕ → Weighed → Checked
-weights_checked number (weighed.Holds next) = checked.ByWeights next
-weights_checked number (weighed.Fails next) = checked.Refused (refusal weights_number number)
-weights_checked number (weighed.Refused r) = checked.Refused r
+-- weights, which hold for the step
+abbrev pub weights_checked : certified.Step → ℕ → Reader (Unit {0})
+weights_checked s number = weighed_by (holds_for s) (weights (head_of s.head.now.net.bundle.now)) >>= λ holds. require holds weights_number number
+
+-- what follows the kind
+unfoldable pub of_kind_checked : certified.Step → ℕ → ℕ → Reader Kind
+of_kind_checked s number zero = place_checked s number >> give Place
+of_kind_checked s number (suc _) = weights_checked s number >> give Weights
+
+-- a certificate, which solves the step
+abbrev pub certificate_checked : certified.Step → ℕ → Reader Kind
+certificate_checked s number = byte (up_to 1) >>= of_kind_checked s number

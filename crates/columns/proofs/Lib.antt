@@ -1,2 +1,3 @@
 -- Laws that several proofs of `columns` cite.
 pub mod Moderate
+pub mod Ranges

@@ -1,3 +1,4 @@
 pub mod RowFits
 pub mod Matrix
+pub mod Markings
 pub mod MatrixLaws

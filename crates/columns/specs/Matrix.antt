@@ -1,13 +1,13 @@
--- The places of a bundle side by side. A matrix has a column for each place and a row for each of its numbers: m, in(i) for twelve events,
+-- The places of a net side by side. A matrix has a column for each place and a row for each of its numbers: m, in(i) for twelve events,
 -- out(i) for twelve events. Beside it stands a list with the tokens of each place after given counts.
-use Rattle.std.specs.Prelude.{◌≡◌, List, ℕ, ◌+◌, ◌*◌, ◌≤◌, ◌<◌, T, ℤ, pos, ◌+ℤ◌, ◌-ℤ◌, ◌*ℤ◌, length, get_or}
+use Rattle.std.specs.Prelude.{◌≡◌, List, [], ℕ, ◌+◌, ◌*◌, ◌≤◌, ◌<◌, T, ℤ, pos, ◌+ℤ◌, ◌-ℤ◌, ◌*ℤ◌, length, get_or, replicate}
 use Rattle.std.proofs.Math.IntN.{sub_ℕ}
 use Rattle.std.specs.Int.Signed.{non_neg}
 use Rattle.limits.specs.Limits.{max_events, max_places}
 use Rattle.nets.specs.Nets.{Place, Counts, tokens as tokens_after}
-use Rattle.nets.specs.Surplus.{given, taken}
 use Rattle.places.specs.Machine.{Held}
 use Rattle.bundles.specs.NextPlace.{place_in}
+use Rattle.columns.specs.declared.Matrix.{Matrix}
 
 -- ---- The matrix
 
@@ -15,26 +15,25 @@ use Rattle.bundles.specs.NextPlace.{place_in}
 abbrev pub matrix_width : ℕ
 matrix_width = max_places
 
--- its numbers: 25 rows
-abbrev pub matrix_size : ℕ
-matrix_size = matrix_width * (1 + 2 * max_events)
+-- so many columns are taken at a time
+abbrev pub block_width : ℕ
+block_width = 8
 
--- a matrix, and tokens for its first `count` columns
-pub record Sides (count : ℕ) (t : List ℤ) (m : List ℕ) : Type 0 where
-  pub columns : count ≤ matrix_width
-  pub tokens : count ≤ length t
-  pub matrix : matrix_size ≤ length m
+-- the matrix of zeros
+abbrev pub clear_matrix : Matrix
+clear_matrix = record {
+  initial = replicate matrix_width 0;
+  produced = replicate max_events (replicate matrix_width 0);
+  consumed = replicate max_events (replicate matrix_width 0);
+}
 
--- where the rows of in(e) and out(e) start
-abbrev pub in_row : ℕ → ℕ
-in_row e = matrix_width * (1 + e)
-
-abbrev pub out_row : ℕ → ℕ
-out_row e = matrix_width * (13 + e)
+-- the number of column j in row e of a part of a matrix
+abbrev pub number : List (List ℕ) → ℕ → ℕ → ℕ
+number rows e j = get_or (get_or rows e []) j 0
 
 -- the place of column j
-abbrev pub column : List ℕ → ℕ → Place
-column m j = record { initial = get_or m j 0; produced = λ e. get_or m (in_row e + j) 0; consumed = λ e. get_or m (out_row e + j) 0 }
+abbrev pub column : Matrix → ℕ → Place
+column m j = record { initial = get_or m.initial j 0; produced = λ e. number m.produced e j; consumed = λ e. number m.consumed e j }
 
 -- two places have the same numbers for the events that a row counts
 pub record SamePlace (p q : Place) : Type 0 where
@@ -49,46 +48,38 @@ abbrev pub Moderate : ℕ → List ℤ → Type 0
 Moderate count t = (j : ℕ) → j < count → Held (get_or t j (pos 0))
 
 -- t has the tokens after the counts v of the first `count` columns
-pub record Marking (count : ℕ) (m : List ℕ) (t : List ℤ) (v : Counts) : Type 0 where
+pub record Marking (count : ℕ) (m : Matrix) (t : List ℤ) (v : Counts) : Type 0 where
   pub tokens : (j : ℕ) → j < count → get_or t j (pos 0) ≡ tokens_after max_events (column m j) v
 
--- the tokens cover what the row at an offset takes: the surplus is 0 or more in each column
-abbrev pub Covered : ℕ → List ℕ → List ℤ → ℕ → Type 0
-Covered count m t row = (j : ℕ) → j < count → T (non_neg (get_or t j (pos 0) -ℤ pos (get_or m (row + j) 0)))
+-- the tokens cover what a row takes: the surplus is 0 or more in each column
+abbrev pub Covered : ℕ → List ℤ → List ℕ → Type 0
+Covered count t row = (j : ℕ) → j < count → T (non_neg (get_or t j (pos 0) -ℤ pos (get_or row j 0)))
 
--- tokens, and two rows of a matrix whose differences may be added to them
-pub record Shiftable (count : ℕ) (t : List ℤ) (m : List ℕ) (plus minus : ℕ) : Type 0 where
-  pub tokens : count ≤ length t
-  pub held : Moderate count t
-  pub more : plus + count ≤ length m
-  pub less : minus + count ≤ length m
+-- tokens of columns, to which differences of rows may be added
+pub record Shiftable (t : List ℤ) : Type 0 where
+  pub columns : length t ≤ matrix_width
+  pub held : Moderate (length t) t
 
--- the tokens t' of the first `count` columns, which were t, with `times` the row at `plus` more and `times` the row at `minus` less
-abbrev pub Shifted : ℕ → List ℕ → List ℤ → List ℤ → ℕ → ℕ → ℕ → Type 0
-Shifted count m t t' plus minus times = (j : ℕ) → j < count
-    → get_or t' j (pos 0) ≡ get_or t j (pos 0) +ℤ pos times *ℤ (pos (get_or m (plus + j) 0) -ℤ pos (get_or m (minus + j) 0))
+-- tokens t of column j, with `times` the row `plus` more and `times` the row `minus` less
+abbrev pub shifted : List ℕ → List ℕ → ℕ → ℕ → ℤ → ℤ
+shifted plus minus times j t = t +ℤ pos times *ℤ (pos (get_or plus j 0) -ℤ pos (get_or minus j 0))
 
--- the tokens t' of the first `count` columns, which were t, where event i goes from x to y occurrences
-abbrev pub Recounted : ℕ → List ℕ → List ℤ → List ℤ → ℕ → ℕ → ℕ → Type 0
-Recounted count m t t' i x y = (j : ℕ) → j < count
-    → get_or t' j (pos 0) ≡ get_or t j (pos 0) +ℤ sub_ℕ (y * get_or m (in_row i + j) 0 + x * get_or m (out_row i + j) 0) (y * get_or m (out_row i + j) 0 + x * get_or m (in_row i + j) 0)
+-- the tokens t' of the first `count` columns, which were t
+abbrev pub Shifted : ℕ → List ℕ → List ℕ → List ℤ → List ℤ → ℕ → Type 0
+Shifted count plus minus t t' times = (j : ℕ) → j < count → get_or t' j (pos 0) ≡ shifted plus minus times j (get_or t j (pos 0))
+
+-- the tokens t' of the first `count` columns, which were t, where the event that puts so many there and takes so many goes from x to y occurrences
+abbrev pub Recounted : ℕ → List ℕ → List ℕ → List ℤ → List ℤ → ℕ → ℕ → Type 0
+Recounted count produced consumed t t' x y = (j : ℕ) → j < count
+    → get_or t' j (pos 0)
+    ≡ get_or t j (pos 0) +ℤ sub_ℕ (y * get_or produced j 0 + x * get_or consumed j 0) (y * get_or consumed j 0 + x * get_or produced j 0)
 
 -- the matrix m' is m but for column j
-abbrev pub Beside : List ℕ → List ℕ → ℕ → Type 0
-Beside m m' j = (x k : ℕ) → k < matrix_width → (k ≡ j → ⊥) → get_or m' (matrix_width * x + k) 0 ≡ get_or m (matrix_width * x + k) 0
+pub record Beside (m m' : Matrix) (j : ℕ) : Type 0 where
+  pub initial : (k : ℕ) → (k ≡ j → ⊥) → get_or m'.initial k 0 ≡ get_or m.initial k 0
+  pub produced : (e k : ℕ) → (k ≡ j → ⊥) → number m'.produced e k ≡ number m.produced e k
+  pub consumed : (e k : ℕ) → (k ≡ j → ⊥) → number m'.consumed e k ≡ number m.consumed e k
 
 -- the first `count` columns have the places of a bundle
-pub record Filled (b m : List ℕ) (count : ℕ) : Type 0 where
+pub record Filled (b : List ℕ) (m : Matrix) (count : ℕ) : Type 0 where
   pub places : (j : ℕ) → j < count → SamePlace (column m j) (place_in b j)
-
--- the tokens after the counts of `row` below i, and those of `before` from i on, as a difference of two numbers. What the counts of `before`
--- below i put there and took stands on the other side, so that neither number is a difference
-abbrev pub put_between : Place → Counts → Counts → ℕ → ℕ
-put_between p before row i = given i p row + given max_events p before + taken i p before
-
-abbrev pub took_between : Place → Counts → Counts → ℕ → ℕ
-took_between p before row i = taken i p row + taken max_events p before + given i p before
-
--- t has the tokens after these counts
-pub record Between (count : ℕ) (m : List ℕ) (t : List ℤ) (before row : Counts) (i : ℕ) : Type 0 where
-  pub tokens : (j : ℕ) → j < count → get_or t j (pos 0) ≡ sub_ℕ (put_between (column m j) before row i) (took_between (column m j) before row i)

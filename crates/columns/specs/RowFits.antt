@@ -1,10 +1,13 @@
 -- Whether a place fits the rows of a table: it permits the events of each row's mask after the row's counts.
-use Rattle.std.specs.Prelude.{◌≡◌, Bool, true, false, not, ◌&&◌, ◌||◌, List, ℕ, ◌+◌, ◌-◌, ◌*◌, ◌≤◌, ◌<◌, ℤ, pos, ◌-ℤ◌, length, take, drop}
+use Rattle.std.specs.Prelude.{◌≡◌, Bool, true, false, not, ◌&&◌, ◌||◌, List, ℕ, ◌+◌, ◌*◌, ◌≤◌, ◌<◌, ℤ, pos, ◌-ℤ◌, length, get_or, take, drop, ◌↔◌, MatchBool}
 use Rattle.std.proofs.Math.Path.{refl}
-use Rattle.std.proofs.Common.{sym, ap, ◌∙◌, arith, length-drop, drop_of_length-le, take_all, get_or-take}
+use Rattle.std.proofs.Common.{sym, ap, ◌∙◌, arith, drop_of_length-le, get_or-take}
+use Rattle.std.proofs.lemmas.Bool.{false≢true}
 use Rattle.std.specs.Int.Signed.{non_neg}
 use Rattle.laws.specs.Bits.{bit}
+use Rattle.laws.specs.Booleans.{fails-exactly}
 use Rattle.laws.specs.Lists.{all, all-next, tabulate}
+use Rattle.laws.specs.Scans.{all-exactly}
 use Rattle.limits.specs.Limits.{max_events}
 use Rattle.nets.specs.Nets.{Place, tokens, surplus, place_permits}
 use Rattle.nets.specs.Surplus.{tokens-row}
@@ -23,18 +26,12 @@ fits_rows p rs = all (row_fits p) rs
 pub tokens-front : (p : Place) (t : List ℕ) → tokens max_events p t ≡ tokens max_events p (take max_events t)
 tokens-front p t = tokens-row max_events p t (take max_events t) (λ i b. sym (get_or-take max_events t i 0 b))
 
-pub permits-front : (p : Place) (t : List ℕ) (e : ℕ) → place_permits max_events p (record { row = t; event = e }) ≡ place_permits max_events p (record { row = take max_events t; event = e })
+pub permits-front : (p : Place) (t : List ℕ) (e : ℕ)
+    → place_permits max_events p (record { row = t; event = e }) ≡ place_permits max_events p (record { row = take max_events t; event = e })
 unfolding place_permits surplus
 permits-front p t e = ap (λ (z : ℤ). non_neg (z -ℤ pos (p.consumed e))) (tokens-front p t)
 
 -- ---- the rows
-
--- the part of a list from an index on
-abbrev pub part : List ℕ → ℕ → List ℕ
-part l k = take (length l - k) (drop k l)
-
-pub part-is : (l : List ℕ) (k : ℕ) → part l k ≡ drop k l
-part-is l k = take_all (length l - k) (drop k l) (omega (arith, length-drop k l))
 
 module _ (p : Place) (k : ℕ) (t : List ℕ) where
   -- a loop over the rows that found no misfit below r
@@ -52,12 +49,35 @@ module _ (p : Place) (k : ℕ) (t : List ℕ) where
         ∙ all-next (row_fits p) (rows_of k t) r (row_at t) (rw length-rows h)
         ∙ ap (λ (x : Row). row_fits p x && all (row_fits p) (drop (r + 1) (rows_of k t))) (rows_at k t r (row_at t) h)
 
-    pub rows-stop : row_fits p (row_at (drop (row_size * r) t)) ≡ false → fits_rows p (rows_of k t) ≡ false
-    rows-stop e = rows_step ∙ rw e
-
     pub rows_next : row_fits p (row_at (drop (row_size * r) t)) ≡ true → RowsBelow (r + 1)
     rows_next e = rows_step ∙ rw e
 
   pub rows_end : (r : ℕ) → k ≤ r → RowsBelow r → fits_rows p (rows_of k t) ≡ true
   unfolding all
   rows_end r h inv = inv ∙ rw (drop_of_length-le (rows_of k t) {i = r} (rw length-rows h))
+
+  -- what the test of row i says
+  abbrev pub RowTested : ℕ → Bool → Type 0
+  RowTested i r = row_fits p (row_at (drop (row_size * i) t)) ≡ r
+
+  -- the tests of the rows decide: each passes, or there is one that fails
+  abbrev RowsTested : Bool → Type 0
+  RowsTested r = MatchBool r ((i : ℕ) → i < k → RowTested i true) ((i : ℕ) × (i < k) × RowTested i false)
+
+  pub rows_decide : (r : Bool) → RowsTested r → r ≡ fits_rows p (rows_of k t)
+  unfolding fits_rows
+  rows_decide r tested = go r tested
+    where
+      rows : List Row
+      rows = rows_of k t
+
+      each : (all (row_fits p) rows ≡ true) ↔ ((i : ℕ) → i < length rows → row_fits p (get_or rows i (row_at t)) ≡ true)
+      each = all-exactly (row_fits p) (row_at t) rows
+
+      at : (i : ℕ) → i < k → row_fits p (get_or rows i (row_at t)) ≡ row_fits p (row_at (drop (row_size * i) t))
+      at i h = ap (row_fits p) (rows_at k t i (row_at t) h)
+
+      go : (b : Bool) → RowsTested b → b ≡ all (row_fits p) rows
+      go true h = sym (each.1 (λ i b. let few : i < k = omega (arith, length-rows k t) in at i few ∙ h i few))
+      go false (i, few, fails) =
+          sym ((fails-exactly (all (row_fits p) rows) each).1 (λ fit. false≢true (sym fails ∙ sym (at i few) ∙ fit i (rw length-rows few))))

@@ -2,59 +2,37 @@
 // bytes are known; which bytes standard input and output hold, no contract can say.
 #![tactic(auto)]
 
-ghost use Rattle.std.specs.Prelude.{◌≡◌, ◌-◌, ◌≤◌, length, take, drop};
-ghost use Rattle.std.specs.Bool.{OnTrue};
+ghost use Rattle.std.specs.Prelude.{◌≡◌, length, OnOk};
+ghost use Rattle.std.specs.Bool.{OnFalse};
 ghost use Rattle.std.specs.Io.KnownBytes.{Appends};
-ghost use Rattle.console.specs.Inputs.{Within, Next, Whole};
+ghost use Rattle.console.specs.Inputs.{Within, Whole};
 
 use std::env::FillError;
 use std::io::{self, Read, Write};
 use std::rt::Env;
 
-// What was read: so many bytes, or a read that failed, and why.
-#[derive(Drop)]
-pub enum Input {
-    Bytes(usize),
-    Failed(io::Error),
-}
-
-// One read to the buffer from an offset on: how many bytes came, 0 at the end of the input, or a read that failed.
-fn read_at<R: Read>(reader: &mut R, buffer: &mut [u8], at: usize) -> Input
-    requires { at ≤ length buffer.old }
-    ensures within { Within result (length buffer.old - at) }
-    ensures bytes { Next (R.remaining reader.old) (R.remaining reader.new) result (drop at buffer.new) }
-    ensures before { take at buffer.new ≡ take at buffer.old }
-{
-    match reader.read(&mut buffer[at..]) {
-        Ok(got) => Input::Bytes(got),
-        Err(error) => Input::Failed(error),
-    }
-}
-
-// Reads until the buffer is full or the input ends. A failed read is never taken for the end of the input.
-pub fn read_input<R: Read>(reader: &mut R, buffer: &mut [u8]) -> Input
+// Reads until the buffer is full or the input ends: how many bytes came. A failed read is never taken for the end of the input.
+#[tactic(auto, using(crate::proofs::Reading::read_more))]
+pub fn read_input<R: Read>(reader: &mut R, buffer: &mut [u8]) -> io::Result<usize>
     ensures within { Within result (length buffer.new) }
     ensures bytes { Whole (R.remaining reader.old) (R.remaining reader.new) result buffer.new }
 {
+    // It grows by what a read gave.
     let mut done = 0;
     while done < buffer.len() {
-        match read_at(reader, buffer, done) {
-            Input::Failed(error) => {
-                return Input::Failed(error);
-            }
-            Input::Bytes(more) => {
-                if more == 0 {
-                    return Input::Bytes(done);
-                }
-                done += more;
-            }
+        let more = reader.read(&mut buffer[done..])?;
+        if more == 0 {
+            break;
         }
+        done += more;
     }
-    Input::Bytes(done)
+    Ok(done)
 }
 
 // Whether a program that takes no arguments was given one. Then its usage goes to standard error.
-pub fn has_arguments<R: Env, E: Write>(rt: &R, errors: &mut E, usage: &[u8]) -> bool {
+pub fn has_arguments<R: Env, E: Write>(rt: &R, errors: &mut E, usage: &[u8]) -> bool
+    ensures { OnFalse result (errors.new ≡ errors.old) }
+{
     if let Err(FillError::NotPresent) = rt.arg(1, &mut [0; 1]) {
         return false;
     }
@@ -63,7 +41,7 @@ pub fn has_arguments<R: Env, E: Write>(rt: &R, errors: &mut E, usage: &[u8]) -> 
 }
 
 // Says on standard error what failed and why, in the system's words.
-pub fn complain<R: Eprint + AllocGlobal>(rt: &R, what: &str, error: io::Error) {
+pub fn complain<R: Eprint + AllocGlobal>(rt: &R, what: &str, error: &io::Error) {
     let _ = match format!(in rt.alloc(); "{error}") {
         Ok(text) => rt.eprintln(format_args!("{what}: {}", reason(text.as_str()))),
         Err(_) => rt.eprintln(format_args!("{what}: {error}")),
@@ -72,21 +50,19 @@ pub fn complain<R: Eprint + AllocGlobal>(rt: &R, what: &str, error: io::Error) {
 
 // The words of an error of the system, whose number stands behind them in brackets.
 fn reason(text: &str) -> &str {
-    match text.split_once(" (os error ") {
-        Some((words, _)) => words,
-        None => text,
-    }
+    text.split_once(" (os error ")
+        .map_or(text, |(words, _)| words)
 }
 
-// Writes bytes to standard output, and returns whether it took all of them. Where it did not, says so on standard error.
-pub fn print<R: Eprint + AllocGlobal, W: Write>(rt: &R, output: &mut W, bytes: &[u8]) -> bool
-    ensures { OnTrue result (Appends (W.contents output.old) (W.contents output.new) bytes.now) }
+// Writes bytes to standard output. Where it does not take all of them, says so on standard error too.
+pub fn print<R: Eprint + AllocGlobal, W: Write>(
+    rt: &R,
+    output: &mut W,
+    bytes: &[u8],
+) -> io::Result<()>
+    ensures { OnOk result (Appends (W.contents output.old) (W.contents output.new) bytes.now) }
 {
-    match output.write_all(bytes) {
-        Ok(()) => true,
-        Err(error) => {
-            complain(rt, "standard output", error);
-            false
-        }
-    }
+    output
+        .write_all(bytes)
+        .inspect_err(|error| complain(rt, "standard output", error))
 }

@@ -1,5 +1,5 @@
 -- The contents of a bundle that was accepted, and where its parts stand.
-use Rattle.std.specs.Prelude.{◌≡◌, ℕ, ◌+◌, ◌*◌, ◌≤◌, ◌<◌, take, get_or}
+use Rattle.std.specs.Prelude.{◌≡◌, ℕ, ◌+◌, ◌*◌, ◌≤◌, ◌<◌, take, get_or, Err, Ok}
 use Rattle.std.proofs.Math.Path.{refl, ap}
 use Rattle.std.proofs.Common.{sym, ◌∙◌, zero-mul, suc-mul, take_at}
 use mathlib.Core.List.{List, [], ◌∷◌, ◌++◌, flat_map, append_assoc}
@@ -18,7 +18,6 @@ use Rattle.verdicts.specs.Judging.{judging, judged, verdict_of, verdict}
 use Rattle.verdicts.specs.Acceptance.{AcceptedAs}
 use Rattle.verdicts.proofs.Acceptance.{accepted-exactly, judged-long, judged-judging, accepted-judging}
 use Rattle.verdicts.specs.declared.Tally.{Tally}
-use Rattle.verdicts.specs.declared.Verdict.TheVariants as verdicts
 
 -- what was read, or no event, no word, no place and no certificate
 unfoldable pub contents_in : Read Contents → Contents
@@ -42,20 +41,20 @@ accepted-contents b bytes t c a = rw (accepted-judging b bytes t c a)
 -- what a call that judges on its way knows behind the judge
 module _ (table_length : ℕ) (b : List ℕ) where
   -- a refusal of the judge
-  pub judged-refused : (r : Refusal) → verdict table_length b ≡ verdicts.Refused r → judged table_length b 0 ≡ refused r.number r.spot
+  pub judged-refused : (r : Refusal) → verdict table_length b ≡ Err r → judged table_length b 0 ≡ refused r.number r.spot
   unfolding verdict verdict_of
   judged-refused r e = go (judged table_length b 0) e
     where
-      go : (m : Read Contents) → verdict_of m ≡ verdicts.Refused r → m ≡ refused r.number r.spot
+      go : (m : Read Contents) → verdict_of m ≡ Err r → m ≡ refused r.number r.spot
       go (value (item c next)) q = impossible cc
       go (refused number spot) q = let same : record { number = number; spot = spot } ≡ r = cc in ap (λ (x : Refusal). refused x.number x.spot) same
 
   -- an accepted bundle is the bytes of its contents, which the judge has read
-  pub judged-accepted : Bytes b → (t : Tally) → verdict table_length b ≡ verdicts.Accepted t → IsBundle b × ((next : ℕ) × (judged table_length b 0 ≡ got (contents_of b) next))
+  pub judged-accepted : Bytes b → (t : Tally) → verdict table_length b ≡ Ok t → IsBundle b × ((next : ℕ) × (judged table_length b 0 ≡ got (contents_of b) next))
   unfolding verdict verdict_of contents_of contents_in
   judged-accepted bytes t e = go (judged table_length b 0) refl e
     where
-      go : (m : Read Contents) → judged table_length b 0 ≡ m → verdict_of m ≡ verdicts.Accepted t → IsBundle b × ((next : ℕ) × (m ≡ got (contents_in (judging b 0)) next))
+      go : (m : Read Contents) → judged table_length b 0 ≡ m → verdict_of m ≡ Ok t → IsBundle b × ((next : ℕ) × (m ≡ got (contents_in (judging b 0)) next))
       go (value (item d next)) is q =
           let read : judging b 0 ≡ got d next = judged-judging table_length b d next is in
           let (c, a) = (accepted-exactly table_length (judged-long table_length b d next is) b bytes t).0 (ap verdict_of is ∙ q) in

@@ -1,45 +1,74 @@
-// A bundle that was judged, read again without tests: where its places and its certificates stand. The contracts cite specs/Contents.antt.
+// A bundle that was judged, read again without tests: its parts, and its certificates one by one. The contracts cite specs/Contents.antt.
 // All are inner functions.
 #![tactic(auto)]
 
-ghost use Rattle.std.specs.Prelude.{◌≡◌, ◌*◌, length};
-ghost use Rattle.bundles.specs.PlaceReading.{place_size};
-ghost use Rattle.bundles.specs.Layout.{front_bytes};
+pub mod certificates; // the certificates, one behind the other
+
+ghost use Rattle.std.specs.Prelude.{◌≡◌, ◌+◌, ◌*◌, length};
+ghost use mathlib.Core.List.{flat_map};
+ghost use Rattle.bundles.specs.Layout.{front_bytes, place_bytes, certificate_bytes};
 ghost use Rattle.contents.specs.Contents.{IsBundle, contents_of};
-ghost use Rattle.contents.specs.Walking.{CertificateAt, end_at};
+ghost use Rattle.contents.specs.Parts.{IsBundle-prop};
 
-use slices::byte_at;
+use certificates::Certificates;
 
-// The offset of the place count: behind the words.
-pub fn places_at(bundle: &[u8]) -> usize
+// The parts of a bundle that was judged.
+#[derive(Clone, Copy)]
+pub struct Parts<'a> {
+    pub bundle: &'a [u8],
+    // The event count and the log.
+    pub front: &'a [u8],
+    pub place_count: u8,
+    // The places, of so many bytes each.
+    pub places: &'a [u8],
+    pub place_size: usize,
+    pub certificates: &'a [u8],
+    pub ghost judged: { IsBundle bundle.now } by { IsBundle-prop bundle.now },
+    pub ghost front_is: { front.now ≡ front_bytes (contents_of bundle.now).head },
+    pub ghost count_is: { place_count ≡ length (contents_of bundle.now).head.places },
+    pub ghost places_are: { places.now ≡ flat_map place_bytes (contents_of bundle.now).head.places },
+    pub ghost size_is: { place_size ≡ 2 * (1 + 2 * (contents_of bundle.now).head.events) },
+    pub ghost certificates_are: { certificates.now ≡ flat_map certificate_bytes (contents_of bundle.now).certificates },
+}
+
+// The length of a bundle's front: where its words end.
+fn front_length(bundle: &[u8]) -> usize
     requires { IsBundle bundle.now }
     ensures { result ≡ length (front_bytes (contents_of bundle.now).head) }
 {
-    let words = byte_at(bundle, 1);
-    let mut at: usize = 2;
-    let mut i: usize = 0;
-    while i < words {
-        at += 1 + byte_at(bundle, at);
-        i += 1;
+    let mut at = 2;
+    for _word in 0..bundle[1] {
+        at += 1 + usize::from(bundle[at]);
     }
     at
 }
 
-// How many bytes a place has.
-pub fn place_size(bundle: &[u8]) -> usize
-    requires { IsBundle bundle.now }
-    ensures { result ≡ 2 * place_size (contents_of bundle.now).head.events }
-{
-    2 * (1 + 2 * byte_at(bundle, 0))
-}
-
-// The offset behind the certificate at an offset.
-pub fn end_of(bundle: &[u8], at: usize) -> usize
-    requires { CertificateAt bundle.now at }
-    ensures { result ≡ end_at bundle.now at }
-{
-    if byte_at(bundle, at) == 0 {
-        return at + 2;
+impl<'a> Parts<'a> {
+    // A bundle cut into its parts. That it was judged is asked where it is still whole, and a ghost field behind.
+    pub fn of(bundle: &'a [u8]) -> Self
+        requires { IsBundle bundle.now }
+        ensures { result.bundle ≡ bundle.entry }
+    {
+        let (front, rest) = bundle.split_at(front_length(bundle));
+        let (place_count, rest) = rest.split_first().unwrap();
+        let place_size = 2 * (1 + 2 * usize::from(bundle[0]));
+        let (places, certificates) = rest.split_at(usize::from(*place_count) * place_size);
+        Parts {
+            bundle,
+            front,
+            place_count: *place_count,
+            places,
+            place_size,
+            certificates,
+        }
     }
-    at + 4 + 5 * byte_at(bundle, at + 3)
+
+    // The certificates, one by one.
+    pub fn each_certificate(&self) -> Certificates<'a>
+        ensures { result.rest ≡ self.now.certificates }
+    {
+        Certificates {
+            rest: self.certificates,
+        }
+    }
 }

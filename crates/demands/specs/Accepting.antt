@@ -1,5 +1,5 @@
 -- An accepted bundle, from the definitions on nets to its bytes: its four counts as numbers of what they count, and acceptance by regions.
-use Rattle.std.specs.Prelude.{◌≡◌, not, ◌↔◌, List, ℕ, ◌≤◌}
+use Rattle.std.specs.Prelude.{◌≡◌, not, ◌↔◌, List, ℕ, ◌≤◌, Ok}
 use Rattle.std.proofs.Math.Path.{refl, sym, subst}
 use Rattle.std.proofs.Common.{ap}
 use Rattle.std.proofs.Math.Dec.{T}
@@ -19,12 +19,11 @@ use Rattle.verdicts.specs.Judging.{tally_of, verdict}
 use Rattle.verdicts.specs.Acceptance.{AcceptedAs}
 use Rattle.verdicts.proofs.Acceptance.{accepted-exactly}
 use Rattle.verdicts.specs.declared.Tally.{Tally}
-use Rattle.verdicts.specs.declared.Verdict.TheVariants.{Accepted}
 use Rattle.demands.specs.Demands.{FourCounts}
 use Rattle.demands.specs.Comparing.{fields}
 
 module _ (b : List ℕ) (bytes : Bytes b) (table_length : ℕ) where
-  pub counts_are : (c : Tally) → verdict table_length b ≡ Accepted c → FourCounts (events_in b) (log_in b) (net_in b) c
+  pub counts_are : (c : Tally) → verdict table_length b ≡ Ok c → FourCounts (events_in b) (log_in b) (net_in b) c
   unfolding to_bundle
   counts_are c yes' =
       let f = fields b bytes table_length c yes' in
@@ -42,7 +41,7 @@ module _ (b : List ℕ) (bytes : Bytes b) (table_length : ℕ) where
             (ap (λ (t : Tally). t.by_weights) is) (permitted-count (to_bundle d) below f.1.accepted);
       }
 
-  pub regions-exactly : table_size ≤ table_length → ((c : Tally) × (verdict table_length b ≡ Accepted c))
+  pub regions-exactly : table_size ≤ table_length → ((c : Tally) × (verdict table_length b ≡ Ok c))
       ↔ ((d : Contents) × (b ≡ bytes_of d) × InLimits d × ByRegions (to_bundle d))
   unfolding to_bundle
   regions-exactly long = (

@@ -2,12 +2,11 @@
 -- Which refusal meets which file, and at which block, say the lines of open in Opening.antt, for every file. Here is what becomes of a sealed file
 -- of which one byte or two are no longer as they were: it does not open, whichever bytes they are. `one` and `places` are what was asked for; `two`
 -- is any one or two bytes, and both are cases of it. Of three altered bytes some are caught and some are not: `three`.
-use Rattle.std.specs.Prelude.{◌≡◌, ◌⊎◌, List, ℕ, ◌+◌, ◌*◌, ◌/◌, ◌≤◌, ◌<◌, length, take, get_or, set}
+use Rattle.std.specs.Prelude.{◌≡◌, ◌⊎◌, List, ℕ, ◌+◌, ◌*◌, ◌/◌, ◌≤◌, ◌<◌, length, take, get_or, set, Err, Ok}
 use Rattle.laws.specs.Distance.{distance}
 use Rattle.laws.specs.Numbers.{Bytes}
 use Rattle.refusals.specs.Results.{value}
 use Rattle.refusals.specs.Answers.{refusal, answer, written}
-use Rattle.refusals.specs.declared.Written.TheVariants as writing
 use Rattle.block.specs.File.{opened, sealed_file, sealed}
 use Rattle.demands.specs.Opening.{byte_of}
 use Rattle.demands.specs.BlockOrder.{block_of}
@@ -25,7 +24,7 @@ pub record LowestAltered (file altered : List ℕ) (k : ℕ) : Type 0 where
 pub record RefusedAt (altered : List ℕ) (k : ℕ) : Type 0 where
   pub number : ℕ
   pub which : (number ≡ 17) ⊎ ((number ≡ 18) ⊎ (number ≡ 2))
-  pub refuses : (room : ℕ) → answer (opened altered) room ≡ writing.Refused (refusal number k)
+  pub refuses : (room : ℕ) → answer (opened altered) room ≡ Err (refusal number k)
   pub untouched : (output : List ℕ) → written (opened altered) output ≡ output
 
 -- of a file, with every alteration of it
@@ -60,7 +59,7 @@ pub record Request4 : Type 0 where
   -- 'Both hold for every file that sealing can make': of every bundle of 1 to 64,512 bytes
   pub files : (b : List ℕ) → Bytes b → 1 ≤ length b → length b ≤ 64512 → SumsCatch (sealed_file b)
   -- as the calls do it: what sealing wrote to the front of an output is altered, then opened
-  pub calls : (b output : List ℕ) (n : ℕ) → Bytes b → answer (sealed b) (length output) ≡ writing.Length n
+  pub calls : (b output : List ℕ) (n : ℕ) → Bytes b → answer (sealed b) (length output) ≡ Ok n
       → SumsCatch (take n (written (sealed b) output))
   -- and for every file that opens, whoever made it
   pub opening : (file b : List ℕ) → Bytes file → opened file ≡ value b → SumsCatch file

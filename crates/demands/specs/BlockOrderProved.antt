@@ -1,5 +1,5 @@
 -- The order of blocks, proved: the lines of BlockOrder.antt from the laws of the blocks.
-use Rattle.std.specs.Prelude.{◌≡◌, refl, ◌⊎◌, eqb, length, drop}
+use Rattle.std.specs.Prelude.{◌≡◌, refl, ◌⊎◌, eqb, length, drop, Err}
 use Rattle.std.proofs.Common.{sym, ap, ◌∙◌, subst, inl, inr, ⊎_elim, arith, length-append, length-take, length-drop, take_at, drop_at, length-take-le, eqb-true}
 use mathlib.Core.List.{List, ◌++◌}
 use Prim.Native.Nat.{ℕ, ◌+◌, ◌-◌, ◌*◌, ◌≤◌, ◌<◌}
@@ -9,7 +9,6 @@ use Rattle.laws.specs.Pieces.{joined, length-joined, part-joined}
 use Rattle.laws.specs.Scans.{first_false_cases}
 use Rattle.refusals.specs.Results.{Result, value, refused, bind}
 use Rattle.refusals.specs.Answers.{refusal, fitted, answer_of, answer}
-use Rattle.refusals.specs.declared.Written.TheVariants as writing
 use Rattle.block.specs.File.{block_count, block_at, opened}
 use Rattle.block.specs.OtherBlocks.{front-blocks, same_blocks, other_block}
 use Rattle.demands.specs.Opening.{WholeBlocks}
@@ -18,7 +17,7 @@ use Rattle.demands.specs.BlockOrder.{block_of, InOrder, in_order, LowestMoved, w
 
 -- a refusal is the answer, whatever the output
 pub answer-refused : (result : Result (List ℕ)) (number spot room : ℕ) → result ≡ refused number spot
-    → answer result room ≡ writing.Refused (refusal number spot)
+    → answer result room ≡ Err (refusal number spot)
 unfolding answer answer_of fitted bind
 answer-refused result number spot room e = rw e
 
@@ -43,7 +42,7 @@ module _ (file b : List ℕ) (opens : opened file ≡ value b) (blocks : ℕ) (w
   -- another file, up to the position whose block is not its own
   refused-at : (other : List ℕ) (others : ℕ) → WholeBlocks other others → (k i : ℕ) → k < others → k < blocks → i < blocks → (i ≡ k → ⊥)
       → ((j : ℕ) → j < k → block_of other j ≡ block_of file j) → block_of other k ≡ block_of file i
-      → answer (opened other) room ≡ writing.Refused (refusal 17 k)
+      → answer (opened other) room ≡ Err (refusal 17 k)
   unfolding block_at
   refused-at other others w k i here there within moved lower block =
       answer-refused (opened other) 17 k room
@@ -52,7 +51,7 @@ module _ (file b : List ℕ) (opens : opened file ≡ value b) (blocks : ℕ) (w
 
   -- the front up to block k, and behind it the file from another block on
   pasted : (k i : ℕ) → k < blocks → i < blocks → (i ≡ k → ⊥) → k + (blocks - i) ≤ 128
-      → answer (opened (take (512 * k) file ++ drop (512 * i) file)) room ≡ writing.Refused (refusal 17 k)
+      → answer (opened (take (512 * k) file ++ drop (512 * i) file)) room ≡ Err (refusal 17 k)
   unfolding block_at
   pasted k i there within moved most =
       refused-at other (k + (blocks - i)) (record { size = long; some = omega arith; most = most }) k i (omega arith) there within moved
@@ -79,7 +78,7 @@ module _ (file b : List ℕ) (opens : opened file ≡ value b) (blocks : ℕ) (w
   unfolding block_at
   same-file other size = same_blocks file other blocks whole.size (size ∙ whole.size)
 
-  too_long : (i : ℕ) → i < blocks → blocks ≡ 128 → answer (opened (with_block_twice i file)) room ≡ writing.Refused (refusal 1 0)
+  too_long : (i : ℕ) → i < blocks → blocks ≡ 128 → answer (opened (with_block_twice i file)) room ≡ Err (refusal 1 0)
   too_long i inside most = ((open_exactly (with_block_twice i file) room).file-length 0).1 (refl, inr (inr long))
     where
       long : 65536 < length (with_block_twice i file)

@@ -2,25 +2,21 @@
 -- tables is on the other pages: their contracts name the same definitions as those of the calls behind them.
 -- 'Every call returns HOV_OK for a result, else the number of a refusal; screening has a second result, HOV_STOPPED. A refusal's spot is in
 -- answer[0]; where a result is, each call says. Numbers of answer that a call does not use stay as they were.' (include/hovmekhar.h)
-use Rattle.std.specs.Prelude.{◌≡◌, ◌↔◌, List, ℕ, length, get_or}
+use Rattle.std.specs.Prelude.{◌≡◌, ◌↔◌, List, ℕ, length, get_or, Err, None, Ok, Some}
 use Rattle.refusals.specs.Answers.{answer, number_of}
 use Rattle.refusals.specs.declared.Refusal.{Refusal}
-use Rattle.refusals.specs.declared.Written.{Written}
-use Rattle.refusals.specs.declared.Written.TheVariants as writing
+use Rattle.refusals.specs.Answers.{Written}
 use Rattle.block.specs.File.{opened, sealed}
 use Rattle.nets.specs.Nets.{Word}
 use Rattle.logs.specs.Answers.{fresh_answer, taken_answer, taken_number}
 use Rattle.logs.specs.declared.Summary.{Summary}
-use Rattle.logs.specs.declared.Taken.{Taken}
-use Rattle.logs.specs.declared.Taken.TheVariants as taking
+use Rattle.logs.specs.Answers.{Taken}
 use Rattle.verdicts.specs.Judging.{verdict, verdict_number}
 use Rattle.verdicts.specs.declared.Tally.{Tally}
-use Rattle.verdicts.specs.declared.Verdict.{Verdict}
-use Rattle.verdicts.specs.declared.Verdict.TheVariants as judging
+use Rattle.verdicts.specs.Judging.{Verdict}
 use Rattle.stops.specs.declared.Stop.{Stop}
 use Rattle.screening.specs.Screening.{screened, screened_joined, screened_number}
-use Rattle.screening.specs.declared.Screened.{Screened}
-use Rattle.screening.specs.declared.Screened.TheVariants as screening
+use Rattle.screening.specs.Screening.{Screened}
 use Rattle.pruning.specs.Pruning.{pruning}
 use Rattle.numbers.specs.Numbers.{with_value, with_taken, with_verdict, with_screened}
 
@@ -40,29 +36,29 @@ RefusedOut r result old new = (result ≡ r.number) × Numbers new r.spot (get_o
 
 -- a call that writes bytes: 0 exactly for a length, which is in answer[0]
 pub record WrittenOut (a : Written) (result : ℕ) (old new : List ℕ) : Type 0 where
-  pub ok : (result ≡ 0) ↔ ((n : ℕ) × (a ≡ writing.Length n))
-  pub written : (n : ℕ) → a ≡ writing.Length n → Numbers new n (get_or old 1 0) (get_or old 2 0) (get_or old 3 0)
-  pub refused : (r : Refusal) → a ≡ writing.Refused r → RefusedOut r result old new
+  pub ok : (result ≡ 0) ↔ ((n : ℕ) × (a ≡ Ok n))
+  pub written : (n : ℕ) → a ≡ Ok n → Numbers new n (get_or old 1 0) (get_or old 2 0) (get_or old 3 0)
+  pub refused : (r : Refusal) → a ≡ Err r → RefusedOut r result old new
 
 -- a call on a log: 0 exactly for a summary, whose n, rows and events are in answer[0] to [2]
 pub record TakenOut (a : Taken) (result : ℕ) (old new : List ℕ) : Type 0 where
-  pub ok : (result ≡ 0) ↔ ((s : Summary) × (a ≡ taking.Next s))
-  pub summary : (s : Summary) → a ≡ taking.Next s → Numbers new s.n s.rows s.events (get_or old 3 0)
-  pub refused : (r : Refusal) → a ≡ taking.Refused r → RefusedOut r result old new
+  pub ok : (result ≡ 0) ↔ ((s : Summary) × (a ≡ Ok s))
+  pub summary : (s : Summary) → a ≡ Ok s → Numbers new s.n s.rows s.events (get_or old 3 0)
+  pub refused : (r : Refusal) → a ≡ Err r → RefusedOut r result old new
 
 -- judging: 0 exactly for acceptance; the rows, the allowed steps, the certificates of kind 0 and those of kind 1
 pub record VerdictOut (v : Verdict) (result : ℕ) (old new : List ℕ) : Type 0 where
-  pub ok : (result ≡ 0) ↔ ((c : Tally) × (v ≡ judging.Accepted c))
-  pub counts : (c : Tally) → v ≡ judging.Accepted c → Numbers new c.rows c.allowed c.by_place c.by_weights
-  pub refused : (r : Refusal) → v ≡ judging.Refused r → RefusedOut r result old new
+  pub ok : (result ≡ 0) ↔ ((c : Tally) × (v ≡ Ok c))
+  pub counts : (c : Tally) → v ≡ Ok c → Numbers new c.rows c.allowed c.by_place c.by_weights
+  pub refused : (r : Refusal) → v ≡ Err r → RefusedOut r result old new
 
 -- screening: 0 exactly for a permitted word, and `answer` is as it was; 256 exactly for a stopped one: position, place and shortfall
 pub record ScreenedOut (s : Screened) (result : ℕ) (old new : List ℕ) : Type 0 where
-  pub ok : (result ≡ 0) ↔ (s ≡ screening.Permitted)
-  pub stop : (result ≡ 256) ↔ ((t : Stop) × (s ≡ screening.Stopped t))
-  pub permitted : s ≡ screening.Permitted → new ≡ old
-  pub stopped : (t : Stop) → s ≡ screening.Stopped t → Numbers new t.position t.place t.shortfall (get_or old 3 0)
-  pub refused : (r : Refusal) → s ≡ screening.Refused r → RefusedOut r result old new
+  pub ok : (result ≡ 0) ↔ (s ≡ Ok None)
+  pub stop : (result ≡ 256) ↔ ((t : Stop) × (s ≡ Ok (Some t)))
+  pub permitted : s ≡ Ok None → new ≡ old
+  pub stopped : (t : Stop) → s ≡ Ok (Some t) → Numbers new t.position t.place t.shortfall (get_or old 3 0)
+  pub refused : (r : Refusal) → s ≡ Err r → RefusedOut r result old new
 
 -- ---- The calls: `result` and `new` are those of their contracts, and `answer` has four numbers
 

@@ -1,5 +1,5 @@
 -- The calls for C and Rust, proved: the lines of Boundary.antt from the definitions of crates/numbers and the numbers that a call refuses with.
-use Rattle.std.specs.Prelude.{◌≡◌, refl, true, false, List, [], ◌∷◌, ℕ, length, get_or, set}
+use Rattle.std.specs.Prelude.{◌≡◌, refl, true, false, List, [], ◌∷◌, ℕ, length, get_or, set, Err, None, Ok, Some}
 use Rattle.std.proofs.Common.{sym, ap, subst, arith}
 use Rattle.laws.specs.Booleans.{impossible}
 use Rattle.laws.specs.Lists.{any, among, not-among}
@@ -7,28 +7,24 @@ use Rattle.refusals.specs.Results.{Result, value, refused, Refuses}
 use Rattle.refusals.specs.Answers.{refusal, answer, number_of, value_of}
 use Rattle.refusals.proofs.Laws.{refuses-fitted, answer-refused}
 use Rattle.refusals.specs.declared.Refusal.{Refusal}
-use Rattle.refusals.specs.declared.Written.{Written}
-use Rattle.refusals.specs.declared.Written.TheVariants as writing
+use Rattle.refusals.specs.Answers.{Written}
 use Rattle.block.specs.RefusalNumbers.{open_refuses, seal_refuses}
 use Rattle.nets.specs.Nets as nets
 use Rattle.nets.specs.Nets.{permitted, stopped}
 use Rattle.logs.specs.Answers.{taken_of, fresh_answer, taken_answer, taken_number}
 use Rattle.logs.specs.RefusalNumbers.{fresh-refuses, take-refuses}
 use Rattle.logs.specs.declared.Summary.{Summary}
-use Rattle.logs.specs.declared.Taken.{Taken}
-use Rattle.logs.specs.declared.Taken.TheVariants as taking
+use Rattle.logs.specs.Answers.{Taken}
 use Rattle.bundles.specs.Layout.{Contents}
 use Rattle.bundles.specs.Reading.{Read, item}
 use Rattle.verdicts.specs.Judging.{verdict_of, verdict, verdict_number}
 use Rattle.verdicts.specs.RefusalNumbers.{judged-refuses}
 use Rattle.verdicts.specs.declared.Tally.{Tally}
-use Rattle.verdicts.specs.declared.Verdict.{Verdict}
-use Rattle.verdicts.specs.declared.Verdict.TheVariants as judging
+use Rattle.verdicts.specs.Judging.{Verdict}
 use Rattle.stops.specs.declared.Stop.{Stop}
 use Rattle.screening.specs.Screening.{replayed, screened_of, screened, screened_joined, screened_number}
 use Rattle.screening.specs.RefusalNumbers.{screening-refuses, joining-refuses}
-use Rattle.screening.specs.declared.Screened.{Screened}
-use Rattle.screening.specs.declared.Screened.TheVariants as screening
+use Rattle.screening.specs.Screening.{Screened}
 use Rattle.pruning.specs.RefusalNumbers.{pruning-refuses}
 use Rattle.numbers.specs.Numbers.{with_value, with_taken, with_verdict, with_screened}
 use Rattle.demands.specs.Boundary.{Numbers, RefusedOut, Writes, Takes, Judges, Screens, Boundary}
@@ -67,38 +63,38 @@ apart : {A : Type 0} {numbers : List ℕ} {m : Result A} → Refuses numbers m �
     → (r : Refusal) → m ≡ refused r.number r.spot → r.number ≡ k → ⊥
 apart {A} {numbers} only k never r e is = not-among numbers k r.number never (only.only r.number r.spot e) (sym is)
 
-written_out : (a : Written) → ((r : Refusal) → a ≡ writing.Refused r → r.number ≡ 0 → ⊥) → Writes a
+written_out : (a : Written) → ((r : Refusal) → a ≡ Err r → r.number ≡ 0 → ⊥) → Writes a
 unfolding number_of value_of with_value
-written_out (writing.Length n) never old size = record {
+written_out (Ok n) never old size = record {
   ok = ((λ z. (n, refl)), λ h. refl);
   written = λ m e. let same : n ≡ m = cc in
       subst (λ (k : ℕ). Numbers (set old 0 n) k (get_or old 1 0) (get_or old 2 0) (get_or old 3 0)) same (one_set old size n);
   refused = λ r e. impossible cc;
 }
-written_out (writing.Refused r) never old size = record {
+written_out (Err r) never old size = record {
   ok = ((λ z. absurd (never r refl z)), λ (n, e). impossible cc);
   written = λ n e. impossible cc;
   refused = λ s e. refused_out old size r s cc;
 }
 
-taken_out : (a : Taken) → ((r : Refusal) → a ≡ taking.Refused r → r.number ≡ 0 → ⊥) → Takes a
+taken_out : (a : Taken) → ((r : Refusal) → a ≡ Err r → r.number ≡ 0 → ⊥) → Takes a
 unfolding taken_number with_taken
-taken_out (taking.Next s) never old size = record {
+taken_out (Ok s) never old size = record {
   ok = ((λ z. (s, refl)), λ h. refl);
   summary = λ t e. let same : s ≡ t = cc in
       subst (λ (x : Summary). Numbers (set (set (set old 0 s.n) 1 s.rows) 2 s.events) x.n x.rows x.events (get_or old 3 0)) same
       (three-set old size s.n s.rows s.events);
   refused = λ r e. impossible cc;
 }
-taken_out (taking.Refused r) never old size = record {
+taken_out (Err r) never old size = record {
   ok = ((λ z. absurd (never r refl z)), λ (s, e). impossible cc);
   summary = λ s e. impossible cc;
   refused = λ s e. refused_out old size r s cc;
 }
 
-verdict_out : (v : Verdict) → ((r : Refusal) → v ≡ judging.Refused r → r.number ≡ 0 → ⊥) → Judges v
+verdict_out : (v : Verdict) → ((r : Refusal) → v ≡ Err r → r.number ≡ 0 → ⊥) → Judges v
 unfolding verdict_number with_verdict
-verdict_out (judging.Accepted c) never old size = record {
+verdict_out (Ok c) never old size = record {
   ok = ((λ z. (c, refl)), λ h. refl);
   counts = λ t e. let same : c ≡ t = cc in
       subst (λ (x : Tally). Numbers (set (set (set (set old 0 c.rows) 1 c.allowed) 2 c.by_place) 3 c.by_weights)
@@ -106,23 +102,23 @@ verdict_out (judging.Accepted c) never old size = record {
       (four-set old size c.rows c.allowed c.by_place c.by_weights);
   refused = λ r e. impossible cc;
 }
-verdict_out (judging.Refused r) never old size = record {
+verdict_out (Err r) never old size = record {
   ok = ((λ z. absurd (never r refl z)), λ (c, e). impossible cc);
   counts = λ c e. impossible cc;
   refused = λ s e. refused_out old size r s cc;
 }
 
-screened_out : (s : Screened) → ((r : Refusal) → s ≡ screening.Refused r → r.number ≡ 0 → ⊥)
-    → ((r : Refusal) → s ≡ screening.Refused r → r.number ≡ 256 → ⊥) → Screens s
+screened_out : (s : Screened) → ((r : Refusal) → s ≡ Err r → r.number ≡ 0 → ⊥)
+    → ((r : Refusal) → s ≡ Err r → r.number ≡ 256 → ⊥) → Screens s
 unfolding screened_number with_screened
-screened_out screening.Permitted never nor old size = record {
+screened_out (Ok None) never nor old size = record {
   ok = ((λ z. refl), λ e. refl);
   stop = ((λ z. absurd (omega (arith, z))), λ (t, e). impossible cc);
   permitted = λ e. refl;
   stopped = λ t e. impossible cc;
   refused = λ r e. impossible cc;
 }
-screened_out (screening.Stopped t) never nor old size = record {
+screened_out (Ok (Some t)) never nor old size = record {
   ok = ((λ z. absurd (omega (arith, z))), λ e. impossible cc);
   stop = ((λ z. (t, refl)), λ h. refl);
   permitted = λ e. impossible cc;
@@ -132,7 +128,7 @@ screened_out (screening.Stopped t) never nor old size = record {
       (three-set old size t.position t.place t.shortfall);
   refused = λ r e. impossible cc;
 }
-screened_out (screening.Refused r) never nor old size = record {
+screened_out (Err r) never nor old size = record {
   ok = ((λ z. absurd (never r refl z)), λ e. impossible cc);
   stop = ((λ z. absurd (nor r refl z)), λ (t, e). impossible cc);
   permitted = λ e. impossible cc;
@@ -151,7 +147,7 @@ takes : {numbers : List ℕ} {m : Result Summary} → Refuses numbers m → amon
 unfolding taken_of
 takes {numbers} {m} only never = taken_out (taken_of m) (λ r e. apart only 0 never r (back m r e))
   where
-    back : (k : Result Summary) (r : Refusal) → taken_of k ≡ taking.Refused r → k ≡ refused r.number r.spot
+    back : (k : Result Summary) (r : Refusal) → taken_of k ≡ Err r → k ≡ refused r.number r.spot
     back (value s) r e = impossible cc
     back (refused number spot) r e = let same : refusal number spot ≡ r = cc in ap (λ (x : Refusal). refused x.number x.spot) same
 
@@ -159,7 +155,7 @@ judges : {numbers : List ℕ} {m : Read Contents} → Refuses numbers m → amon
 unfolding verdict_of
 judges {numbers} {m} only never = verdict_out (verdict_of m) (λ r e. apart only 0 never r (back m r e))
   where
-    back : (k : Read Contents) (r : Refusal) → verdict_of k ≡ judging.Refused r → k ≡ refused r.number r.spot
+    back : (k : Read Contents) (r : Refusal) → verdict_of k ≡ Err r → k ≡ refused r.number r.spot
     back (value (item d next)) r e = impossible cc
     back (refused number spot) r e = let same : refusal number spot ≡ r = cc in ap (λ (x : Refusal). refused x.number x.spot) same
 
@@ -169,7 +165,7 @@ unfolding screened_of replayed
 screens {numbers} {m} only never nor =
     screened_out (screened_of m) (λ r e. apart only 0 never r (back m r e)) (λ r e. apart only 256 nor r (back m r e))
   where
-    back : (k : Result nets.Answer) (r : Refusal) → screened_of k ≡ screening.Refused r → k ≡ refused r.number r.spot
+    back : (k : Result nets.Answer) (r : Refusal) → screened_of k ≡ Err r → k ≡ refused r.number r.spot
     back (value permitted) r e = impossible cc
     back (value (stopped i j k)) r e = impossible cc
     back (refused number spot) r e = let same : refusal number spot ≡ r = cc in ap (λ (x : Refusal). refused x.number x.spot) same

@@ -1,5 +1,5 @@
 -- Samples of opening, sealing and the log table for the definitions: what is computed, with what is expected.
-use Rattle.std.specs.Prelude.{◌≡◌, refl, true, List, [], ◌∷◌, ◌++◌, ℕ, take, drop, get_or, set, replicate}
+use Rattle.std.specs.Prelude.{◌≡◌, refl, true, List, [], ◌∷◌, ◌++◌, ℕ, take, drop, get_or, set, replicate, Err, Ok}
 use Rattle.std.proofs.Common.{ap, arith}
 use Rattle.laws.specs.Lists.{all, any, equal}
 use Rattle.laws.specs.Distance.{differing, distance}
@@ -11,7 +11,7 @@ use Rattle.laws.specs.Bits.{with_bit}
 use Rattle.limits.specs.Limits.{right_size}
 use Rattle.refusals.specs.Results.{Result, value, refused, bind, require}
 use Rattle.refusals.specs.Answers.{fitted, answer_of, answer, number_of, value_of}
-use Rattle.refusals.specs.declared.Written.{Written}
+use Rattle.refusals.specs.Answers.{Written}
 use Rattle.nets.specs.Nets.{Word}
 use Rattle.nets.specs.Events.{first_bad}
 use Rattle.sums.specs.Checksums.{plain_sum, position_sum}
@@ -20,8 +20,7 @@ use Rattle.block.specs.File.{block_count, block_at, fault_at, first_faulty, firs
 use Rattle.rows.specs.Rows.{row_at, numbers, rows_of, flat, find_row, present, visit, update_at, follow, add_event, take_word}
 use Rattle.logs.specs.Answers.{table_size, right_event_count, right_summary, taken_of, log_started, fresh_answer, word_taken, taken_answer, taken_table, taken_number}
 use Rattle.logs.specs.declared.Summary.{Summary}
-use Rattle.logs.specs.declared.Taken.{Taken}
-use Rattle.logs.specs.declared.Taken.TheVariants as taking
+use Rattle.logs.specs.Answers.{Taken}
 use Rattle.numbers.specs.Numbers.{with_value, with_taken}
 use Rattle.demands.specs.BlockOrder.{without_block, with_block_twice}
 use Rattle.demands.specs.Alterations.{swapped, ThreeUncaught}
@@ -34,8 +33,8 @@ of_result (refused number spot) = number ∷ spot ∷ []
 
 -- 0 and the summary, or the refusal's number and spot
 of_taken : Taken → List ℕ
-of_taken (taking.Next s) = 0 ∷ s.n ∷ s.rows ∷ s.events ∷ []
-of_taken (taking.Refused r) = r.number ∷ r.spot ∷ []
+of_taken (Ok s) = 0 ∷ s.n ∷ s.rows ∷ s.events ∷ []
+of_taken (Err r) = r.number ∷ r.spot ∷ []
 
 -- what a call for C returns, then the four numbers of `answer`, which held 10, 11, 12 and 13
 handed_written : Written → List ℕ

@@ -1,5 +1,5 @@
 -- The comparison of two accepted bundles: from the definitions on nets to the bytes of two bundles.
-use Rattle.std.specs.Prelude.{◌≡◌, refl, Bool, ℕ, ◌≤◌, ◌<◌}
+use Rattle.std.specs.Prelude.{◌≡◌, refl, Bool, ℕ, ◌≤◌, ◌<◌, Ok}
 use Rattle.std.proofs.Common.{sym, ◌∙◌, ⊎_elim, arith, length-append}
 use Rattle.std.proofs.Math.Path.{ap, subst}
 use Rattle.std.proofs.Math.Bool.{cond}
@@ -29,7 +29,6 @@ use Rattle.verdicts.specs.Judging.{tally_of, judged, verdict_of, verdict, table_
 use Rattle.verdicts.specs.Acceptance.{AcceptedAs}
 use Rattle.verdicts.proofs.Acceptance.{judged-long, accepted-exactly, accepted-table}
 use Rattle.verdicts.specs.declared.Tally.{Tally}
-use Rattle.verdicts.specs.declared.Verdict.TheVariants.{Accepted}
 use Rattle.screening.specs.Screening.{replayed, screened}
 use Rattle.screening.specs.Screens.{Readable, Screenable, screened-replayed, permitted-exactly, readable-exactly, screenable-head}
 use Rattle.demands.specs.Demands.{ScreenedAtEnd, LogContained, Compared}
@@ -39,11 +38,11 @@ use Rattle.demands.specs.TablesProved.{log-left}
 -- ---- one accepted bundle
 
 -- the table of an accepted bundle was long enough
-pub long-table : (table_length : ℕ) (b : List ℕ) (c : Tally) → verdict table_length b ≡ Accepted c → table_size ≤ table_length
+pub long-table : (table_length : ℕ) (b : List ℕ) (c : Tally) → verdict table_length b ≡ Ok c → table_size ≤ table_length
 unfolding verdict verdict_of
 long-table table_length b c e = go (judged table_length b 0) refl e
   where
-    go : (m : Read Contents) → judged table_length b 0 ≡ m → verdict_of m ≡ Accepted c → table_size ≤ table_length
+    go : (m : Read Contents) → judged table_length b 0 ≡ m → verdict_of m ≡ Ok c → table_size ≤ table_length
     go (value (item d next)) is e = judged-long table_length b d next is
     go (refused number spot) is e = impossible cc
 
@@ -75,7 +74,7 @@ module _ (b : List ℕ) (bytes : Bytes b) where
     unfolding to_bundle
     net-suboptimal = subst (λ (h : Head). Suboptimal h.events (Prefix (words_in h)) (places_of (to_net h))) (sym (accepted-head c d a)) (accepted-suboptimal (to_bundle d) below a.accepted)
 
-  module _ (table_length : ℕ) (c : Tally) (yes' : verdict table_length b ≡ Accepted c) where
+  module _ (table_length : ℕ) (c : Tally) (yes' : verdict table_length b ≡ Ok c) where
     -- its fields, with the head that screening reads
     pub fields : (cs : List CertificateFields) × AcceptedAs b c (record { head = head_of b; certificates = cs })
     fields =
@@ -135,7 +134,7 @@ same-counts t₁ t₂ c₁ c₂ e₁ e₂ t =
     let same : c₁ ≡ c₂ = e₁ ∙ ap tally_of t ∙ sym e₂ in
     (ap (λ (c : Tally). c.rows) same, ap (λ (c : Tally). c.allowed) same, ap (λ (c : Tally). c.by_place) same, ap (λ (c : Tally). c.by_weights) same)
 
-module _ (b₁ b₂ : List ℕ) (bytes₁ : Bytes b₁) (bytes₂ : Bytes b₂) (size₁ size₂ : ℕ) (c₁ c₂ : Tally) (yes₁ : verdict size₁ b₁ ≡ Accepted c₁) (yes₂ : verdict size₂ b₂ ≡ Accepted c₂) (contained : LogContained b₁ b₂) where
+module _ (b₁ b₂ : List ℕ) (bytes₁ : Bytes b₁) (bytes₂ : Bytes b₂) (size₁ size₂ : ℕ) (c₁ c₂ : Tally) (yes₁ : verdict size₁ b₁ ≡ Ok c₁) (yes₂ : verdict size₂ b₂ ≡ Ok c₂) (contained : LogContained b₁ b₂) where
   pub compared : Compared b₁ b₂ c₁ c₂
   unfolding to_bundle
   compared =

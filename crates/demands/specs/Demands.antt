@@ -6,7 +6,7 @@
 -- Traffic.antt (5), Joining.antt (6), Pruning.antt (7; the refusals of prune stand there, too). The demands are stated with the requests'
 -- changes in them.
 -- A file, a bundle, an output, a table and a word are lists of numbers; `Bytes` says that each number is below 256.
-use Rattle.std.specs.Prelude.{◌≡◌, true, false, not, ◌↔◌, ℕ, ◌*◌, ◌≤◌, ◌<◌, T, length, take, drop}
+use Rattle.std.specs.Prelude.{◌≡◌, true, false, not, ◌↔◌, ℕ, ◌*◌, ◌≤◌, ◌<◌, T, length, take, drop, Err, None, Ok, Some}
 use mathlib.Core.List.{List, [], ◌∷◌, ◌++◌, Memᴰ}
 use Rattle.laws.specs.Distinct.{Cardinality}
 use Rattle.laws.specs.Lists.{among}
@@ -18,7 +18,6 @@ use Rattle.refusals.specs.Results.{Result, value}
 use Rattle.refusals.specs.Answers.{answer, written, number_of}
 use Rattle.refusals.specs.Laws.{Ends}
 use Rattle.refusals.specs.declared.Refusal.{Refusal}
-use Rattle.refusals.specs.declared.Written.TheVariants as writing
 use Rattle.block.specs.File.{opened, sealed, blocks_for}
 use Rattle.nets.specs.Nets.{Word, Log, Net, Step, join, step_after, net_permits, permits, first_refusing, shortfall_of, rows, wrong_continuations, event_count}
 use Rattle.nets.specs.Words.{Prefix, Follows, EveryNetPermits}
@@ -34,18 +33,15 @@ use Rattle.rows.specs.Rows.{with_rows, cleared}
 use Rattle.logs.specs.Answers.{table_size, fresh_answer, fresh_table, taken_answer, taken_table, taken_number}
 use Rattle.logs.specs.Log.{log_rows, Takes}
 use Rattle.logs.specs.declared.Summary.{Summary}
-use Rattle.logs.specs.declared.Taken.TheVariants as taking
 use Rattle.bundles.specs.Layout.{Head, Contents, InLimits, to_bundle, bytes_of}
 use Rattle.bundles.specs.Readers.{head_of, events_in, log_in, net_in}
 use Rattle.verdicts.specs.Judging.{verdict, verdict_number, table_after}
 use Rattle.verdicts.specs.Acceptance.{AcceptedAs}
 use Rattle.verdicts.specs.declared.Tally.{Tally}
-use Rattle.verdicts.specs.declared.Verdict.TheVariants as judging
 use Rattle.screening.specs.Screening.{screened, screened_joined, screened_number}
 use Rattle.screening.specs.Screens.{Readable, Screenable}
 use Rattle.screening.specs.Joins.{JoinReadable}
-use Rattle.screening.specs.declared.Screened.{Screened}
-use Rattle.screening.specs.declared.Screened.TheVariants as screening
+use Rattle.screening.specs.Screening.{Screened}
 use Rattle.pruning.specs.Pruning.{pruning}
 use Rattle.demands.specs.Opening.{OpenExactly, SealExactly}
 use Rattle.demands.specs.Tables.{FreshExactly, TakeExactly, TakeLeaves, LogLeft}
@@ -76,8 +72,8 @@ pub record Demand1 : Type 0 where
   -- the limits that no other line says by a numeral: 64 places, 64 terms
   pub counts-most : (max_places ≡ 64) × (max_terms ≡ 64)
   -- the number of a refusal is one of the call's line, 0 is that of a result, 256 that of a stop
-  pub refusal-numbers : (r : Refusal) → (number_of (writing.Refused r) ≡ r.number) × (taken_number (taking.Refused r) ≡ r.number)
-      × (verdict_number (judging.Refused r) ≡ r.number) × (screened_number (screening.Refused r) ≡ r.number)
+  pub refusal-numbers : (r : Refusal) → (number_of (Err r) ≡ r.number) × (taken_number (Err r) ≡ r.number)
+      × (verdict_number (Err r) ≡ r.number) × (screened_number (Err r) ≡ r.number)
   pub refusals_of_open : (file : List ℕ) (room : ℕ) → among (number_of (answer (opened file) room)) (0 ∷ 1 ∷ 17 ∷ 18 ∷ 2 ∷ 3 ∷ []) ≡ true
   pub refusals_of_seal : (b : List ℕ) (room : ℕ) → among (number_of (answer (sealed b) room)) (0 ∷ 4 ∷ 3 ∷ []) ≡ true
   pub refusals_of_fresh : (n : ℕ) (table : List ℕ) → among (taken_number (fresh_answer n table)) (0 ∷ 5 ∷ 16 ∷ []) ≡ true
@@ -92,38 +88,38 @@ pub record Demand1 : Type 0 where
   -- 'No refusal writes to an output': one line for all calls that are lent one. These are open, seal and prune: each answers
   -- `answer result (length output)` and leaves `written result output`, where the result is `opened file`, `sealed b` or `pruning (length table) b`.
   -- (`run` and `run_both` of crates/files lend theirs to open, and hand its answer on.)
-  pub refused_output : (result : Result (List ℕ)) (output : List ℕ) (r : Refusal) → answer result (length output) ≡ writing.Refused r
+  pub refused_output : (result : Result (List ℕ)) (output : List ℕ) (r : Refusal) → answer result (length output) ≡ Err r
       → written result output ≡ output
   -- a result stands in front of the output, and the rest is left
-  pub result_output : (result : Result (List ℕ)) (output : List ℕ) (n : ℕ) → answer result (length output) ≡ writing.Length n
+  pub result_output : (result : Result (List ℕ)) (output : List ℕ) (n : ℕ) → answer result (length output) ≡ Ok n
       → (new : List ℕ) × (result ≡ value new) × (n ≡ length new) × (written result output ≡ front new output)
-  pub result-rest : (result : Result (List ℕ)) (output : List ℕ) (n : ℕ) → answer result (length output) ≡ writing.Length n
+  pub result-rest : (result : Result (List ℕ)) (output : List ℕ) (n : ℕ) → answer result (length output) ≡ Ok n
       → (length (written result output) ≡ length output) × (drop n (written result output) ≡ drop n output)
   -- a fresh summary leaves zeros up to number 3,583, and the rest; from there on the words that are taken leave the rows of their log, each
   -- with its mask and its traffic, zeros up to number 3,583, and the rest
-  pub fresh-table : (n : ℕ) (table : List ℕ) (s : Summary) → fresh_answer n table ≡ taking.Next s
+  pub fresh-table : (n : ℕ) (table : List ℕ) (s : Summary) → fresh_answer n table ≡ Ok s
       → fresh_table (fresh_answer n table) table ≡ cleared table_size table
   pub log-table : (n : ℕ) (table : List ℕ) (log : Log) (s s' : Summary) (table' : List ℕ)
-      → fresh_answer n table ≡ taking.Next s → Takes s (fresh_table (fresh_answer n table) table) log s' table'
+      → fresh_answer n table ≡ Ok s → Takes s (fresh_table (fresh_answer n table) table) log s' table'
       → (s' ≡ record { n = n; rows = length (rows n log); events = event_count log }) × (table' ≡ with_rows (log_rows log) (cleared table_size table))
   -- number by number: n counts, zeros from n on, bits for the allowed steps, and the traffic
   pub log-numbers : (n : ℕ) (table : List ℕ) (log : Log) (s s' : Summary) (table' : List ℕ)
-      → fresh_answer n table ≡ taking.Next s → Takes s (fresh_table (fresh_answer n table) table) log s' table' → LogLeft n log table table'
+      → fresh_answer n table ≡ Ok s → Takes s (fresh_table (fresh_answer n table) table) log s' table' → LogLeft n log table table'
   -- what a taken word leaves in any table
-  pub taken-table : (s : Summary) (table : List ℕ) (w : Word) (s' : Summary) → taken_answer s table w ≡ taking.Next s'
+  pub taken-table : (s : Summary) (table : List ℕ) (w : Word) (s' : Summary) → taken_answer s table w ≡ Ok s'
       → TakeLeaves s table w s' (taken_table (taken_answer s table w) s table w)
   -- the summary and fresh, refusing, leave the table
-  pub refused-fresh : (n : ℕ) (table : List ℕ) (r : Refusal) → fresh_answer n table ≡ taking.Refused r → fresh_table (fresh_answer n table) table ≡ table
-  pub refused-take : (s : Summary) (table : List ℕ) (w : Word) (r : Refusal) → taken_answer s table w ≡ taking.Refused r
+  pub refused-fresh : (n : ℕ) (table : List ℕ) (r : Refusal) → fresh_answer n table ≡ Err r → fresh_table (fresh_answer n table) table ≡ table
+  pub refused-take : (s : Summary) (table : List ℕ) (w : Word) (r : Refusal) → taken_answer s table w ≡ Err r
       → taken_table (taken_answer s table w) s table w ≡ table
   -- the judge, refusing with 4 or 5, leaves the table; with any other number it leaves zeros up to number 3,583, and the rest
-  pub refused_judge : (table b : List ℕ) (r : Refusal) → verdict (length table) b ≡ judging.Refused r
+  pub refused_judge : (table b : List ℕ) (r : Refusal) → verdict (length table) b ≡ Err r
       → ((among r.number (4 ∷ 5 ∷ []) ≡ true) → table_after b table ≡ table)
       × ((among r.number (4 ∷ 5 ∷ []) ≡ false) → table_after b table ≡ cleared table_size table)
   -- accepting, it leaves the log's rows, each with its mask and its traffic, zeros up to number 3,583, and the rest
-  pub accepted_judge : (table b : List ℕ) → Bytes b → (c : Tally) → verdict (length table) b ≡ judging.Accepted c
+  pub accepted_judge : (table b : List ℕ) → Bytes b → (c : Tally) → verdict (length table) b ≡ Ok c
       → table_after b table ≡ with_rows (log_rows (log_in b)) (cleared table_size table)
-  pub accepted-numbers : (table b : List ℕ) → Bytes b → (c : Tally) → verdict (length table) b ≡ judging.Accepted c
+  pub accepted-numbers : (table b : List ℕ) → Bytes b → (c : Tally) → verdict (length table) b ≡ Ok c
       → LogLeft (events_in b) (log_in b) table (table_after b table)
 
 -- ---- DEMAND 2: 'With long enough buffers lent, a bundle is accepted exactly when it keeps the layout and limits and, by the region
@@ -144,17 +140,17 @@ pub record FourCounts (n : ℕ) (log : Log) (net : Net) (c : Tally) : Type 0 whe
   pub kind_1 : Cardinality (λ s. WrongContinuation n log s × T (net_permits n net s)) c.by_weights
 
 pub record Demand2 : Type 0 where
-  pub accepted : (table_length : ℕ) → 3584 ≤ table_length → (b : List ℕ) → Bytes b → (c : Tally) → (verdict table_length b ≡ judging.Accepted c)
+  pub accepted : (table_length : ℕ) → 3584 ≤ table_length → (b : List ℕ) → Bytes b → (c : Tally) → (verdict table_length b ≡ Ok c)
       ↔ ((d : Contents) × AcceptedAs b c d)
   -- the event count, log and net that the lines below and demand 3 speak of are, of an accepted bundle, those of its contents
   pub head : (b : List ℕ) → Bytes b → (c : Tally) (d : Contents) → AcceptedAs b c d → head_of b ≡ d.head
   -- 'the four counts are those of the definitions'
-  pub counts : (table_length : ℕ) (b : List ℕ) → Bytes b → (c : Tally) → verdict table_length b ≡ judging.Accepted c
+  pub counts : (table_length : ℕ) (b : List ℕ) → Bytes b → (c : Tally) → verdict table_length b ≡ Ok c
       → FourCounts (events_in b) (log_in b) (net_in b) c
   -- 'by the region definitions of Badouel and Schlachter', in their terms alone: accepted, with some counts, exactly when it keeps layout and limits,
   -- every place is a region of the log, and each separation problem that is no constraint is, in their order, witnessed by the region of the place
   -- that its certificate lists, or has in that certificate weights on constraints that meet the inequalities
-  pub by-regions : (table_length : ℕ) → 3584 ≤ table_length → (b : List ℕ) → Bytes b → ((c : Tally) × (verdict table_length b ≡ judging.Accepted c))
+  pub by-regions : (table_length : ℕ) → 3584 ≤ table_length → (b : List ℕ) → Bytes b → ((c : Tally) × (verdict table_length b ≡ Ok c))
       ↔ ((d : Contents) × (b ≡ bytes_of d) × InLimits d × ByRegions (to_bundle d))
   -- the wrong continuations are these problems; one that is a constraint too, by another prefix with its counts, is witnessed by no region
   pub problems : (n : ℕ) (log : Log) (s : Step) → Memᴰ s (wrong_continuations n log)
@@ -168,10 +164,10 @@ pub record Demand2 : Type 0 where
       → Complete (events_in b) (Prefix (log_in b)) (places_of (net_in b))
   pub suboptimal : (b : List ℕ) → Bytes b → (c : Tally) (d : Contents) → AcceptedAs b c d
       → Suboptimal (events_in b) (Prefix (log_in b)) (places_of (net_in b))
-  pub permitted : (b : List ℕ) (w : Word) → Readable b w → (screened b w ≡ screening.Permitted) ↔ T (permits (events_in b) (net_in b) w)
+  pub permitted : (b : List ℕ) (w : Word) → Readable b w → (screened b w ≡ Ok None) ↔ T (permits (events_in b) (net_in b) w)
   -- position and place are those of the first refused step; the third number is how many tokens that place lacks there
   pub stopped : (b : List ℕ) (w : Word) → Readable b w → (i j k : ℕ)
-      → (screened b w ≡ screening.Stopped (record { position = i; place = j; shortfall = k }))
+      → (screened b w ≡ Ok (Some (record { position = i; place = j; shortfall = k })))
       ↔ (FirstRefused (events_in b) (net_in b) w i j × (k ≡ shortfall_at (events_in b) (net_in b) w i j))
   pub readable : (b : List ℕ) → Bytes b → (w : Word) → Readable b w ↔ ((h : Head) × (rest : List ℕ) × Screenable b w h rest)
   -- accepted or not, the head that the layout has in front of the bundle is the one that these lines speak of
@@ -180,18 +176,18 @@ pub record Demand2 : Type 0 where
   pub joined-readable : (first second : List ℕ) (w : Word) → JoinReadable first second w
       ↔ (Readable first w × Readable second w × (events_in first ≡ events_in second))
   pub joined-permitted : (first second : List ℕ) (w : Word) → JoinReadable first second w
-      → (screened_joined first second w ≡ screening.Permitted) ↔ T (permits (events_in first) (join (net_in first) (net_in second)) w)
+      → (screened_joined first second w ≡ Ok None) ↔ T (permits (events_in first) (join (net_in first) (net_in second)) w)
   pub joined-stopped : (first second : List ℕ) (w : Word) → JoinReadable first second w → (i j k : ℕ)
-      → (screened_joined first second w ≡ screening.Stopped (record { position = i; place = j; shortfall = k }))
+      → (screened_joined first second w ≡ Ok (Some (record { position = i; place = j; shortfall = k })))
       ↔ (FirstRefused (events_in first) (join (net_in first) (net_in second)) w i j × (k ≡ shortfall_at (events_in first) (join (net_in first) (net_in second)) w i j))
   -- every bundle of 1 to 64,512 bytes is sealed
   pub seals : (b output : List ℕ) → 1 ≤ length b → length b ≤ 64512 → 512 * blocks_for (length b) ≤ length output
-      → answer (sealed b) (length output) ≡ writing.Length (512 * blocks_for (length b))
-  pub seal_then_open : (b first second : List ℕ) (n : ℕ) → answer (sealed b) (length first) ≡ writing.Length n → length b ≤ length second
-      → Ends (opened (take n (written (sealed b) first))) second (writing.Length (length b)) (front b second)
-  pub open_then_seal : (file first second : List ℕ) (n : ℕ) → Bytes file → answer (opened file) (length first) ≡ writing.Length n
+      → answer (sealed b) (length output) ≡ Ok (512 * blocks_for (length b))
+  pub seal_then_open : (b first second : List ℕ) (n : ℕ) → answer (sealed b) (length first) ≡ Ok n → length b ≤ length second
+      → Ends (opened (take n (written (sealed b) first))) second (Ok (length b)) (front b second)
+  pub open_then_seal : (file first second : List ℕ) (n : ℕ) → Bytes file → answer (opened file) (length first) ≡ Ok n
       → length file ≤ length second
-      → Ends (sealed (take n (written (opened file) first))) second (writing.Length (length file)) (front file second)
+      → Ends (sealed (take n (written (opened file) first))) second (Ok (length file)) (front file second)
 
 -- ---- DEMAND 3: 'Take any two sealed files that open and are accepted, whatever the outputs and tables held before, with the same event
 -- count and with every prefix in the first log a prefix in the second. Add any one event at the end of any prefix of the first log. ...'
@@ -199,19 +195,19 @@ pub record Demand2 : Type 0 where
 -- the file opens into the output, in front of which is then the bundle b, and with the table b is accepted with the counts c
 pub record FileAccepted (file output table b : List ℕ) (c : Tally) : Type 0 where
   pub size : ℕ
-  pub opens : answer (opened file) (length output) ≡ writing.Length size
+  pub opens : answer (opened file) (length output) ≡ Ok size
   pub bundle : take size (written (opened file) output) ≡ b
-  pub accepted : verdict (length table) b ≡ judging.Accepted c
+  pub accepted : verdict (length table) b ≡ Ok c
 
 -- '.. screening .. answers permitted exactly when that net permits it, and otherwise stops at the added event': the answer s is so for the
 -- net over n events, the prefix w and the event e; where it stops, it names the lowest place that refuses e, and how many tokens that lacks
 pub record ScreenedAtEnd (s : Screened) (n : ℕ) (net : Net) (w : Word) (e : ℕ) : Type 0 where
-  pub permitted : (s ≡ screening.Permitted) ↔ T (permits n net (w ++ e ∷ []))
-  pub stopped : T (not (permits n net (w ++ e ∷ []))) → s ≡ screening.Stopped (record {
+  pub permitted : (s ≡ Ok None) ↔ T (permits n net (w ++ e ∷ []))
+  pub stopped : T (not (permits n net (w ++ e ∷ []))) → s ≡ Ok (Some (record {
     position = length w;
     place = first_refusing n net (step_after n w e);
     shortfall = shortfall_of n net (first_refusing n net (step_after n w e)) (step_after n w e);
-  })
+  }))
 
 -- '.. with the same event count and with every prefix in the first log a prefix in the second'
 abbrev pub LogContained : List ℕ → List ℕ → Type 0

@@ -2,14 +2,13 @@
 -- two bundles with the same n, first list first, and screens a word against the joined list without writing a bundle.'
 -- The call's refusals are `JoinExactly` (Screening.antt), and that it answers by the joined net's first refused step is `joined-stopped` of
 -- demand 2. Here are the laws: of every two nets, of any number of places with whole numbers of any size, then of the call.
-use Rattle.std.specs.Prelude.{◌≡◌, ◌↔◌, List, ◌∷◌, ◌++◌, map, ℕ, ◌+◌, ◌-◌, ◌*◌, ◌≤◌, ◌<◌, T, length, get_or}
+use Rattle.std.specs.Prelude.{◌≡◌, ◌↔◌, List, ◌∷◌, ◌++◌, map, ℕ, ◌+◌, ◌-◌, ◌*◌, ◌≤◌, ◌<◌, T, length, get_or, None, Ok, Some}
 use Rattle.nets.specs.Nets.{Word, Net, Place, no_place, join, scaled, permits, screen, stopped}
 use Rattle.bundles.specs.Readers.{events_in, net_in}
 use Rattle.screening.specs.Screening.{screened, screened_joined}
 use Rattle.screening.specs.JoinLaws.{NoPlaces, JoinOf}
 use Rattle.screening.specs.ScalingLaws.{ScaledPlace, ScaledPlaces}
 use Rattle.stops.specs.declared.Stop.{Stop}
-use Rattle.screening.specs.declared.Screened.TheVariants as screening
 
 -- of nets over n events and a word
 pub record NetsJoined (n : ℕ) (w : Word) : Type 0 where
@@ -36,9 +35,9 @@ pub record NetsJoined (n : ℕ) (w : Word) : Type 0 where
 
 -- of the call
 pub record CallJoined (w : Word) : Type 0 where
-  pub both : (first second : List ℕ) → (screened_joined first second w ≡ screening.Permitted)
-      ↔ ((screened first w ≡ screening.Permitted) × (screened second w ≡ screening.Permitted) × (events_in first ≡ events_in second))
-  pub order : (first second : List ℕ) → (screened_joined first second w ≡ screening.Permitted) ↔ (screened_joined second first w ≡ screening.Permitted)
+  pub both : (first second : List ℕ) → (screened_joined first second w ≡ Ok None)
+      ↔ ((screened first w ≡ Ok None) × (screened second w ≡ Ok None) × (events_in first ≡ events_in second))
+  pub order : (first second : List ℕ) → (screened_joined first second w ≡ Ok None) ↔ (screened_joined second first w ≡ Ok None)
   -- the whole answer, refusals included
   pub itself : (b : List ℕ) → screened_joined b b w ≡ screened b w
   -- a bundle that holds the places of two says what the two say joined; so the grouping of three makes no difference to any part of the answer
@@ -48,16 +47,16 @@ pub record CallJoined (w : Word) : Type 0 where
   pub none-behind : (b none : List ℕ) → NoPlaces b none → screened_joined b none w ≡ screened b w
   pub none_before : (b none : List ℕ) → NoPlaces b none → screened_joined none b w ≡ screened b w
   -- b' is b with the numbers of one place, or of all, multiplied by k
-  pub scaled-place : (k : ℕ) → 1 ≤ k → (b b' : List ℕ) → ScaledPlace k b b' → (screened b w ≡ screening.Permitted) ↔ (screened b' w ≡ screening.Permitted)
-  pub scaled-all : (k : ℕ) → 1 ≤ k → (b b' : List ℕ) → ScaledPlaces k b b' → (screened b w ≡ screening.Permitted) ↔ (screened b' w ≡ screening.Permitted)
+  pub scaled-place : (k : ℕ) → 1 ≤ k → (b b' : List ℕ) → ScaledPlace k b b' → (screened b w ≡ Ok None) ↔ (screened b' w ≡ Ok None)
+  pub scaled-all : (k : ℕ) → 1 ≤ k → (b b' : List ℕ) → ScaledPlaces k b b' → (screened b w ≡ Ok None) ↔ (screened b' w ≡ Ok None)
   pub scaled-joined : (k : ℕ) → 1 ≤ k → (b b' other : List ℕ) → ScaledPlace k b b'
-      → (screened_joined b other w ≡ screening.Permitted) ↔ (screened_joined b' other w ≡ screening.Permitted)
+      → (screened_joined b other w ≡ Ok None) ↔ (screened_joined b' other w ≡ Ok None)
   -- which net the place is of; 'Place numbers in the answer go up to 127.'
-  pub stops_first : (first second : List ℕ) (s : Stop) → screened_joined first second w ≡ screening.Stopped s → s.place < length (net_in first)
-      → screened first w ≡ screening.Stopped s
-  pub stops_second : (first second : List ℕ) (s : Stop) → screened_joined first second w ≡ screening.Stopped s → length (net_in first) ≤ s.place
-      → screened second w ≡ screening.Stopped (record { position = s.position; place = s.place - length (net_in first); shortfall = s.shortfall })
-  pub place : (first second : List ℕ) (s : Stop) → screened_joined first second w ≡ screening.Stopped s
+  pub stops_first : (first second : List ℕ) (s : Stop) → screened_joined first second w ≡ Ok (Some s) → s.place < length (net_in first)
+      → screened first w ≡ Ok (Some s)
+  pub stops_second : (first second : List ℕ) (s : Stop) → screened_joined first second w ≡ Ok (Some s) → length (net_in first) ≤ s.place
+      → screened second w ≡ Ok (Some (record { position = s.position; place = s.place - length (net_in first); shortfall = s.shortfall }))
+  pub place : (first second : List ℕ) (s : Stop) → screened_joined first second w ≡ Ok (Some s)
       → (s.place < length (net_in first) + length (net_in second)) × (s.place ≤ 127)
 
 pub record Request6 : Type 0 where

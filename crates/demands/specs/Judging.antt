@@ -1,6 +1,6 @@
 -- JUDGING, in the words of the requirements: exactly when each refusal meets the call, with its spot. When it accepts is the first line of
 -- demand 2. Every line is about any bundle of bytes and a table of any size.
-use Rattle.std.specs.Prelude.{◌≡◌, Bool, true, false, ◌↔◌, ◌⊎◌, List, [], ◌∷◌, ◌++◌, ℕ, ◌+◌, ◌≤◌, ◌<◌, length, get_or}
+use Rattle.std.specs.Prelude.{◌≡◌, Bool, true, false, ◌↔◌, ◌⊎◌, List, [], ◌∷◌, ◌++◌, ℕ, ◌+◌, ◌≤◌, ◌<◌, length, get_or, Err}
 use Rattle.laws.specs.Lists.{among}
 use Rattle.laws.specs.Numbers.{number_at}
 use Rattle.refusals.specs.Results.{refused}
@@ -13,7 +13,6 @@ use Rattle.bundles.specs.Readers.{head, word_after, word, certificate, rows_in_l
 use Rattle.beginnings.specs.Beginnings.{HeadEnds, HeadDeparts, CertificateEnds, CertificateDeparts, EventsPass, RowsPass}
 use Rattle.verdicts.specs.Judging.{verdict}
 use Rattle.verdicts.specs.Reached.{HeadThere, JudgedTo, CertificateDue, UnsolvedNext}
-use Rattle.verdicts.specs.declared.Verdict.TheVariants as judging
 
 -- What stands in a bundle up to a point is said by four records of crates/verdicts/specs/Reached.antt. `HeadThere b h rest`: b is the bytes of the
 -- head h, in its limits and with at most 256 rows, then `rest`. `JudgedTo b d done rest`: b is the bytes of the contents d, then `rest`; d is in
@@ -46,38 +45,38 @@ pub record DueStops (Stops : Head → List ℕ → ℕ → Type 0) (b : List ℕ
 
 pub record JudgeExactly (table_length : ℕ) (b : List ℕ) : Type 0 where
   -- 'bundle length 0 or above 64,512 | 4 | 0'
-  pub bundle-length : (spot : ℕ) → (verdict table_length b ≡ judging.Refused (refusal 4 spot)) ↔ ((spot ≡ 0) × ((length b ≡ 0) ⊎ (64512 < length b)))
+  pub bundle-length : (spot : ℕ) → (verdict table_length b ≡ Err (refusal 4 spot)) ↔ ((spot ≡ 0) × ((length b ≡ 0) ⊎ (64512 < length b)))
   -- 'table under 3,584 numbers | 5 | 3,584'
-  pub table-short : (spot : ℕ) → (verdict table_length b ≡ judging.Refused (refusal 5 spot))
+  pub table-short : (spot : ℕ) → (verdict table_length b ≡ Err (refusal 5 spot))
       ↔ ((spot ≡ 3584) × (1 ≤ length b) × (length b ≤ 64512) × (table_length < 3584))
   -- 6 to 9 are those of the readers of the head and, behind it and the certificates that solve their steps, of the certificate that is due
-  pub fields : (k : ℕ) → among k (6 ∷ 7 ∷ 8 ∷ 9 ∷ []) ≡ true → (spot : ℕ) → (verdict table_length b ≡ judging.Refused (refusal k spot))
+  pub fields : (k : ℕ) → among k (6 ∷ 7 ∷ 8 ∷ 9 ∷ []) ≡ true → (spot : ℕ) → (verdict table_length b ≡ Err (refusal k spot))
       ↔ (Sized table_length b × ((head rows_in_limit b 0 ≡ refused k spot)
       ⊎ ((d : Contents) × (s : Step) × (rest : List ℕ) × CertificateDue b d s rest
       × (certificate d.head b (length (bytes_of d)) ≡ refused k spot))))
   -- .. and without the readers, of heads and certificates within their own limits (crates/beginnings/specs/Beginnings.antt): the size of the whole
   -- bundle, its rows, and whether a certificate solves its step do not come into it.
   -- 'bundle ends before or inside a field | 6 | offset of the field': all that is there is a beginning of some head, or of some such certificate
-  pub ends : (spot : ℕ) → verdict table_length b ≡ judging.Refused (refusal 6 spot) → HeadEnds b spot ⊎ DueStops CertificateEnds b spot
+  pub ends : (spot : ℕ) → verdict table_length b ≡ Err (refusal 6 spot) → HeadEnds b spot ⊎ DueStops CertificateEnds b spot
   -- 'value outside its range, or a row, event or place that isn't there | 7 | offset of the field': before the field it is, with it no longer
-  pub departs : (spot : ℕ) → verdict table_length b ≡ judging.Refused (refusal 7 spot) → HeadDeparts b spot ⊎ DueStops CertificateDeparts b spot
+  pub departs : (spot : ℕ) → verdict table_length b ≡ Err (refusal 7 spot) → HeadDeparts b spot ⊎ DueStops CertificateDeparts b spot
   -- 'events would pass 1,024 | 8 | offset of the length byte': of the word that is due behind those of `log`
-  pub events_pass : (spot : ℕ) → (verdict table_length b ≡ judging.Refused (refusal 8 spot))
+  pub events_pass : (spot : ℕ) → (verdict table_length b ≡ Err (refusal 8 spot))
       ↔ (Sized table_length b × ((n : ℕ) × (log : Log) × (length (rows n log) ≤ 256) × EventsPass b n log spot))
   -- 'rows would pass 256 | 9 | as for 8'
-  pub rows_pass : (spot : ℕ) → (verdict table_length b ≡ judging.Refused (refusal 9 spot))
+  pub rows_pass : (spot : ℕ) → (verdict table_length b ≡ Err (refusal 9 spot))
       ↔ (Sized table_length b × ((n : ℕ) × (log : Log) × (length (rows n log) ≤ 256) × RowsPass b n log spot))
   -- 'a place doesn't fit | 10 | lowest such place'
-  pub place : (spot : ℕ) → (verdict table_length b ≡ judging.Refused (refusal 10 spot))
+  pub place : (spot : ℕ) → (verdict table_length b ≡ Err (refusal 10 spot))
       ↔ (Sized table_length b × ((h : Head) × (rest : List ℕ) × HeadThere b h rest × LowestMisfit h spot))
   -- 'listed place doesn't refuse | 11 | certificate number'
-  pub listed-place : (spot : ℕ) → (verdict table_length b ≡ judging.Refused (refusal 11 spot))
+  pub listed-place : (spot : ℕ) → (verdict table_length b ≡ Err (refusal 11 spot))
       ↔ (Sized table_length b × ((d : Contents) × (s : Step) × (j : ℕ) × UnsolvedNext b d s (kind0 j) × (spot ≡ length d.certificates)))
   -- 'kind 1 doesn't hold, or a term's step isn't allowed | 12 | certificate number'
-  pub weights : (spot : ℕ) → (verdict table_length b ≡ judging.Refused (refusal 12 spot))
+  pub weights : (spot : ℕ) → (verdict table_length b ≡ Err (refusal 12 spot))
       ↔ (Sized table_length b × ((d : Contents) × (s : Step) × (w : WeightFields) × UnsolvedNext b d s (kind1 w) × (spot ≡ length d.certificates)))
   -- 'bytes follow | 13 | offset of the first'
-  pub bytes-follow : (spot : ℕ) → (verdict table_length b ≡ judging.Refused (refusal 13 spot))
+  pub bytes-follow : (spot : ℕ) → (verdict table_length b ≡ Err (refusal 13 spot))
       ↔ (Sized table_length b × ((d : Contents) × (x : ℕ) × (rest : List ℕ) × JudgedTo b d (wrong_in d.head) (x ∷ rest) × (spot ≡ length (bytes_of d))))
 
 -- ---- 6 and 7 of a field, 8 and 9 of a word, by the readers (without them: `ends` to `rows_pass` above). crates/bundles/specs/Readers.antt says

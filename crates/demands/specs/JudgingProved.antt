@@ -1,5 +1,5 @@
 -- Judging, proved: the lines of Judging.antt from the laws of the readers.
-use Rattle.std.specs.Prelude.{◌≡◌, Bool, true, false, not, ◌↔◌, ◌⊎◌, List, [], ◌∷◌, ◌++◌, ℕ, ◌+◌, ◌≤◌, T, leb, get_or}
+use Rattle.std.specs.Prelude.{◌≡◌, Bool, true, false, not, ◌↔◌, ◌⊎◌, List, [], ◌∷◌, ◌++◌, ℕ, ◌+◌, ◌≤◌, T, leb, get_or, Err}
 use Rattle.std.proofs.Math.Path.{refl}
 use Rattle.std.proofs.Common.{sym, ap, ◌∙◌, subst, arith, leb→le, le→leb, T_not}
 use Rattle.std.proofs.Math.Bool.{false≢true}
@@ -34,7 +34,6 @@ use Rattle.verdicts.specs.Judging.{unsolved, judging, verdict}
 use Rattle.verdicts.proofs.Acceptance.{few-rows, one-row}
 use Rattle.verdicts.specs.Reached.{UnsolvedNext, NotSolved, Misread}
 use Rattle.verdicts.proofs.Causes.{judging_10, judging-unsolved, judging-field, judging_13, judge_4, judge_5, judge_later}
-use Rattle.verdicts.specs.declared.Verdict.TheVariants as verdicts
 use Rattle.demands.specs.Judging.{Sized, LowestMisfit, DueStops, JudgeExactly, FieldsExactly}
 
 -- ---- The tests before bundle order
@@ -49,7 +48,7 @@ sized table_length b same = (
 
 -- a refusal in bundle order
 module _ (table_length : ℕ) (b : List ℕ) (number : ℕ) (not-4 : 4 ≡ number → ⊥) (not-5 : 5 ≡ number → ⊥) where
-  in_bundle : (spot : ℕ) {Y : Type 0} → (judging b 0 ≡ refused number spot) ↔ Y → (verdict table_length b ≡ verdicts.Refused (refusal number spot))
+  in_bundle : (spot : ℕ) {Y : Type 0} → (judging b 0 ≡ refused number spot) ↔ Y → (verdict table_length b ≡ Err (refusal number spot))
       ↔ (Sized table_length b × Y)
   in_bundle spot same = Iff.trans (judge_later table_length b number not-4 not-5 spot) (sized table_length b same)
 
@@ -106,7 +105,7 @@ module _ (b : List ℕ) (spot : ℕ) where
 
 module _ (table_length : ℕ) (b : List ℕ) (bytes : Bytes b) where
   -- 6 to 9 are refusals of the head, or of the certificate that is due
-  in_fields : (k : ℕ) → among k (6 ∷ 7 ∷ 8 ∷ 9 ∷ []) ≡ true → (spot : ℕ) → (verdict table_length b ≡ verdicts.Refused (refusal k spot))
+  in_fields : (k : ℕ) → among k (6 ∷ 7 ∷ 8 ∷ 9 ∷ []) ≡ true → (spot : ℕ) → (verdict table_length b ≡ Err (refusal k spot))
       ↔ (Sized table_length b × ((head rows_in_limit b 0 ≡ refused k spot) ⊎ Misread b k spot))
   unfolding any
   in_fields k listed spot = in_bundle table_length b k (not-among (6 ∷ 7 ∷ 8 ∷ 9 ∷ []) 4 k refl listed)
@@ -135,14 +134,14 @@ module _ (table_length : ℕ) (b : List ℕ) (bytes : Bytes b) where
   in_head : (k spot : ℕ) → (k ≡ 9 → ⊥) → head rows_in_limit b 0 ≡ refused k spot → head any_rows b 0 ≡ refused k spot
   in_head = refused_unlimited rows_in_limit b
 
-  ends : (spot : ℕ) → verdict table_length b ≡ verdicts.Refused (refusal 6 spot) → HeadEnds b spot ⊎ DueStops CertificateEnds b spot
+  ends : (spot : ℕ) → verdict table_length b ≡ Err (refusal 6 spot) → HeadEnds b spot ⊎ DueStops CertificateEnds b spot
   unfolding any
   ends spot e = ⊎_elim
       (λ q. inl (head-ends b bytes spot (in_head 6 spot (λ e. omega (arith, e)) q)))
       (λ m. inr (due-stops 6 spot certificate-ends m))
       ((in_fields 6 refl spot).0 e).1
 
-  departs : (spot : ℕ) → verdict table_length b ≡ verdicts.Refused (refusal 7 spot) → HeadDeparts b spot ⊎ DueStops CertificateDeparts b spot
+  departs : (spot : ℕ) → verdict table_length b ≡ Err (refusal 7 spot) → HeadDeparts b spot ⊎ DueStops CertificateDeparts b spot
   unfolding any
   departs spot e = ⊎_elim
       (λ q. inl (head-departs b bytes spot 7 (λ e. omega (arith, e)) (in_head 7 spot (λ e. omega (arith, e)) q)))
@@ -151,7 +150,7 @@ module _ (table_length : ℕ) (b : List ℕ) (bytes : Bytes b) where
 
   -- 8 and 9 are refusals of the head alone
   in_word : (k : ℕ) → among k (6 ∷ 7 ∷ 8 ∷ 9 ∷ []) ≡ true → among k (6 ∷ 7 ∷ []) ≡ false → (spot : ℕ) {Y : Type 0}
-      → (head rows_in_limit b 0 ≡ refused k spot) ↔ Y → (verdict table_length b ≡ verdicts.Refused (refusal k spot)) ↔ (Sized table_length b × Y)
+      → (head rows_in_limit b 0 ≡ refused k spot) ↔ Y → (verdict table_length b ≡ Err (refusal k spot)) ↔ (Sized table_length b × Y)
   unfolding any
   in_word k listed other spot same = Iff.trans (in_fields k listed spot) (
     (λ (s, e). (s, same.0 (⊎_elim (λ q. q) (λ (d, _, rest, due, q). absurd (never d q)) e))),

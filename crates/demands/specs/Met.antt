@@ -1,6 +1,6 @@
 -- The premises of demand 3 can be met, so nothing is stated of no files at all: two different files with the same prefixes that open and are
 -- accepted, a wrong continuation that their nets permit and one that they refuse.
-use Rattle.std.specs.Prelude.{◌≡◌, true, List, [], ◌∷◌, ℕ, ◌≤◌, length, take, replicate}
+use Rattle.std.specs.Prelude.{◌≡◌, true, List, [], ◌∷◌, ℕ, ◌≤◌, length, take, replicate, Ok}
 use Rattle.std.proofs.Common.{sym, ap, ◌∙◌, arith, T_not}
 use Rattle.std.proofs.Math.Path.{refl}
 use Rattle.std.proofs.lemmas.List.{length-replicate}
@@ -21,7 +21,6 @@ use Rattle.bundles.specs.Readers.{events_in, log_in, net_in}
 use Rattle.verdicts.specs.Judging.{verdict_of, verdict}
 use Rattle.verdicts.proofs.Acceptance.{judged-right}
 use Rattle.verdicts.specs.declared.Tally.{Tally}
-use Rattle.verdicts.specs.declared.Verdict.TheVariants as verdicts
 use Rattle.demands.specs.Demands.{FileAccepted, LogContained, Compared}
 use Rattle.demands.specs.Proved.{demand_3}
 use Rattle.demands.specs.Samples.{bytes_a, bytes_a', counts_a, computed}
@@ -32,7 +31,7 @@ prefixes_in : (log₁ log₂ : Log) → all (λ w. member w (prefixes log₂)) (
 prefixes_in log₁ log₂ e u m = member→ u (prefixes log₂) (all-member (λ w. member w (prefixes log₂)) (prefixes log₁) (rw e tt) m)
 
 -- a sealed bundle opens into every output that is long enough, and is accepted with every table that is
-accepted-sealed : (b : List ℕ) (c : Tally) → right_size (length b) ≡ true → verdict table_size b ≡ verdicts.Accepted c
+accepted-sealed : (b : List ℕ) (c : Tally) → right_size (length b) ≡ true → verdict table_size b ≡ Ok c
     → (output table : List ℕ) → length b ≤ length output → table_size ≤ length table → FileAccepted (sealed_file b) output table b c
 unfolding verdict
 accepted-sealed b c size accepted output table room long =

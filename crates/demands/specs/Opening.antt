@@ -1,12 +1,11 @@
 -- OPENING AND SEALING, in the words of the requirements: exactly when each refusal meets the call, with its spot, and when there is a result.
 -- Every line is about any file, any bundle and an output of any size (`room`).
-use Rattle.std.specs.Prelude.{◌≡◌, ◌↔◌, ◌⊎◌, List, ℕ, ◌+◌, ◌*◌, ◌/◌, ◌%◌, ◌≤◌, ◌<◌, length, take, drop, get_or}
+use Rattle.std.specs.Prelude.{◌≡◌, ◌↔◌, ◌⊎◌, List, ℕ, ◌+◌, ◌*◌, ◌/◌, ◌%◌, ◌≤◌, ◌<◌, length, take, drop, get_or, Err, Ok}
 use Rattle.laws.specs.Numbers.{Bytes}
 use Rattle.laws.specs.Pieces.{joined}
 use Rattle.laws.specs.Sums.{sum}
 use Rattle.refusals.specs.Results.{value}
 use Rattle.refusals.specs.Answers.{refusal, answer}
-use Rattle.refusals.specs.declared.Written.TheVariants as writing
 use Rattle.block.specs.File.{opened, sealed}
 
 -- ---- 'A sealed file is 1 to 128 blocks of 512 bytes.'
@@ -71,20 +70,20 @@ WrongSums file blocks k = (field_of file k 0 ≡ k) × UseKept file blocks k × 
 
 pub record OpenExactly (file : List ℕ) (room : ℕ) : Type 0 where
   -- 'file length 0, no multiple of 512, above 65,536 | 1 | 0'
-  pub file-length : (spot : ℕ) → (answer (opened file) room ≡ writing.Refused (refusal 1 spot))
+  pub file-length : (spot : ℕ) → (answer (opened file) room ≡ Err (refusal 1 spot))
       ↔ ((spot ≡ 0) × ((length file ≡ 0) ⊎ ((length file % 512 ≡ 0 → ⊥) ⊎ (65536 < length file))))
   -- '17 for the block number, 18 for used count or padding; within a block 17, 18, 2.' 'Refusal 2 keeps wrong sums only.'
-  pub block-number : (spot : ℕ) → (answer (opened file) room ≡ writing.Refused (refusal 17 spot))
+  pub block-number : (spot : ℕ) → (answer (opened file) room ≡ Err (refusal 17 spot))
       ↔ ((blocks : ℕ) × WholeBlocks file blocks × LowestFaulty file blocks spot (WrongNumber file spot))
-  pub block_use : (spot : ℕ) → (answer (opened file) room ≡ writing.Refused (refusal 18 spot))
+  pub block_use : (spot : ℕ) → (answer (opened file) room ≡ Err (refusal 18 spot))
       ↔ ((blocks : ℕ) × WholeBlocks file blocks × LowestFaulty file blocks spot (WrongUse file blocks spot))
-  pub block-sums : (spot : ℕ) → (answer (opened file) room ≡ writing.Refused (refusal 2 spot))
+  pub block-sums : (spot : ℕ) → (answer (opened file) room ≡ Err (refusal 2 spot))
       ↔ ((blocks : ℕ) × WholeBlocks file blocks × LowestFaulty file blocks spot (WrongSums file blocks spot))
   -- 'output shorter than the result | 3 | length needed'
-  pub output_short : (spot : ℕ) → (answer (opened file) room ≡ writing.Refused (refusal 3 spot))
+  pub output_short : (spot : ℕ) → (answer (opened file) room ≡ Err (refusal 3 spot))
       ↔ ((b : List ℕ) × (opened file ≡ value b) × (spot ≡ length b) × (room < length b))
   -- else the bundle's length is answered
-  pub result : (n : ℕ) → (answer (opened file) room ≡ writing.Length n)
+  pub result : (n : ℕ) → (answer (opened file) room ≡ Ok n)
       ↔ ((b : List ℕ) × (opened file ≡ value b) × (n ≡ length b) × (length b ≤ room))
   -- which is that of the used contents joined, of a file whose blocks all keep the rules
   pub bundle : (b : List ℕ) → (opened file ≡ value b)
@@ -98,12 +97,12 @@ sealed_size n = 512 * ((n + 503) / 504)
 
 pub record SealExactly (b : List ℕ) (room : ℕ) : Type 0 where
   -- 'bundle length 0 or above 64,512 | 4 | 0'
-  pub bundle-length : (spot : ℕ) → (answer (sealed b) room ≡ writing.Refused (refusal 4 spot)) ↔ ((spot ≡ 0) × ((length b ≡ 0) ⊎ (64512 < length b)))
+  pub bundle-length : (spot : ℕ) → (answer (sealed b) room ≡ Err (refusal 4 spot)) ↔ ((spot ≡ 0) × ((length b ≡ 0) ⊎ (64512 < length b)))
   -- 'output shorter than the result | 3 | length needed'
-  pub output_short : (spot : ℕ) → (answer (sealed b) room ≡ writing.Refused (refusal 3 spot))
+  pub output_short : (spot : ℕ) → (answer (sealed b) room ≡ Err (refusal 3 spot))
       ↔ ((1 ≤ length b) × (length b ≤ 64512) × (spot ≡ sealed_size (length b)) × (room < sealed_size (length b)))
   -- else the file's length is answered
-  pub result : (n : ℕ) → (answer (sealed b) room ≡ writing.Length n)
+  pub result : (n : ℕ) → (answer (sealed b) room ≡ Ok n)
       ↔ ((1 ≤ length b) × (length b ≤ 64512) × (n ≡ sealed_size (length b)) × (sealed_size (length b) ≤ room))
   -- and the file is the one that opens into the bundle
   pub file : Bytes b → (f : List ℕ) → (sealed b ≡ value f) ↔ (Bytes f × (opened f ≡ value b))

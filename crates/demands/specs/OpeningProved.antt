@@ -1,5 +1,5 @@
 -- Opening and sealing, proved: the lines of Opening.antt from the laws of the blocks.
-use Rattle.std.specs.Prelude.{◌≡◌, refl, ◌↔◌, eqb, leb, length, drop, get_or}
+use Rattle.std.specs.Prelude.{◌≡◌, refl, ◌↔◌, eqb, leb, length, drop, get_or, Err}
 use Rattle.std.proofs.Math.Path.{sym, ap, ap₂, subst}
 use Rattle.std.proofs.Common.{◌∙◌, eq-or-lt_of_le, length-take, length-drop, length-take-le}
 use Rattle.std.proofs.Math.Bool.{true}
@@ -22,7 +22,6 @@ use Rattle.laws.specs.Sums.{sum, sum_same, weighted, weighted-sum}
 use Rattle.refusals.specs.Table.{block_sums_number, block_number_number, block_use_number}
 use Rattle.refusals.specs.Results.{value}
 use Rattle.refusals.specs.Answers.{refusal, answer}
-use Rattle.refusals.specs.declared.Written.TheVariants as writing
 use Rattle.refusals.specs.Exactly.{answer-refused-exactly, answer-short-exactly, answer-length-exactly}
 use Rattle.sums.specs.Checksums.{plain_sum, position_sum}
 use Rattle.block.specs.Block.{is_zero, used_count, right_count, right_padding, right_use, right_sums}
@@ -275,7 +274,7 @@ bundle-exactly file b = Iff.trans ((opened_gives file).line b) (to, from)
 -- a line of a fault's number, whatever the fault
 fault-line : (file : List ℕ) (room number : ℕ) (Fault : ℕ → ℕ → Type 0) → (number ≡ 0 → ⊥) → (1 ≡ number → ⊥) → (number ≡ 3 → ⊥)
     → ((blocks : ℕ) → WholeBlocks file blocks → (k : ℕ) → k < blocks → (fault_at file k ≡ number) ↔ Fault blocks k)
-    → (spot : ℕ) → (answer (opened file) room ≡ writing.Refused (refusal number spot))
+    → (spot : ℕ) → (answer (opened file) room ≡ Err (refusal number spot))
     ↔ ((blocks : ℕ) × WholeBlocks file blocks × LowestFaulty file blocks spot (Fault blocks spot))
 fault-line file room number Fault some other short faulty spot =
     Iff.trans (answer-refused-exactly (opened file) room (opened-fault-exactly file number some other) short spot) (

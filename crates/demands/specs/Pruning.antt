@@ -1,14 +1,13 @@
 -- REQUEST 7: 'Throw out idle places.' 'Nets carry places that no certificate names. Given an accepted bundle, write one without them, the rest in
 -- their old order, with certificates renumbered.'
 -- First the call: exactly when each refusal meets it, and what it writes. Then what stands in the bundle that is written, and what it keeps.
-use Rattle.std.specs.Prelude.{◌≡◌, not, ◌↔◌, ℕ, ◌≤◌, ◌<◌, T, length, get_or}
+use Rattle.std.specs.Prelude.{◌≡◌, not, ◌↔◌, ℕ, ◌≤◌, ◌<◌, T, length, get_or, Err, None, Ok, Some}
 use mathlib.Core.List.{List, [], ◌∷◌, ◌++◌, Memᴰ}
 use Rattle.laws.specs.Numbers.{Bytes}
 use Rattle.laws.specs.Parts.{front}
 use Rattle.refusals.specs.Results.{value}
 use Rattle.refusals.specs.Answers.{refusal, answer, written}
 use Rattle.refusals.specs.declared.Refusal.{Refusal}
-use Rattle.refusals.specs.declared.Written.TheVariants as writing
 use Rattle.nets.specs.Nets.{Word, Net, Place, Bundle, permits, accepted, tally}
 use Rattle.nets.specs.Pruning.{prune}
 use Rattle.nets.specs.Words.{Prefix}
@@ -17,37 +16,35 @@ use Rattle.bundles.specs.Readers.{events_in, log_in, net_in}
 use Rattle.verdicts.specs.Judging.{verdict, table_after}
 use Rattle.verdicts.specs.Acceptance.{AcceptedAs}
 use Rattle.verdicts.specs.declared.Tally.{Tally}
-use Rattle.verdicts.specs.declared.Verdict.TheVariants as judging
 use Rattle.screening.specs.Screening.{screened}
-use Rattle.screening.specs.declared.Screened.{Screened}
-use Rattle.screening.specs.declared.Screened.TheVariants as screening
+use Rattle.screening.specs.Screening.{Screened}
 use Rattle.pruning.specs.Pruning.{pruned, pruning}
 
 -- ---- Prune: the judge's 4, 5, 6 to 13, then 3
 
 -- an accepted bundle, its counts and contents, and the length of what is left of it
 pub record PrunesTo (table_length : ℕ) (b : List ℕ) (c : Tally) (d : Contents) (n : ℕ) : Type 0 where
-  pub judged : verdict table_length b ≡ judging.Accepted c
+  pub judged : verdict table_length b ≡ Ok c
   pub contents : AcceptedAs b c d
   pub size : n ≡ length (bytes_of (pruned d))
 
 pub record PruneExactly (table_length : ℕ) (b : List ℕ) (room : ℕ) : Type 0 where
   -- 'A bundle that isn't accepted gets the judge's refusal': when, and at which spot, is said by JudgeExactly
-  pub judged : (k : ℕ) → (k ≡ 3 → ⊥) → (spot : ℕ) → (answer (pruning table_length b) room ≡ writing.Refused (refusal k spot))
-      ↔ (verdict table_length b ≡ judging.Refused (refusal k spot))
+  pub judged : (k : ℕ) → (k ≡ 3 → ⊥) → (spot : ℕ) → (answer (pruning table_length b) room ≡ Err (refusal k spot))
+      ↔ (verdict table_length b ≡ Err (refusal k spot))
   -- 'and a short output gets 3', with the length needed
-  pub output_short : (spot : ℕ) → (answer (pruning table_length b) room ≡ writing.Refused (refusal 3 spot))
+  pub output_short : (spot : ℕ) → (answer (pruning table_length b) room ≡ Err (refusal 3 spot))
       ↔ ((c : Tally) × (d : Contents) × PrunesTo table_length b c d spot × (room < spot))
   -- 'its length returned'
-  pub result : (n : ℕ) → (answer (pruning table_length b) room ≡ writing.Length n)
+  pub result : (n : ℕ) → (answer (pruning table_length b) room ≡ Ok n)
       ↔ ((c : Tally) × (d : Contents) × PrunesTo table_length b c d n × (n ≤ room))
   -- the bytes that are written are those of the pruned contents
   pub bytes : (b' : List ℕ) → (pruning table_length b ≡ value b')
       ↔ ((c : Tally) × (d : Contents) × PrunesTo table_length b c d (length b') × (b' ≡ bytes_of (pruned d)))
   -- 'goes to the output as in opening': in front of it, and the rest is left; on a refusal 'the output is then unchanged'
-  pub in_front : (output : List ℕ) → length output ≡ room → (n : ℕ) → answer (pruning table_length b) room ≡ writing.Length n
+  pub in_front : (output : List ℕ) → length output ≡ room → (n : ℕ) → answer (pruning table_length b) room ≡ Ok n
       → (b' : List ℕ) × (pruning table_length b ≡ value b') × (n ≡ length b') × (written (pruning table_length b) output ≡ front b' output)
-  pub unchanged : (output : List ℕ) → length output ≡ room → (r : Refusal) → answer (pruning table_length b) room ≡ writing.Refused r
+  pub unchanged : (output : List ℕ) → length output ≡ room → (r : Refusal) → answer (pruning table_length b) room ≡ Err r
       → written (pruning table_length b) output ≡ output
 
 -- ---- What is left of a bundle's contents
@@ -76,12 +73,12 @@ pub record WithoutIdle (d d' : Contents) (number : ℕ → ℕ) (no_place : Plac
 
 -- stopped at a position, whatever the place
 abbrev pub StoppedAt : ℕ → Screened → Type 0
-StoppedAt i s = (j : ℕ) × (k : ℕ) × (s ≡ screening.Stopped (record { position = i; place = j; shortfall = k }))
+StoppedAt i s = (j : ℕ) × (k : ℕ) × (s ≡ Ok (Some (record { position = i; place = j; shortfall = k })))
 
 pub record Keeps (b b' : List ℕ) (c : Tally) : Type 0 where
   pub bytes : Bytes b'
   -- 'The result is accepted with the same four counts', and judging it leaves the same table
-  pub accepted : (table_length : ℕ) → 3584 ≤ table_length → verdict table_length b' ≡ judging.Accepted c
+  pub accepted : (table_length : ℕ) → 3584 ≤ table_length → verdict table_length b' ≡ Ok c
   pub table : (table : List ℕ) → 3584 ≤ length table → table_after b' table ≡ table_after b table
   pub events : events_in b' ≡ events_in b
   pub log : log_in b' ≡ log_in b
@@ -89,7 +86,7 @@ pub record Keeps (b b' : List ℕ) (c : Tally) : Type 0 where
   pub prefixes : (w : Word) → Prefix (log_in b) w → (e : ℕ) → e < events_in b
       → permits (events_in b') (net_in b') (w ++ e ∷ []) ≡ permits (events_in b) (net_in b) (w ++ e ∷ [])
   pub permitted : (w : Word) → Prefix (log_in b) w → (e : ℕ) → e < events_in b
-      → (screened b' (w ++ e ∷ []) ≡ screening.Permitted) ↔ (screened b (w ++ e ∷ []) ≡ screening.Permitted)
+      → (screened b' (w ++ e ∷ []) ≡ Ok None) ↔ (screened b (w ++ e ∷ []) ≡ Ok None)
   pub stopped : (w : Word) → Prefix (log_in b) w → (e : ℕ) → e < events_in b → T (not (permits (events_in b) (net_in b) (w ++ e ∷ [])))
       → StoppedAt (length w) (screened b (w ++ e ∷ [])) × StoppedAt (length w) (screened b' (w ++ e ∷ []))
   -- 'Words that leave the log earlier may be permitted more often': no word less often
@@ -110,10 +107,10 @@ pub record PermittedMore : Type 0 where
   pub leaves : Prefix (log_in bundle) (prefix ++ event ∷ []) → ⊥
   pub earlier : 1 ≤ length rest
   pub counts : Tally
-  pub accepted : verdict 3584 bundle ≡ judging.Accepted counts
+  pub accepted : verdict 3584 bundle ≡ Ok counts
   pub prunes : pruning 3584 bundle ≡ value left
-  pub before : screened bundle (prefix ++ event ∷ rest) ≡ screening.Stopped (record { position = 3; place = 0; shortfall = 1 })
-  pub after : screened left (prefix ++ event ∷ rest) ≡ screening.Permitted
+  pub before : screened bundle (prefix ++ event ∷ rest) ≡ Ok (Some (record { position = 3; place = 0; shortfall = 1 }))
+  pub after : screened left (prefix ++ event ∷ rest) ≡ Ok None
 
 -- of a bundle of the theory, with whole numbers of any size
 pub record BundlePruned (b : Bundle) : Type 0 where
@@ -125,7 +122,7 @@ pub record BundlePruned (b : Bundle) : Type 0 where
 pub record Request7 : Type 0 where
   pub contents : (d : Contents) → InLimits d → (no_place : PlaceFields) (none : CertificateFields)
       → (number : ℕ → ℕ) × WithoutIdle d (pruned d) number no_place none
-  pub keeps : (table_length : ℕ) (b : List ℕ) → Bytes b → (c : Tally) → verdict table_length b ≡ judging.Accepted c
+  pub keeps : (table_length : ℕ) (b : List ℕ) → Bytes b → (c : Tally) → verdict table_length b ≡ Ok c
       → (b' : List ℕ) → pruning table_length b ≡ value b' → Keeps b b' c
   pub bundles : (b : Bundle) → T (accepted b) → BundlePruned b
   -- of any net: one with places left out permits at least as much

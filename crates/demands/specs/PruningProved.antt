@@ -1,5 +1,5 @@
 -- The page of request 7, proved.
-use Rattle.std.specs.Prelude.{◌≡◌, Bool, not, ◌⊎◌, ℕ, suc, ◌+◌, ◌≤◌, ◌<◌, get_or, replicate}
+use Rattle.std.specs.Prelude.{◌≡◌, Bool, not, ◌⊎◌, ℕ, suc, ◌+◌, ◌≤◌, ◌<◌, get_or, replicate, Err, Ok}
 use Rattle.std.proofs.Math.Path.{refl, sym, ap, subst}
 use Rattle.std.proofs.Common.{◌∙◌, inl, inr, ⊎_elim, arith}
 use Rattle.std.proofs.Math.Bool.{false≢true, cond}
@@ -19,7 +19,6 @@ use Rattle.refusals.specs.Results as results
 use Rattle.refusals.specs.Answers.{refusal, answer}
 use Rattle.refusals.proofs.Laws.{ends-refused, ends-short, ends-written, answer-length, refused-writes-nothing}
 use Rattle.refusals.specs.declared.Refusal.{Refusal}
-use Rattle.refusals.specs.declared.Written.TheVariants as writing
 use Rattle.nets.specs.Nets.{Word, Bundle, same, occurrences, event_count, weighed, beginnings, prefixes, add_row, counts, tokens, surplus, place_permits, shortfall, net_permits, permits, first_refusing, shortfall_of, stopped_at, screen_after, screen, rows, allowed, passes, row_steps, continuations, allowed_steps, wrong_continuations, fits, refused_by, weighs_before, weighs_after, weights_hold, solves, is_by_place, tally}
 use Rattle.nets.specs.Events.{first_bad}
 use Rattle.nets.specs.Pruning.{prune}
@@ -36,8 +35,7 @@ use Rattle.verdicts.specs.Acceptance.{AcceptedAs}
 use Rattle.verdicts.proofs.Acceptance.{accepted-exactly, accepted-table}
 use Rattle.verdicts.specs.RefusalNumbers.{judge_numbers_lem}
 use Rattle.verdicts.specs.declared.Tally.{Tally}
-use Rattle.verdicts.specs.declared.Verdict.{Verdict}
-use Rattle.verdicts.specs.declared.Verdict.TheVariants as judging
+use Rattle.verdicts.specs.Judging.{Verdict}
 use Rattle.screening.specs.Screening.{word_on, screening, replayed, screened_of, screened}
 use Rattle.contents.specs.Contents.{accepted-contents}
 use Rattle.pruning.specs.Pruning.{names, named, renumbered, pruned, pruning}
@@ -50,48 +48,48 @@ use Rattle.demands.specs.Pruning.{PrunesTo, PruneExactly, WithoutIdle, Keeps, Pe
 -- ---- The call
 
 module _ (b : List ℕ) (bytes : Bytes b) where
-  prunes : (table_length : ℕ) (c : Tally) (d : Contents) → verdict table_length b ≡ judging.Accepted c → AcceptedAs b c d
+  prunes : (table_length : ℕ) (c : Tally) (d : Contents) → verdict table_length b ≡ Ok c → AcceptedAs b c d
       → pruning table_length b ≡ value (bytes_of (pruned d))
   prunes table_length c d yes' a = (judge_accepted table_length b bytes c yes').1 ∙ ap (λ (x : Contents). value (bytes_of (pruned x))) (accepted-contents b bytes c d a)
 
   module _ (table_length : ℕ) where
-    accepted_as : (c : Tally) → verdict table_length b ≡ judging.Accepted c → (d : Contents) × AcceptedAs b c d
+    accepted_as : (c : Tally) → verdict table_length b ≡ Ok c → (d : Contents) × AcceptedAs b c d
     accepted_as c yes' = (accepted-exactly table_length (long-table table_length b c yes') b bytes c).0 yes'
 
     -- a refusal of the judge, or an accepted bundle with what is left of it
     abbrev Ending : Type 0
-    Ending = ((r : Refusal) × (verdict table_length b ≡ judging.Refused r) × (pruning table_length b ≡ refused r.number r.spot))
+    Ending = ((r : Refusal) × (verdict table_length b ≡ Err r) × (pruning table_length b ≡ refused r.number r.spot))
         ⊎ ((c : Tally) × (d : Contents) × PrunesTo table_length b c d (length (bytes_of (pruned d))) × (pruning table_length b ≡ value (bytes_of (pruned d))))
 
     ending : Ending
     ending = go (verdict table_length b) refl
       where
         go : (v : Verdict) → verdict table_length b ≡ v → Ending
-        go (judging.Accepted c) yes' =
+        go (Ok c) yes' =
             let (d, a) = accepted_as c yes' in inr (c, d, record { judged = yes'; contents = a; size = refl }, prunes table_length c d yes' a)
-        go (judging.Refused r) no' = inl (r, no', judge_refused table_length b r no')
+        go (Err r) no' = inl (r, no', judge_refused table_length b r no')
 
     -- the judge never refuses with 3
-    not_3 : (spot : ℕ) → verdict table_length b ≡ judging.Refused (refusal 3 spot) → ⊥
+    not_3 : (spot : ℕ) → verdict table_length b ≡ Err (refusal 3 spot) → ⊥
     unfolding verdict_number any
     not_3 spot e = false≢true (sym (ap (λ (v : Verdict). among (verdict_number v) (0 ∷ 4 ∷ 5 ∷ 6 ∷ 7 ∷ 8 ∷ 9 ∷ 10 ∷ 11 ∷ 12 ∷ 13 ∷ [])) e) ∙ judge_numbers_lem table_length b)
 
     module _ (room : ℕ) (output : List ℕ) (size : length output ≡ room) where
       -- the answer of each ending
-      refused-answer : (k spot : ℕ) → pruning table_length b ≡ refused k spot → answer (pruning table_length b) room ≡ writing.Refused (refusal k spot)
+      refused-answer : (k spot : ℕ) → pruning table_length b ≡ refused k spot → answer (pruning table_length b) room ≡ Err (refusal k spot)
       refused-answer k spot e = ap (answer (pruning table_length b)) (sym size) ∙ sym (ends-refused _ output k spot e).0
 
-      short-answer : (new : List ℕ) → pruning table_length b ≡ value new → room < length new → answer (pruning table_length b) room ≡ writing.Refused (refusal 3 (length new))
+      short-answer : (new : List ℕ) → pruning table_length b ≡ value new → room < length new → answer (pruning table_length b) room ≡ Err (refusal 3 (length new))
       short-answer new e short = ap (answer (pruning table_length b)) (sym size) ∙ sym (ends-short _ output new e (omega (arith, size, short))).0
 
-      written-answer : (new : List ℕ) → pruning table_length b ≡ value new → length new ≤ room → answer (pruning table_length b) room ≡ writing.Length (length new)
+      written-answer : (new : List ℕ) → pruning table_length b ≡ value new → length new ≤ room → answer (pruning table_length b) room ≡ Ok (length new)
       written-answer new e fits = ap (answer (pruning table_length b)) (sym size) ∙ sym (ends-written _ output new e (omega (arith, size, fits))).0
 
       exactly : PruneExactly table_length b room
       exactly = record {
         judged = λ k other spot. (
           (λ e. ⊎_elim
-              (λ (r, no', p). let is : r ≡ refusal k spot = let f = refused-answer r.number r.spot p in (cc) in no' ∙ ap judging.Refused is)
+              (λ (r, no', p). let is : r ≡ refusal k spot = let f = refused-answer r.number r.spot p in (cc) in no' ∙ ap Err is)
               (λ (c, d, to, p). ⊎_elim
               (λ short. let is : refusal k spot ≡ refusal 3 (length (bytes_of (pruned d))) = let f = short-answer _ p short in (cc) in absurd (other (ap (λ (r : Refusal). r.number) is)))
               (λ fits. let f = written-answer _ p fits in impossible cc)
@@ -101,7 +99,7 @@ module _ (b : List ℕ) (bytes : Bytes b) where
         );
         output_short = λ spot. (
           (λ e. ⊎_elim
-              (λ (r, no', p). let is : r ≡ refusal 3 spot = let f = refused-answer r.number r.spot p in (cc) in absurd (not_3 spot (no' ∙ ap judging.Refused is)))
+              (λ (r, no', p). let is : r ≡ refusal 3 spot = let f = refused-answer r.number r.spot p in (cc) in absurd (not_3 spot (no' ∙ ap Err is)))
               (λ (c, d, to, p). ⊎_elim
               (λ short.
               let same : refusal 3 (length (bytes_of (pruned d))) ≡ refusal 3 spot = let f = short-answer _ p short in (cc) in
@@ -111,7 +109,7 @@ module _ (b : List ℕ) (bytes : Bytes b) where
               (lt_or_le room (length (bytes_of (pruned d)))))
               ending),
           (λ (c, d, to, short).
-              short-answer _ (prunes table_length c d to.judged to.contents) (omega (arith, short, to.size)) ∙ ap (λ (n : ℕ). writing.Refused (refusal 3 n)) (sym to.size)),
+              short-answer _ (prunes table_length c d to.judged to.contents) (omega (arith, short, to.size)) ∙ ap (λ (n : ℕ). Err (refusal 3 n)) (sym to.size)),
         );
         result = λ n. (
           (λ e. ⊎_elim
@@ -124,7 +122,7 @@ module _ (b : List ℕ) (bytes : Bytes b) where
               (lt_or_le room (length (bytes_of (pruned d)))))
               ending),
           (λ (c, d, to, fits).
-              written-answer _ (prunes table_length c d to.judged to.contents) (omega (arith, fits, to.size)) ∙ ap writing.Length (sym to.size)),
+              written-answer _ (prunes table_length c d to.judged to.contents) (omega (arith, fits, to.size)) ∙ ap Ok (sym to.size)),
         );
         bytes = λ b'. (
           (λ e. ⊎_elim
@@ -176,7 +174,7 @@ module _ (d : Contents) (limits : InLimits d) (no_place : PlaceFields) (none : C
 
 -- ---- What it keeps
 
-module _ (b : List ℕ) (bytes : Bytes b) (size : ℕ) (c : Tally) (d : Contents) (yes' : verdict size b ≡ judging.Accepted c) (a : AcceptedAs b c d) where
+module _ (b : List ℕ) (bytes : Bytes b) (size : ℕ) (c : Tally) (d : Contents) (yes' : verdict size b ≡ Ok c) (a : AcceptedAs b c d) where
   abbrev b' : List ℕ
   b' = bytes_of (pruned d)
 
@@ -191,7 +189,7 @@ module _ (b : List ℕ) (bytes : Bytes b) (size : ℕ) (c : Tally) (d : Contents
     counts = a.counts ∙ ap tally_of (sym (pruned-tally d a.accepted));
   }
 
-  verdict' : (table_length : ℕ) → table_size ≤ table_length → verdict table_length b' ≡ judging.Accepted c
+  verdict' : (table_length : ℕ) → table_size ≤ table_length → verdict table_length b' ≡ Ok c
   verdict' table_length long = (accepted-exactly table_length long b' bytes' c).1 (pruned d, accepted')
 
   head : head_of b ≡ d.head
@@ -245,7 +243,7 @@ module _ (b : List ℕ) (bytes : Bytes b) (size : ℕ) (c : Tally) (d : Contents
     shorter = omega (arith, pruned-shorter d a.limits, ap length a.layout);
   }
 
-pub keeps-all : (table_length : ℕ) (b : List ℕ) → Bytes b → (c : Tally) → verdict table_length b ≡ judging.Accepted c
+pub keeps-all : (table_length : ℕ) (b : List ℕ) → Bytes b → (c : Tally) → verdict table_length b ≡ Ok c
     → (b' : List ℕ) → pruning table_length b ≡ value b' → Keeps b b' c
 keeps-all table_length b bytes c yes' new e =
     let (d, a) = accepted_as b bytes table_length c yes' in

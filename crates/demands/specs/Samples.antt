@@ -1,5 +1,5 @@
 -- Samples A to I of the paper for the definitions, on their bytes, and further refusals: what is computed, with what is expected.
-use Rattle.std.specs.Prelude.{◌≡◌, refl, true, false, cond, ℕ, ◌-◌, ltb, length}
+use Rattle.std.specs.Prelude.{◌≡◌, refl, true, false, cond, ℕ, ◌-◌, ltb, length, Err, None, Ok, Some}
 use mathlib.Core.List.{List, [], ◌∷◌, map, flat_map}
 use Rattle.laws.specs.Lists.{all, any, keep, tabulate, equal, member}
 use Rattle.laws.specs.Numbers.{number_at}
@@ -15,24 +15,22 @@ use Rattle.bundles.specs.Reading.{item_in, require, field, byte, number, each, o
 use Rattle.bundles.specs.Layout.{to_place, to_net, to_term, to_certificate, to_bundle}
 use Rattle.bundles.specs.Readers.{head_in, head_of, events_in, log_in, net_in, word_after, word, place, places, head_after, head, bundle_size, bundle_head, read_head, term, weights, of_kind, certificate}
 use Rattle.verdicts.specs.Judging.{unsolved, solved, at_end, after_head, contents, judging, judged, verdict_of, verdict, verdict_number}
-use Rattle.verdicts.specs.declared.Verdict.{Verdict}
+use Rattle.verdicts.specs.Judging.{Verdict}
 use Rattle.verdicts.specs.declared.Tally.{Tally}
-use Rattle.verdicts.specs.declared.Verdict.TheVariants as verdicts
 use Rattle.screening.specs.Screening.{word_on, screening, joining, replayed, screened_of, screened, screened_joined, screened_number}
-use Rattle.screening.specs.declared.Screened.{Screened}
-use Rattle.screening.specs.declared.Screened.TheVariants as answers
+use Rattle.screening.specs.Screening.{Screened}
 use Rattle.numbers.specs.Numbers.{with_verdict, with_screened}
 
 -- 0 and the four counts, or the refusal's number and spot
 of_verdict : Verdict → List ℕ
-of_verdict (verdicts.Accepted c) = 0 ∷ c.rows ∷ c.allowed ∷ c.by_place ∷ c.by_weights ∷ []
-of_verdict (verdicts.Refused r) = r.number ∷ r.spot ∷ []
+of_verdict (Ok c) = 0 ∷ c.rows ∷ c.allowed ∷ c.by_place ∷ c.by_weights ∷ []
+of_verdict (Err r) = r.number ∷ r.spot ∷ []
 
 -- 0 where it is permitted; 256, position, place and shortfall where it is stopped; or the refusal's number and spot
 of_screened : Screened → List ℕ
-of_screened answers.Permitted = 0 ∷ []
-of_screened (answers.Stopped s) = 256 ∷ s.position ∷ s.place ∷ s.shortfall ∷ []
-of_screened (answers.Refused r) = r.number ∷ r.spot ∷ []
+of_screened (Ok None) = 0 ∷ []
+of_screened (Ok (Some s)) = 256 ∷ s.position ∷ s.place ∷ s.shortfall ∷ []
+of_screened (Err r) = r.number ∷ r.spot ∷ []
 
 -- what a call for C returns, then the four numbers of `answer`, which held 10, 11, 12 and 13
 handed_verdict : Verdict → List ℕ
@@ -168,8 +166,8 @@ counts_a = record { rows = 5; allowed = 4; by_place = 5; by_weights = 1 }
 pub record Computed : Type 0 where
   -- A to I, and the further refusals, are as expected
   pub samples_hold : all (λ c. equal c.0 c.1) samples ≡ true
-  pub accepted_a : verdict table_size bytes_a ≡ verdicts.Accepted counts_a
-  pub accepted_a' : verdict table_size bytes_a' ≡ verdicts.Accepted counts_a
+  pub accepted_a : verdict table_size bytes_a ≡ Ok counts_a
+  pub accepted_a' : verdict table_size bytes_a' ≡ Ok counts_a
   pub events : events_in bytes_a ≡ events_in bytes_a'
   pub two : events_in bytes_a ≡ 2
   pub to : all (λ w. member w (prefixes (log_in bytes_a'))) (prefixes (log_in bytes_a)) ≡ true

@@ -1,5 +1,5 @@
 -- Screening, proved: the lines of Screening.antt from the laws of the readers.
-use Rattle.std.specs.Prelude.{◌≡◌, refl, true, false, ◌↔◌, List, [], ◌∷◌, ℕ, ◌≤◌, eqb, length}
+use Rattle.std.specs.Prelude.{◌≡◌, refl, true, false, ◌↔◌, List, [], ◌∷◌, ℕ, ◌≤◌, eqb, length, Err, Ok, Some}
 use Rattle.std.proofs.Common.{inl, inr, ⊎_elim, eqb-true, eq-eqb}
 use mathlib.Core.Logic.Iff
 use Rattle.laws.specs.Booleans.{at_least, less, fails-exactly}
@@ -18,12 +18,11 @@ use Rattle.screening.specs.Screening.{screened}
 use Rattle.screening.specs.Causes.{screen_14, screen_4, screen-field, screen_15}
 use Rattle.screening.specs.Joins.{read-exactly}
 use Rattle.screening.proofs.JoinCauses.{empty-refused, join_14, join-own, join_19, join_15}
-use Rattle.screening.specs.declared.Screened.TheVariants as screening
 use Rattle.demands.specs.Screening.{ScreenExactly, JoinExactly}
 
 -- 6, 7 and 8 are refusals of the head
 in_head : (b : List ℕ) (w : Word) (number : ℕ) → among number (6 ∷ 7 ∷ 8 ∷ []) ≡ true → (spot : ℕ)
-    → (screened b w ≡ screening.Refused (refusal number spot))
+    → (screened b w ≡ Err (refusal number spot))
     ↔ ((length w ≤ 65535) × (1 ≤ length b) × (length b ≤ 64512) × (head any_rows b 0 ≡ refused number spot))
 unfolding any
 in_head b w number listed spot = Iff.trans (screen-field b w number listed spot) (

@@ -1,11 +1,10 @@
 -- The page of request 3, proved.
-use Rattle.std.specs.Prelude.{◌≡◌, refl, List, ℕ, ◌+◌, ◌*◌, ◌/◌, ◌≤◌, ◌<◌, length, take, drop}
+use Rattle.std.specs.Prelude.{◌≡◌, refl, List, ℕ, ◌+◌, ◌*◌, ◌/◌, ◌≤◌, ◌<◌, length, take, drop, Err, Ok}
 use Rattle.std.proofs.Math.Path.{sym}
 use Rattle.std.proofs.Common.{◌∙◌, subst, arith}
 use Rattle.refusals.specs.Results.{value}
 use Rattle.refusals.specs.Answers.{refusal, answer}
 use Rattle.refusals.proofs.Laws.{answer-rest, answer-taken, refused-writes-nothing}
-use Rattle.refusals.specs.declared.Written.TheVariants as writing
 use Rattle.block.specs.File.{part_at, sealed_file, sealed}
 use Rattle.block.specs.SealLaws.{blocks_for-is, sealed→}
 use Rattle.block.specs.RoundTrip.{opened-sealed, contents_at-sealed}
@@ -18,7 +17,7 @@ module _ (b : List ℕ) (some : 1 ≤ length b) (most : length b ≤ 64512) wher
   blocks = (length b + 503) / 504
 
   module _ (output : List ℕ) (room : sealed_size (length b) ≤ length output) where
-    answered : answer (sealed b) (length output) ≡ writing.Length (sealed_size (length b))
+    answered : answer (sealed b) (length output) ≡ Ok (sealed_size (length b))
     answered = ((seal_exactly b (length output)).result (sealed_size (length b))).1 (some, most, refl, room)
 
     is : sealed b ≡ value (file_in b output)
@@ -54,7 +53,7 @@ module _ (b : List ℕ) (some : 1 ≤ length b) (most : length b ≤ 64512) wher
 
   -- a refusal, and what it leaves
   short : (output : List ℕ) → length output < sealed_size (length b)
-      → (answer (sealed b) (length output) ≡ writing.Refused (refusal 3 (sealed_size (length b)))) × (sealed_into b output ≡ output)
+      → (answer (sealed b) (length output) ≡ Err (refusal 3 (sealed_size (length b)))) × (sealed_into b output ≡ output)
   short output less =
       let refuses = ((seal_exactly b (length output)).output_short (sealed_size (length b))).1 (some, most, refl, less) in
       (refuses, refused-writes-nothing (sealed b) output _ refuses)

@@ -2,7 +2,7 @@
 -- That screening stops exactly at the first refused step, and with that shortfall, is `stopped` of demand 2; demand 3 says it of a prefix of the
 -- log with one event more. Here is what the shortfall is: of every place, then of a stopped word, then of judging. Refusal 10 names the lowest
 -- place that does not fit (`LowestMisfit` in Judging.antt), 11 a listed place that does not refuse: the last two lines say both by shortfalls.
-use Rattle.std.specs.Prelude.{◌≡◌, not, ◌↔◌, List, [], ◌∷◌, ℕ, ◌≤◌, ◌<◌, T, pos, ◌-ℤ◌, length, take, get_or}
+use Rattle.std.specs.Prelude.{◌≡◌, not, ◌↔◌, List, [], ◌∷◌, ℕ, ◌≤◌, ◌<◌, T, pos, ◌-ℤ◌, length, take, get_or, Ok, Some}
 use Rattle.laws.specs.Numbers.{Bytes}
 use Rattle.nets.specs.Nets.{Word, Log, Net, Place, Step, no_place, counts, step_after, tokens, place_permits, shortfall, shortfall_of, refused_by, permits, allowed}
 use Rattle.nets.specs.Fits.{Below, Fits}
@@ -10,7 +10,6 @@ use Rattle.nets.specs.Shortfall.{with_tokens}
 use Rattle.bundles.specs.Readers.{events_in, net_in}
 use Rattle.screening.specs.Screening.{screened}
 use Rattle.stops.specs.declared.Stop.{Stop}
-use Rattle.screening.specs.declared.Screened.TheVariants as screening
 
 -- of a place and a step, with whole numbers of any size
 pub record PlaceLacks (n : ℕ) (p : Place) (s : Step) : Type 0 where
@@ -36,7 +35,7 @@ pub record Request2 : Type 0 where
   -- in a word whose earlier steps the place permits, at most out(e)
   pub most : (n : ℕ) (p : Place) (u : Word) → Below n u → T (permits n (p ∷ []) u) → (e : ℕ) → shortfall n p (step_after n u e) ≤ p.consumed e
   -- 'Screening returns it with position and place.'
-  pub stopped : (b : List ℕ) (w : Word) (s : Stop) → screened b w ≡ screening.Stopped s
+  pub stopped : (b : List ℕ) (w : Word) (s : Stop) → screened b w ≡ Ok (Some s)
       → StopLacks b s (get_or (net_in b) s.place no_place) (take s.position w) (get_or w s.position 0)
   -- 'Judging and refusal 10 keep their spots but use the new result.'
   pub fits : (n : ℕ) (log : Log) (p : Place) → Fits n log p ↔ ((s : Step) → T (allowed n log s) → shortfall n p s ≡ 0)

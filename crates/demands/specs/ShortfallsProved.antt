@@ -1,5 +1,5 @@
 -- The page of request 2, proved.
-use Rattle.std.specs.Prelude.{◌≡◌, refl, List, [], ◌∷◌, ℕ, zero, suc, ◌≤◌, ◌<◌, length, take, drop, get_or}
+use Rattle.std.specs.Prelude.{◌≡◌, refl, List, [], ◌∷◌, ℕ, zero, suc, ◌≤◌, ◌<◌, length, take, drop, get_or, Ok, Some}
 use Rattle.std.proofs.Common.{sym, ◌∙◌, arith, take-append-drop}
 use Rattle.std.proofs.Math.Path.{ap, subst}
 use mathlib.Core.List.Memᴰ
@@ -16,7 +16,6 @@ use Rattle.bundles.specs.Readers.{head_of, events_in, net_in}
 use Rattle.screening.specs.Screening.{screened}
 use Rattle.screening.specs.Screens.{Readable, stopped-exactly, readable-below, readable-exactly, screenable-head}
 use Rattle.stops.specs.declared.Stop.{Stop}
-use Rattle.screening.specs.declared.Screened.TheVariants as screening
 use Rattle.demands.specs.Shortfalls.{StopLacks, Request2}
 
 two_bytes : (l : List ℕ) → Every TwoBytes l → (i : ℕ) → get_or l i 0 ≤ 65535
@@ -24,7 +23,7 @@ two_bytes [] v i = omega arith
 two_bytes (x ∷ l) v zero = omega (arith, v.0)
 two_bytes (x ∷ l) v (suc i) = two_bytes l v.1 i
 
-module _ (b : List ℕ) (w : Word) (s : Stop) (is : screened b w ≡ screening.Stopped s) where
+module _ (b : List ℕ) (w : Word) (s : Stop) (is : screened b w ≡ Ok (Some s)) where
   readable : Readable b w
   readable r e = impossible (cc (sym is ∙ e))
 

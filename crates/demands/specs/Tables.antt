@@ -1,6 +1,6 @@
 -- THE LOG table_size, in the words of the requirements: exactly when a fresh summary and a taken word succeed or are refused, and what they leave.
 -- Every line is about any summary, any table and any word.
-use Rattle.std.specs.Prelude.{◌≡◌, false, ◌↔◌, ◌⊎◌, List, [], ◌∷◌, ◌++◌, ℕ, ◌+◌, ◌*◌, ◌≤◌, ◌<◌, min, T, length, get_or, drop}
+use Rattle.std.specs.Prelude.{◌≡◌, false, ◌↔◌, ◌⊎◌, List, [], ◌∷◌, ◌++◌, ℕ, ◌+◌, ◌*◌, ◌≤◌, ◌<◌, min, T, length, get_or, drop, Err, Ok}
 use Rattle.laws.specs.Bits.{bit}
 use Rattle.refusals.specs.Answers.{refusal}
 use Rattle.nets.specs.Nets.{Word, Log, counts, rows, at, traffic}
@@ -9,7 +9,6 @@ use Rattle.nets.specs.Events.{EventsBelow}
 use Rattle.logs.specs.Answers.{fresh_answer, taken_answer}
 use Rattle.tables.specs.Tables.{counts_in, mask_in, traffic_in, missing_counts, LowestRow}
 use Rattle.logs.specs.declared.Summary.{Summary}
-use Rattle.logs.specs.declared.Taken.TheVariants as taking
 
 -- A row is 14 numbers of the table: row r has its twelve counts, `counts_in t r`, from number 14 × r on, behind them its mask, `mask_in t r`, and last
 -- its traffic, `traffic_in t r`. `LowestRow t k v r`: row r is the lowest of the k rows with the counts v. `missing_counts t k w`: the counts of the
@@ -19,11 +18,11 @@ use Rattle.logs.specs.declared.Taken.TheVariants as taking
 
 pub record FreshExactly (n : ℕ) (t : List ℕ) : Type 0 where
   -- 'table under 3,584 numbers | 5 | 3,584'
-  pub table-short : (spot : ℕ) → (fresh_answer n t ≡ taking.Refused (refusal 5 spot)) ↔ ((spot ≡ 3584) × (length t < 3584))
+  pub table-short : (spot : ℕ) → (fresh_answer n t ≡ Err (refusal 5 spot)) ↔ ((spot ≡ 3584) × (length t < 3584))
   -- 'n not 1-12, .. | 16 | 0'
-  pub range : (spot : ℕ) → (fresh_answer n t ≡ taking.Refused (refusal 16 spot)) ↔ ((spot ≡ 0) × (3584 ≤ length t) × ((n ≡ 0) ⊎ (12 < n)))
+  pub range : (spot : ℕ) → (fresh_answer n t ≡ Err (refusal 16 spot)) ↔ ((spot ≡ 0) × (3584 ≤ length t) × ((n ≡ 0) ⊎ (12 < n)))
   -- 'A fresh one has one row, no events'
-  pub next : (s : Summary) → (fresh_answer n t ≡ taking.Next s)
+  pub next : (s : Summary) → (fresh_answer n t ≡ Ok s)
       ↔ ((3584 ≤ length t) × (1 ≤ n) × (n ≤ 12) × (s ≡ record { n = n; rows = 1; events = 0 }))
 
 -- ---- Take: 5, 16, 8, 7, 9
@@ -48,20 +47,20 @@ rows_with s t w = s.rows + length (missing_counts t s.rows w)
 
 pub record TakeExactly (s : Summary) (t : List ℕ) (w : Word) : Type 0 where
   -- 'table under 3,584 numbers | 5 | 3,584'
-  pub table-short : (spot : ℕ) → (taken_answer s t w ≡ taking.Refused (refusal 5 spot)) ↔ ((spot ≡ 3584) × (length t < 3584))
+  pub table-short : (spot : ℕ) → (taken_answer s t w ≡ Err (refusal 5 spot)) ↔ ((spot ≡ 3584) × (length t < 3584))
   -- 'n not 1-12, rows not 1-256, events above 1,024 | 16 | 0'
-  pub range : (spot : ℕ) → (taken_answer s t w ≡ taking.Refused (refusal 16 spot)) ↔ ((spot ≡ 0) × (3584 ≤ length t) × (InRange s → ⊥))
+  pub range : (spot : ℕ) → (taken_answer s t w ≡ Err (refusal 16 spot)) ↔ ((spot ≡ 0) × (3584 ≤ length t) × (InRange s → ⊥))
   -- 'events would pass 1,024 | 8 | .. for a summary 0'
-  pub events : (spot : ℕ) → (taken_answer s t w ≡ taking.Refused (refusal 8 spot))
+  pub events : (spot : ℕ) → (taken_answer s t w ≡ Err (refusal 8 spot))
       ↔ ((spot ≡ 0) × (3584 ≤ length t) × InRange s × (1024 < s.events + length w))
   -- '.. event .. that isn't there | 7 | .. in a lent word, its position': the first one
-  pub event : (spot : ℕ) → (taken_answer s t w ≡ taking.Refused (refusal 7 spot))
+  pub event : (spot : ℕ) → (taken_answer s t w ≡ Err (refusal 7 spot))
       ↔ (Admitted s t w × (spot < length w) × (s.n ≤ get_or w spot 0) × ((i : ℕ) → i < spot → get_or w i 0 < s.n))
   -- 'rows would pass 256 | 9 | as for 8'
-  pub rows : (spot : ℕ) → (taken_answer s t w ≡ taking.Refused (refusal 9 spot))
+  pub rows : (spot : ℕ) → (taken_answer s t w ≡ Err (refusal 9 spot))
       ↔ ((spot ≡ 0) × Admitted s t w × EventsBelow s.n w × (256 < rows_with s t w))
   -- else the next summary
-  pub next : (s' : Summary) → (taken_answer s t w ≡ taking.Next s')
+  pub next : (s' : Summary) → (taken_answer s t w ≡ Ok s')
       ↔ (Admitted s t w × EventsBelow s.n w × (rows_with s t w ≤ 256)
       × (s' ≡ record { n = s.n; rows = rows_with s t w; events = s.events + length w }))
 

@@ -1,5 +1,5 @@
 -- The log table, proved: the lines of Tables.antt from the laws of the log's rows.
-use Rattle.std.specs.Prelude.{◌≡◌, true, false, ◌↔◌, List, ℕ, ◌+◌, ◌≤◌, ◌<◌, leb, length}
+use Rattle.std.specs.Prelude.{◌≡◌, true, false, ◌↔◌, List, ℕ, ◌+◌, ◌≤◌, ◌<◌, leb, length, Ok}
 use Rattle.std.proofs.Common.{sym, ap, ◌∙◌, subst, true≢false, ⊎_elim, lt_of_lt_of_le, arith}
 use mathlib.Core.Logic.Iff
 use Rattle.laws.specs.Booleans.{at_least, less, true_or_false}
@@ -15,7 +15,6 @@ use Rattle.tables.specs.Causes.{event_count-right, event_count_wrong, summary-ri
 use Rattle.tables.specs.Tables.{rows-after, taken-kept, taken-appended, taken-bits, taken-used, taken-unused, taken-new, taken-rest, taken-length}
 use Rattle.tables.specs.LogNumbers.{row_number, row_zero, row-passed, row-bit, row-clear, table-zero, table-rest, table-length}
 use Rattle.logs.specs.declared.Summary.{Summary}
-use Rattle.logs.specs.declared.Taken.TheVariants as taking
 use Rattle.demands.specs.Tables.{FreshExactly, InRange, Admitted, rows_with, TakeExactly, TakeLeaves, LogLeft}
 
 -- ---- Fresh
@@ -122,7 +121,7 @@ module _ (s : Summary) (t : List ℕ) (w : Word) where
       admitted : leb table_size (length t) ≡ true → right_summary s ≡ true → leb (s.events + length w) 1024 ≡ true → Admitted s t w
       admitted long fine few = record { table = (at_least table_size (length t)).0 long; range = (range-exactly s).0 fine; events = (at_least _ 1024).0 few }
 
-  pub take-leaves : (s' : Summary) → taken_answer s t w ≡ taking.Next s' → TakeLeaves s t w s' (taken_table (taken_answer s t w) s t w)
+  pub take-leaves : (s' : Summary) → taken_answer s t w ≡ Ok s' → TakeLeaves s t w s' (taken_table (taken_answer s t w) s t w)
   take-leaves s' e = record {
     kept = taken-kept s t w s' e;
     appended = taken-appended s t w s' e;
@@ -152,7 +151,7 @@ log-left n log most below few t long = record {
 
 -- after the words that were taken from a fresh table
 pub taken-left : (n : ℕ) (t : List ℕ) (log : Log) (s s' : Summary) (t' : List ℕ)
-    → fresh_answer n t ≡ taking.Next s → Takes s (fresh_table (fresh_answer n t) t) log s' t' → LogLeft n log t t'
+    → fresh_answer n t ≡ Ok s → Takes s (fresh_table (fresh_answer n t) t) log s' t' → LogLeft n log t t'
 taken-left n t log s s' t' e takes =
     let law = log-table n t log s s' t' e takes in
     let f = fresh-passed n t s e in

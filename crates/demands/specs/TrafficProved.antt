@@ -1,5 +1,5 @@
 -- The page of request 5, proved.
-use Rattle.std.specs.Prelude.{◌≡◌, refl, true, length, get_or, replicate}
+use Rattle.std.specs.Prelude.{◌≡◌, refl, true, length, get_or, replicate, Ok}
 use Rattle.std.proofs.Common.{sym, ◌∙◌, subst, ⊎_elim, not-suc-le-zero, arith}
 use Rattle.std.proofs.Math.Path.{ap}
 use mathlib.Core.List.{List, [], ◌∷◌, map, map-map, Memᴰ}
@@ -20,7 +20,6 @@ use Rattle.logs.specs.Log.{log_row, log_rows, Takes}
 use Rattle.logs.specs.LogTable.{taken-below, taken-events, cleared-table, cleared-length, fresh-passed, log-table}
 use Rattle.rows.specs.Visiting.{counts_of}
 use Rattle.logs.specs.declared.Summary.{Summary}
-use Rattle.logs.specs.declared.Taken.TheVariants as taking
 use Rattle.tables.specs.Tables.{counts_in, traffic_in, missing_counts, row_counts, taken-rows as rows_taken}
 use Rattle.tables.specs.LogNumbers.{log_table, row-passed, table-rows}
 use Rattle.tables.specs.Forgetting.{forget, mask_row, take-forget}
@@ -28,7 +27,6 @@ use Rattle.bundles.specs.Readers.{head_of, events_in, log_in}
 use Rattle.bundles.specs.Limits.{log-below}
 use Rattle.verdicts.specs.Judging.{verdict, table_after}
 use Rattle.verdicts.specs.declared.Tally.{Tally}
-use Rattle.verdicts.specs.declared.Verdict.TheVariants as judging
 use Rattle.demands.specs.Tables.{TakeLeaves}
 use Rattle.demands.specs.TablesProved.{fresh-exactly, take-exactly, take-leaves}
 use Rattle.demands.specs.Comparing.{fields, table-left}
@@ -82,7 +80,7 @@ module _ (n : ℕ) (log : Log) (most : n ≤ max_events) (below : LogBelow n log
 
 -- after the words that were taken from a fresh table
 taken : (n : ℕ) (t : List ℕ) (log : Log) (s s' : Summary) (t' : List ℕ)
-    → fresh_answer n t ≡ taking.Next s → Takes s (fresh_table (fresh_answer n t) t) log s' t' → TrafficLeft n log t'
+    → fresh_answer n t ≡ Ok s → Takes s (fresh_table (fresh_answer n t) t) log s' t' → TrafficLeft n log t'
 taken n t log s s' t' e takes =
     let law = log-table n t log s s' t' e takes in
     let f = fresh-passed n t s e in
@@ -92,7 +90,7 @@ taken n t log s s' t' e takes =
     (subst (λ (k : ℕ). k ≤ max_log_events) (ap (λ (x : Summary). x.events) law.0) few) t)
 
 -- and after judging
-module _ (table b : List ℕ) (bytes : Bytes b) (c : Tally) (accepted : verdict (length table) b ≡ judging.Accepted c) where
+module _ (table b : List ℕ) (bytes : Bytes b) (c : Tally) (accepted : verdict (length table) b ≡ Ok c) where
   left : TrafficLeft (events_in b) (log_in b) (table_after b table)
   left =
       let l = (fields b bytes (length table) c accepted).1.limits.head in
@@ -118,7 +116,7 @@ none-missing t zeros =
 
 module _ (n : ℕ) (some : 1 ≤ n) (most : n ≤ 12) where
   module _ (t : List ℕ) (long : 3584 ≤ length t) (zeros : counts_in t 0 ≡ none) where
-    next : taken_answer (fresh_summary n) t [] ≡ taking.Next (fresh_summary n)
+    next : taken_answer (fresh_summary n) t [] ≡ Ok (fresh_summary n)
     next = ((take-exactly (fresh_summary n) t []).next (fresh_summary n)).1 (
       record {
         table = long;
@@ -149,7 +147,7 @@ fresh-zeros : (t : List ℕ) → counts_in (cleared table_size t) 0 ≡ none
 unfolding counts_of
 fresh-zeros t = sym (row_counts 1 (cleared table_size t) 0 (omega arith)) ∙ ap (λ (rs : List Row). get_or (counts_of rs) 0 []) (cleared-table t)
 
-empty-words : (n : ℕ) (t : List ℕ) (s : Summary) → fresh_answer n t ≡ taking.Next s → (k : ℕ)
+empty-words : (n : ℕ) (t : List ℕ) (s : Summary) → fresh_answer n t ≡ Ok s → (k : ℕ)
     → (s' : Summary) × (t' : List ℕ) × Takes s (fresh_table (fresh_answer n t) t) (replicate k []) s' t'
 unfolding fresh_table
 empty-words n t s e k =

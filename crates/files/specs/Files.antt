@@ -1,37 +1,36 @@
 -- What the calls of demand 3 answer for a file: opening, judging and screening, one behind the other.
-use Rattle.std.specs.Prelude.{◌≡◌, refl, List, [], ◌∷◌, ◌++◌, ℕ, ◌<◌, length, take}
+use Rattle.std.specs.Prelude.{◌≡◌, refl, List, [], ◌∷◌, ◌++◌, ℕ, ◌<◌, length, take, Err, Ok}
 use Rattle.std.proofs.Common.{sym, ap, ◌∙◌, subst}
 use Rattle.laws.specs.Booleans.{impossible}
 use Rattle.laws.specs.Numbers.{Bytes}
 use Rattle.refusals.specs.Results.{Result, value, refused}
-use Rattle.refusals.specs.Answers.{refusal, fitted, answer, written}
+use Rattle.refusals.specs.Answers.{refusal, fitted, answer, written, Answer}
 use Rattle.refusals.proofs.Laws.{answer-refused, answer-fitted, fitted-written}
 use Rattle.refusals.specs.declared.Refusal.{Refusal}
-use Rattle.refusals.specs.declared.Written.TheVariants as writing
 use Rattle.block.specs.File.{opened}
 use Rattle.nets.specs.Nets.{Word}
 use Rattle.nets.specs.Words.{Prefix}
 use Rattle.bundles.specs.Readers.{events_in, log_in, net_in}
 use Rattle.verdicts.specs.Judging.{verdict, table_after}
 use Rattle.verdicts.specs.declared.Tally.{Tally}
-use Rattle.verdicts.specs.declared.Verdict.TheVariants.{Accepted}
-use Rattle.screening.specs.Screening.{screened}
-use Rattle.screening.specs.declared.Screened.{Screened}
+use Rattle.screening.specs.Screening.{Screened, screened}
 use Rattle.demands.specs.Demands.{ScreenedAtEnd, LogContained, Compared}
 use Rattle.demands.specs.Proved.{demand_3}
 use Rattle.files.specs.declared.Answers.{Answers}
-use Rattle.files.specs.declared.Ran.{Ran}
-use Rattle.files.specs.declared.Ran.TheVariants.{Opened, Refused}
 use Rattle.files.specs.declared.Both.{Both}
 
 -- the answers for a bundle, with a table of so many numbers and a word
 abbrev pub answers_of : List ℕ → ℕ → Word → Answers
 answers_of b table_length w = record { size = length b; verdict = verdict table_length b; screened = screened b w }
 
+-- what the calls answer for a file
+abbrev pub Ran : Type 0
+Ran = Answer Answers
+
 -- the answers for a bundle that opening gave, or opening's refusal
 unfoldable pub ran : Result (List ℕ) → ℕ → Word → Ran
-ran (value b) table_length w = Opened (answers_of b table_length w)
-ran (refused number spot) table_length w = Refused (refusal number spot)
+ran (value b) table_length w = Ok (answers_of b table_length w)
+ran (refused number spot) table_length w = Err (refusal number spot)
 
 -- the table afterwards: as judging leaves it; where the file does not open, as it was
 unfoldable pub table_ran : Result (List ℕ) → List ℕ → List ℕ
@@ -44,7 +43,7 @@ table_ran (refused number spot) table = table
 -- word is a prefix of the first log with one event more, so do the answers of screening it
 abbrev pub AnswersCompared : Both → List ℕ → List ℕ → Word → Type 0
 AnswersCompared r output₁ output₂ word =
-    (a₁ a₂ : Answers) (c₁ c₂ : Tally) → r.first ≡ Opened a₁ → r.second ≡ Opened a₂ → a₁.verdict ≡ Accepted c₁ → a₂.verdict ≡ Accepted c₂
+    (a₁ a₂ : Answers) (c₁ c₂ : Tally) → r.first ≡ Ok a₁ → r.second ≡ Ok a₂ → a₁.verdict ≡ Ok c₁ → a₂.verdict ≡ Ok c₂
     → (b₁ b₂ : List ℕ) → b₁ ≡ take a₁.size output₁ → b₂ ≡ take a₂.size output₂
     → LogContained b₁ b₂
     → Compared b₁ b₂ c₁ c₂
@@ -54,14 +53,14 @@ AnswersCompared r output₁ output₂ word =
 -- ---- the laws that the code's proofs cite
 
 module _ (result : Result (List ℕ)) (output : List ℕ) (table_length : ℕ) (w : Word) where
-  pub ran-refused : (r : Refusal) → answer result (length output) ≡ writing.Refused r → (table : List ℕ)
-      → (ran (fitted result (length output)) table_length w ≡ Refused r) × (table_ran (fitted result (length output)) table ≡ table)
+  pub ran-refused : (r : Refusal) → answer result (length output) ≡ Err r → (table : List ℕ)
+      → (ran (fitted result (length output)) table_length w ≡ Err r) × (table_ran (fitted result (length output)) table ≡ table)
   unfolding ran table_ran
   ran-refused r e table = rw (answer-refused result (length output) r e) (refl, refl)
 
   -- behind a result of n bytes, the bundle is in front of the output
-  pub ran-opened : (n : ℕ) → answer result (length output) ≡ writing.Length n → (table : List ℕ)
-      → (ran (fitted result (length output)) table_length w ≡ Opened (answers_of (take n (written result output)) table_length w))
+  pub ran-opened : (n : ℕ) → answer result (length output) ≡ Ok n → (table : List ℕ)
+      → (ran (fitted result (length output)) table_length w ≡ Ok (answers_of (take n (written result output)) table_length w))
       × (table_ran (fitted result (length output)) table ≡ table_after (take n (written result output)) table)
   unfolding ran table_ran
   ran-opened n e table = rw (answer-fitted result output n e) (refl, refl)
@@ -70,15 +69,15 @@ module _ (result : Result (List ℕ)) (output : List ℕ) (table_length : ℕ) (
 
 -- a are the answers for the bundle in front of the output
 pub record AnswersFor (result : Result (List ℕ)) (output : List ℕ) (table_length : ℕ) (w : Word) (a : Answers) : Type 0 where
-  pub opens : answer result (length output) ≡ writing.Length a.size
+  pub opens : answer result (length output) ≡ Ok a.size
   pub judged : a.verdict ≡ verdict table_length (take a.size (written result output))
   pub screens : a.screened ≡ screened (take a.size (written result output)) w
 
-pub answers_for : (result : Result (List ℕ)) (output : List ℕ) (table_length : ℕ) (w : Word) (a : Answers) → ran (fitted result (length output)) table_length w ≡ Opened a → AnswersFor result output table_length w a
+pub answers_for : (result : Result (List ℕ)) (output : List ℕ) (table_length : ℕ) (w : Word) (a : Answers) → ran (fitted result (length output)) table_length w ≡ Ok a → AnswersFor result output table_length w a
 unfolding ran
 answers_for result output table_length w a e = go (fitted result (length output)) refl e
   where
-    go : (m : Result (List ℕ)) → fitted result (length output) ≡ m → ran m table_length w ≡ Opened a → AnswersFor result output table_length w a
+    go : (m : Result (List ℕ)) → fitted result (length output) ≡ m → ran m table_length w ≡ Ok a → AnswersFor result output table_length w a
     go (value b) is e =
         let same : answers_of b table_length w ≡ a = cc in
         let front = fitted-written result output b is in

@@ -8,7 +8,7 @@ ghost use Rattle.block.specs.File.{opened};
 ghost use Rattle.verdicts.specs.Judging.{table_after};
 ghost use Rattle.files.specs.Files.{answers_of, ran, table_ran, AnswersCompared};
 
-use refusals::{Refusal, Written};
+use refusals::Refusal;
 use screening::Screened;
 use verdicts::Verdict;
 
@@ -21,11 +21,7 @@ pub struct Answers {
 }
 
 // What the calls answered for a file.
-#[derive(Clone, Copy)]
-pub enum Ran {
-    Opened(Answers),
-    Refused(Refusal),
-}
+pub type Ran = Result<Answers, Refusal>;
 
 // What the calls answered for two files.
 #[derive(Clone, Copy)]
@@ -54,13 +50,12 @@ pub fn run(file: &[u8], output: &mut [u8], table: &mut [u16], word: &[u8]) -> Ra
     ensures output_after { output.new ≡ written (opened file.now) output.old }
     ensures table_after { table.new ≡ table_ran (fitted (opened file.now) (length output.old)) table.old }
 {
-    match block::open(file, output) {
-        Written::Refused(refusal) => Ran::Refused(refusal),
-        Written::Length(size) => Ran::Opened(judge_and_screen(&output[..size], table, word)),
-    }
+    let size = block::open(file, output)?;
+    Ok(judge_and_screen(&output[..size], table, word))
 }
 
-// The same for two files, each with an output of its own, and one table, which is left as the last judging left it.
+// The same for two files, each with an output of its own, and one table, which is left as the last judging left it. The parameters are those of the
+// calls that demand 3 speaks of.
 // The last line is demand 3, about these answers and the bundles in front of the outputs.
 pub fn run_both(
     file1: &[u8],

@@ -1,5 +1,5 @@
 -- What the tokens of a place cover in a row, and a bundle's first misfit.
-use Rattle.std.specs.Prelude.{Bool, not, ◌||◌, List, ℕ, ℤ, pos, ◌-ℤ◌, get_or}
+use Rattle.std.specs.Prelude.{Bool, not, cond, ◌||◌, List, ℕ, ltb, ℤ, pos, ◌-ℤ◌, length, get_or, Option, Some, None}
 use Rattle.std.specs.Int.Signed.{non_neg}
 use Rattle.laws.specs.Lists.{all, tabulate}
 use Rattle.laws.specs.Bits.{bit}
@@ -19,3 +19,7 @@ events_fit tokens consumed mask = all (event_fits tokens consumed mask) (tabulat
 -- the first place of a bundle's net that does not fit its log, or the number of places
 abbrev pub misfit_in : List ℕ → ℕ
 misfit_in b = first_failing (fits (events_in b) (log_in b)) (net_in b)
+
+-- the same, where there is one
+unfoldable pub misfit : List ℕ → Option ℕ
+misfit b = cond (ltb (misfit_in b) (length (net_in b))) (Some (misfit_in b)) None

@@ -1,109 +1,92 @@
 // Whether the places of a bundle fit its log, from the rows of the log table. All are inner functions.
 #![tactic(auto)]
 
-ghost use Rattle.std.specs.Prelude.{◌≡◌, true, ◌*◌, ◌≤◌, length};
+ghost use Rattle.std.specs.Prelude.{◌≡◌, true, ℕ, ◌+◌, ◌*◌, ◌<◌, ◌≤◌, length, drop};
+ghost use Rattle.nets.specs.Nets.{fits};
 ghost use Rattle.places.specs.Machine.{place_of, Held};
 ghost use Rattle.rows.specs.Rows.{row_size, row_at, rows_of};
-ghost use Rattle.heads.specs.Heads.{HeadHeld};
+ghost use Rattle.bundles.specs.Readers.{events_in, log_in};
+ghost use Rattle.bundles.specs.NextPlace.{place_in};
 ghost use Rattle.columns.specs.RowFits.{row_fits, fits_rows};
-ghost use Rattle.fitting.specs.Fitting.{events_fit, misfit_in};
+ghost use Rattle.fitting.specs.Fitting.{events_fit, misfit_in, misfit};
 
-use columns::{MATRIX, WIDTH, columns_fit, start, write_columns};
+use columns::Matrix;
+use columns::marking::Marking;
 use heads::TakenHead;
 use limits::MAX_EVENTS;
 use places::{Place, covers, has_bit};
-use rows::ROW;
+use rows::{ROW, counts_of};
 
 // Whether the tokens cover what each event of the mask takes. All twelve are tested without a branch: which bits are set is hard to predict.
-fn events_fit(tokens: i64, consumed: [u16; MAX_EVENTS], mask: u16) -> bool
+fn events_fit(tokens: i64, consumed: &[u16; MAX_EVENTS], mask: u16) -> bool
     requires { Held tokens }
-    ensures { result ≡ events_fit tokens consumed mask }
+    ensures { result ≡ events_fit tokens consumed.now mask }
 {
     let mut fit = true;
-    let mut e = 0;
-    while e < MAX_EVENTS {
-        fit = fit & (!has_bit(mask, e) | covers(tokens, consumed[e]));
-        e += 1;
+    for (e, consumed) in consumed.iter().enumerate() {
+        fit &= !has_bit(mask, e) | covers(tokens, *consumed);
     }
     fit
 }
 
-// Whether a place permits what the row at the front of a slice allows. Nothing is computed for a row that nothing follows.
-fn row_fits(place: Place, row: &[u16]) -> bool
-    requires { row_size ≤ length row.now }
-    ensures { result ≡ row_fits (place_of place) (row_at row.now) }
+// Whether a place permits what a row of a table allows. Nothing is computed for a row that nothing follows.
+fn row_fits(place: &Place, table: &[u16], row: usize) -> bool
+    requires { row_size * row + row_size ≤ length table.now }
+    ensures { result ≡ row_fits (place_of place.now) (row_at (drop (row_size * row) table.now)) }
 {
-    let mask = row[MAX_EVENTS];
+    let mask = table[ROW * row + MAX_EVENTS];
     if mask == 0 {
         return true;
     }
-    let tokens = places::tokens(place, row);
-    let consumed = place.consumed;
-    events_fit(tokens, consumed, mask)
+    let tokens = place.tokens(counts_of(table, row));
+    events_fit(tokens, &place.consumed, mask)
 }
 
 // Whether a place permits what the rows of a table allow.
-fn fits(place: Place, table: &[u16], rows: usize) -> bool
+fn fits(place: &Place, table: &[u16], rows: usize) -> bool
     requires { row_size * rows ≤ length table.now }
-    ensures { result ≡ fits_rows (place_of place) (rows_of rows table.now) }
+    ensures { result ≡ fits_rows (place_of place.now) (rows_of rows table.now) }
 {
-    let mut r = 0;
-    while r < rows {
-        let at = ROW * r;
-        if !row_fits(place, &table[at..]) {
-            return false;
-        }
-        r += 1;
-    }
-    true
+    (0..rows).all(|row| row_fits(place, table, row))
 }
 
 // Whether the places of a bundle all fit, tested side by side, eight at a time: the columns behind the last place are zero, and fit. False says
-// nothing: it is the answer also where there is so little to test that clearing the matrix would take longer.
-fn all_fit(bundle: &[u8], head: TakenHead, table: &[u16]) -> bool
-    requires { HeadHeld bundle.now table.now head }
-    ensures { result ≡ true → head.places.count ≡ misfit_in bundle.now }
+// nothing, and so this is no Option: it is the answer also where there is so little to test that clearing the matrix would take longer.
+fn all_fit(head: &TakenHead) -> bool
+    ensures { result ≡ true → head.now.net.count ≡ misfit_in head.now.net.bundle.now }
 {
-    let count = head.places.count;
-    if (count < 8) & (head.rows < 8) {
+    let net = head.net;
+    if net.count < 8 && head.rows < 8 {
         return false;
     }
-    let mut matrix = [0u16; MATRIX];
-    write_columns(bundle, head, &mut matrix);
-    let mut tokens = [0i64; WIDTH];
-    let width = (count + 7) / 8 * 8;
-    start(&mut tokens, width, &matrix);
-    columns_fit(&mut tokens, width, &matrix, table, head.rows)
+    let mut matrix = Matrix::clear();
+    matrix.write(net);
+    let mut marking = Marking::clear();
+    matrix.start(&mut marking, net.count);
+    matrix.fit(&mut marking, head.table, head.rows)
 }
 
-// The first place of a bundle that does not fit, or the number of places, each tested on its own.
-fn search_misfit(bundle: &[u8], head: TakenHead, table: &[u16]) -> usize
-    requires { HeadHeld bundle.now table.now head }
-    ensures { result ≡ misfit_in bundle.now }
+// Whether place j of a bundle fits.
+fn place_fits(head: &TakenHead, j: usize) -> bool
+    requires { j < head.now.net.count }
+    ensures { result ≡ fits (events_in head.now.net.bundle.now) (log_in head.now.net.bundle.now) (place_in head.now.net.bundle.now j) }
 {
-    let n = head.n;
-    let size = 2 * (1 + 2 * n);
-    let count = head.places.count;
-    let mut at = head.places.first;
-    let mut j = 0;
-    while j < count {
-        let place = bundles::net::place_at(bundle, at, n);
-        if !fits(place, table, head.rows) {
-            return j;
-        }
-        at += size;
-        j += 1;
-    }
-    count
+    fits(&head.net.place(j), head.table, head.rows)
 }
 
-// The first place of a bundle that does not fit, or the number of places. Mostly all fit, which is faster to find out.
-pub fn first_misfit(bundle: &[u8], head: TakenHead, table: &[u16]) -> usize
-    requires { HeadHeld bundle.now table.now head }
-    ensures { result ≡ misfit_in bundle.now }
+// The first place of a bundle that does not fit. Each is tested on its own.
+fn search_misfit(head: &TakenHead) -> Option<usize>
+    ensures { result ≡ misfit head.now.net.bundle.now }
 {
-    if all_fit(bundle, head, table) {
-        return head.places.count;
+    (0..head.net.count).find(|j| !place_fits(head, *j))
+}
+
+// The first place of a bundle that does not fit. Mostly all fit, which is faster to find out.
+pub fn first_misfit(head: &TakenHead) -> Option<usize>
+    ensures { result ≡ misfit head.now.net.bundle.now }
+{
+    if all_fit(head) {
+        return None;
     }
-    search_misfit(bundle, head, table)
+    search_misfit(head)
 }

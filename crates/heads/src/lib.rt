@@ -1,142 +1,103 @@
 // Reading a bundle up to its last place, with the rows of its log taken into a table.
 #![tactic(auto)]
 
-ghost use Rattle.std.specs.Prelude.{◌≡◌, List, ℕ, ◌≤◌, ◌<◌, length};
+ghost use Rattle.std.specs.Prelude.{◌≡◌, ◌≤◌, length, OnOk};
 ghost use Rattle.limits.specs.Limits.{max_events, max_log_events, max_rows};
-ghost use Rattle.nets.specs.Nets.{Log};
+ghost use Rattle.laws.specs.Numbers.{Bytes};
 ghost use Rattle.logs.specs.Answers.{table_size};
-ghost use Rattle.rows.specs.Index.{index_size, Index};
-ghost use Rattle.bundles.specs.Reading.{got};
-ghost use Rattle.bundles.specs.Readers.{first_byte};
-ghost use Rattle.heads.specs.Taken.{Fresh, LogHeld, OneMore, AllTaken, Reindexed};
-ghost use Rattle.heads.specs.Heads.{HeadIs};
+ghost use Rattle.rows.specs.Index.{IsIndex};
+ghost use Rattle.heads.specs.Taken.{Fresh, TakesNext, AllTaken};
+ghost use Rattle.heads.specs.Heads.{HeadHeld, HeadHeld-prop, HeadIs};
 
-use bundles::fields::any_byte;
-use bundles::net::read_places;
-use bundles::words::{read_word, word_before};
-use bundles::{Field, Places, PlacesRead, read_first};
-use limits::MAX_ROWS;
-use refusals::{ROWS, Refusal};
-use rows::index::{INDEX, index_rows};
+use bundles::Reader;
+use bundles::net::Net;
+use refusals::{Cause, Refusal};
+use rows::index::Index;
 use taking::add_word;
 
-// A log so far: its rows, its events, and the offset behind it.
-#[derive(Clone, Copy)]
-pub enum LogTaken {
-    Taken(usize, usize, usize),
-    Refused(Refusal),
-}
-
-// Takes the word at an offset behind a log with so many rows and events. `numbers` is for the rows of its prefixes.
-fn take_word(
-    bundle: &[u8],
-    at: usize,
-    n: usize,
+// A log while its words are taken into a table: its rows and events so far, an index of the rows, and room for the rows of a word's prefixes.
+// The table is lent on from call to call, so what is true of both stands in clauses.
+#[derive(Drop)]
+struct LogSoFar {
     rows: usize,
     events: usize,
-    table: &mut [u16],
-    index: &mut [u16],
-    numbers: &mut [u16],
-) -> LogTaken
-    requires n_bound { (n ≤ max_events)
-        × (rows ≤ max_rows)
-        × (events ≤ max_log_events)
-        × (table_size ≤ length table.old) }
-    requires index { Index rows table.old index.old
-        × (index_size ≤ length index.old)
-        × (255 < length numbers.old) }
-    ensures one_more { (log : Log) (t₀ : List ℕ) → LogHeld n log t₀ table.old rows events → OneMore n bundle.now at log t₀ table.new rows events result }
-    ensures reindexed { Reindexed table.new index.new result }
-{
-    match read_word(bundle, at, n, events) {
-        Field::Refused(refusal) => LogTaken::Refused(refusal),
-        Field::Value(size, next) => {
-            let word = word_before(bundle, next, size);
-            let more = add_word(table, rows, word, index, numbers);
-            if MAX_ROWS < more {
-                return LogTaken::Refused(Refusal {
-                    number: ROWS,
-                    spot: at,
-                });
-            }
-            index_rows(table, rows, more, index);
-            LogTaken::Taken(more, events + size, next)
+    index: Index,
+    numbers: [u16; 256],
+}
+
+impl LogSoFar {
+    // The empty log, whose row is in the table.
+    #[inline(always)]
+    fn new(table: &[u16]) -> Self
+        requires { table_size ≤ length table.now }
+        ensures { (result.rows ≡ 1) × (result.events ≡ 0) × IsIndex 1 table.now result.index }
+    {
+        let mut index = Index::new();
+        index.extend(table, 0, 1);
+        LogSoFar {
+            rows: 1,
+            events: 0,
+            index,
+            numbers: [0; 256],
         }
     }
-}
 
-// Takes the words of a log at an offset into a table that has the row of the empty log.
-fn take_words(bundle: &[u8], at: usize, n: usize, count: usize, table: &mut [u16]) -> LogTaken
-    requires { (n ≤ max_events) × Fresh table.old }
-    ensures { AllTaken n bundle.now at count table.old table.new result }
-{
-    let mut index = [0u16; INDEX];
-    index_rows(table, 0, 1, &mut index);
-    let mut numbers = [0u16; 256];
-    let mut rows = 1;
-    let mut events = 0;
-    let mut next = at;
-    let mut left = count;
-    while 0 < left {
-        let taken = take_word(
-            bundle,
-            next,
-            n,
-            rows,
-            events,
-            table,
-            &mut index,
-            &mut numbers,
-        );
-        let LogTaken::Taken(more, sum, after) = taken else {
-            return taken;
-        };
-        rows = more;
-        events = sum;
-        next = after;
-        left -= 1;
+    // Takes the next word of a bundle over n events.
+    fn take_word(&mut self, reader: &mut Reader, n: u8, table: &mut [u16]) -> Result<(), Refusal>
+        requires bounds { (n ≤ max_events)
+            × (self.old.rows ≤ max_rows)
+            × (self.old.events ≤ max_log_events)
+            × (table_size ≤ length table.old)
+            × Bytes reader.old.bytes.now }
+        requires index { IsIndex self.old.rows table.old self.old.index }
+        ensures one_more { TakesNext n reader.old reader.new table.old table.new self.old self.new result }
+        ensures indexed { OnOk result (IsIndex self.new.rows table.new self.new.index) }
+    {
+        let at = reader.at;
+        let word = reader.word(usize::from(n), self.events)?;
+        let taken = add_word(table, self.rows, word, Some(&self.index), &mut self.numbers);
+        let rows = taken.ok_or(Cause::Rows.at(at))?;
+        self.index.extend(table, self.rows, rows);
+        self.rows = rows;
+        self.events += word.len();
+        Ok(())
     }
-    LogTaken::Taken(rows, events, next)
 }
 
-// A bundle up to its last place whose log is in a table: its event count, its places, and the rows of its log.
+// Takes the words of a log into a table that has the row of the empty log. Returns how many rows the log has.
+fn take_words(reader: &mut Reader, n: u8, count: u8, table: &mut [u16]) -> Result<usize, Refusal>
+    requires { (n ≤ max_events) × Fresh table.old × Bytes reader.old.bytes.now }
+    ensures { AllTaken n reader.old reader.new count table.old table.new result }
+{
+    let mut log = LogSoFar::new(table);
+    for _word in 0..count {
+        log.take_word(reader, n, table)?;
+    }
+    Ok(log.rows)
+}
+
+// A bundle up to its last place, with a table that has the rows of its log in front.
 #[derive(Clone, Copy)]
-pub struct TakenHead {
-    pub n: usize,
-    pub places: Places,
+pub struct TakenHead<'a> {
+    pub net: Net<'a>,
     pub rows: usize,
+    pub table: &'a [u16],
+    pub ghost held: { HeadHeld table.now net rows } by { HeadHeld-prop table.now net rows },
 }
 
-#[derive(Clone, Copy)]
-pub enum HeadTaken {
-    Taken(TakenHead),
-    Refused(Refusal),
-}
-
-// A head from its word count on, behind n.
-fn take_after(bundle: &[u8], at: usize, n: usize, table: &mut [u16]) -> HeadTaken
-    requires { (first_byte bundle.now 0 ≡ got n at) × Fresh table.old }
-    ensures { HeadIs bundle.now table.old table.new result }
-{
-    match any_byte(bundle, at) {
-        Field::Refused(refusal) => HeadTaken::Refused(refusal),
-        Field::Value(count, start) => match take_words(bundle, start, n, count, table) {
-            LogTaken::Refused(refusal) => HeadTaken::Refused(refusal),
-            LogTaken::Taken(rows, _, end) => match read_places(bundle, end, n) {
-                PlacesRead::Refused(refusal) => HeadTaken::Refused(refusal),
-                PlacesRead::Read(places) => HeadTaken::Taken(TakenHead { n, places, rows }),
-            },
-        },
-    }
-}
-
-// Reads a bundle up to its last place, and takes its log into a table that has the row of the empty log. (Inner function.)
-pub fn take_head(bundle: &[u8], table: &mut [u16]) -> HeadTaken
+// Reads a bundle up to its last place, and takes its log into a table that has the row of the empty log. Returns the net, and how many rows the log
+// has. (Inner function.)
+pub fn take_head<'a>(bundle: &'a [u8], table: &mut [u16]) -> Result<(Net<'a>, usize), Refusal>
     requires { Fresh table.old }
-    ensures { HeadIs bundle.now table.old table.new result }
+    ensures { HeadIs bundle.entry table.old table.new result }
 {
-    match read_first(bundle) {
-        Field::Refused(refusal) => HeadTaken::Refused(refusal),
-        Field::Value(n, at) => take_after(bundle, at, n, table),
-    }
+    let mut reader = Reader {
+        bytes: bundle,
+        at: 0,
+    };
+    let n = reader.first_byte()?;
+    let count = reader.any_byte()?;
+    let rows = take_words(&mut reader, n, count, table)?;
+    let net = reader.places(n)?;
+    Ok((net, rows))
 }

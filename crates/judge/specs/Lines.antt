@@ -1,5 +1,5 @@
 -- The line of a verdict.
-use Rattle.std.specs.Prelude.{◌≡◌, refl, ℕ}
+use Rattle.std.specs.Prelude.{◌≡◌, refl, ℕ, Err, Ok}
 use Rattle.std.proofs.Common.{ap}
 use mathlib.Core.List.{List, [], ◌∷◌, flat_map}
 use Rattle.laws.specs.Lists.{all}
@@ -9,8 +9,7 @@ use Rattle.lines.specs.Decimals.{last_digit, digits_in, decimal}
 use Rattle.lines.specs.Lines.{ascii, spaced, line, refusal_line, in_word, line_unique, words-differ, refusal-line_unique}
 use Rattle.judge.specs.Files.{input_verdict}
 use Rattle.verdicts.specs.declared.Tally.{Tally}
-use Rattle.verdicts.specs.declared.Verdict.{Verdict}
-use Rattle.verdicts.specs.declared.Verdict.TheVariants.{Accepted, Refused}
+use Rattle.verdicts.specs.Judging.{Verdict}
 
 -- the numbers of an accepted file, in the order of its line
 abbrev pub counts : Tally → List ℕ
@@ -18,8 +17,8 @@ counts t = t.rows ∷ t.allowed ∷ t.by_place ∷ t.by_weights ∷ []
 
 -- `accepted` and the four counts, or the refusal
 unfoldable pub verdict_line : Verdict → List ℕ
-verdict_line (Accepted t) = line (ascii "accepted") (counts t)
-verdict_line (Refused r) = refusal_line r
+verdict_line (Ok t) = line (ascii "accepted") (counts t)
+verdict_line (Err r) = refusal_line r
 
 -- what the program prints for an input
 abbrev pub input_line : List ℕ → List ℕ
@@ -32,25 +31,25 @@ unread_line = refusal_line (refusal file_length_number 0)
 -- the line determines the verdict
 pub verdict-line_unique : (v w : Verdict) → verdict_line v ≡ verdict_line w → v ≡ w
 unfolding verdict_line refusal_line all in_word
-verdict-line_unique (Accepted t) (Accepted u) e =
+verdict-line_unique (Ok t) (Ok u) e =
     let same = (line_unique (ascii "accepted") (ascii "accepted") (counts t) (counts u) refl refl e).1 in
     let rows : t.rows ≡ u.rows = cc in
     let allowed : t.allowed ≡ u.allowed = cc in
     let places : t.by_place ≡ u.by_place = cc in
     let weights : t.by_weights ≡ u.by_weights = cc in
-    λ i. Accepted (record { rows = rows i; allowed = allowed i; by_place = places i; by_weights = weights i })
-verdict-line_unique (Accepted t) (Refused r) e = words-differ 97 114 _ _ _ _ refl e
-verdict-line_unique (Refused r) (Accepted t) e = words-differ 114 97 _ _ _ _ refl e
-verdict-line_unique (Refused r) (Refused s) e = ap Refused (refusal-line_unique r s e)
+    λ i. Ok (record { rows = rows i; allowed = allowed i; by_place = places i; by_weights = weights i })
+verdict-line_unique (Ok t) (Err r) e = words-differ 97 114 _ _ _ _ refl e
+verdict-line_unique (Err r) (Ok t) e = words-differ 114 97 _ _ _ _ refl e
+verdict-line_unique (Err r) (Err s) e = ap Err (refusal-line_unique r s e)
 
 -- `accepted 5 4 5 1`
-pub verdict-sample : verdict_line (Accepted (record { rows = 5; allowed = 4; by_place = 5; by_weights = 1 }))
+pub verdict-sample : verdict_line (Ok (record { rows = 5; allowed = 4; by_place = 5; by_weights = 1 }))
     ≡ 97 ∷ 99 ∷ 99 ∷ 101 ∷ 112 ∷ 116 ∷ 101 ∷ 100 ∷ 32 ∷ 53 ∷ 32 ∷ 52 ∷ 32 ∷ 53 ∷ 32 ∷ 49 ∷ 10 ∷ []
 unfolding verdict_line line flat_map spaced decimal digits_in last_digit
 verdict-sample = refl
 
 -- four different counts, each in its place: `accepted 7 6 5 3`
-pub counts-sample : verdict_line (Accepted (record { rows = 7; allowed = 6; by_place = 5; by_weights = 3 }))
+pub counts-sample : verdict_line (Ok (record { rows = 7; allowed = 6; by_place = 5; by_weights = 3 }))
     ≡ 97 ∷ 99 ∷ 99 ∷ 101 ∷ 112 ∷ 116 ∷ 101 ∷ 100 ∷ 32 ∷ 55 ∷ 32 ∷ 54 ∷ 32 ∷ 53 ∷ 32 ∷ 51 ∷ 10 ∷ []
 unfolding verdict_line line flat_map spaced decimal digits_in last_digit
 counts-sample = refl

@@ -1,16 +1,14 @@
 -- Judging a sealed file: which verdict it gets, and what it leaves in the table.
-use Rattle.std.specs.Prelude.{◌≡◌, refl, List, ℕ, length, take}
+use Rattle.std.specs.Prelude.{◌≡◌, refl, List, ℕ, length, take, Err, Ok}
 use Rattle.refusals.specs.Results.{Result, value, refused, ◌>>=◌, bind}
 use Rattle.refusals.specs.Answers.{fitted, answer, written}
 use Rattle.refusals.proofs.Laws.{answer-fitted, answer-refused}
 use Rattle.refusals.specs.declared.Refusal.{Refusal}
-use Rattle.refusals.specs.declared.Written.TheVariants as writing
 use Rattle.block.specs.File.{opened}
 use Rattle.bundles.specs.Reading.{Read}
 use Rattle.bundles.specs.Layout.{Contents}
 use Rattle.verdicts.specs.Judging.{judged, verdict_of, verdict, table_after}
-use Rattle.verdicts.specs.declared.Verdict.{Verdict}
-use Rattle.verdicts.specs.declared.Verdict.TheVariants as verdicts
+use Rattle.verdicts.specs.Judging.{Verdict}
 
 -- a file opened into so much room, its bundle judged with a table of so many numbers: 1, then 17, 18 or 2, then 3, then the judge's refusals
 unfoldable pub file_judged : List ℕ → ℕ → ℕ → Read Contents
@@ -29,13 +27,13 @@ file_table (refused number spot) t = t
 -- ---- Laws: one for each answer of opening
 
 module _ (file room table : List ℕ) where
-  pub file-refused : (r : Refusal) → answer (opened file) (length room) ≡ writing.Refused r
-      → (file_verdict file (length room) (length table) ≡ verdicts.Refused r) × (file_table (fitted (opened file) (length room)) table ≡ table)
+  pub file-refused : (r : Refusal) → answer (opened file) (length room) ≡ Err r
+      → (file_verdict file (length room) (length table) ≡ Err r) × (file_table (fitted (opened file) (length room)) table ≡ table)
   unfolding file_verdict file_judged file_table bind verdict_of
   file-refused r e = rw (answer-refused (opened file) (length room) r e) (refl, refl)
 
   -- the bundle is in front of the room
-  pub file-opened : (n : ℕ) → answer (opened file) (length room) ≡ writing.Length n
+  pub file-opened : (n : ℕ) → answer (opened file) (length room) ≡ Ok n
       → (file_verdict file (length room) (length table) ≡ verdict (length table) (take n (written (opened file) room)))
       × (file_table (fitted (opened file) (length room)) table ≡ table_after (take n (written (opened file) room)) table)
   unfolding file_verdict file_judged file_table bind verdict

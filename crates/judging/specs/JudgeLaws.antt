@@ -1,19 +1,21 @@
 -- Judging in the code's steps: the head, the places, the certificates, the end; and the table that it leaves.
-use Rattle.std.specs.Prelude.{◌≡◌, Bool, ℕ, ◌*◌, ◌≤◌, ◌<◌, leb, length, drop, replicate}
+use Rattle.std.specs.Prelude.{◌≡◌, Some, None, Bool, ℕ, ◌*◌, ◌≤◌, ◌<◌, leb, length, drop, replicate, Err, Ok}
+use Rattle.std.specs.Result.{is_err}
 use Rattle.std.proofs.Math.Path.{refl, sym}
-use Rattle.std.proofs.Common.{ap, ◌∙◌, arith, drop_at}
+use Rattle.std.proofs.Common.{ap, ◌∙◌, ⊎_elim, ltb, ltb-true, lt-ltb, arith, drop_at}
+use Rattle.std.proofs.lemmas.Option.{none-some, cond_some}
 use Rattle.std.proofs.Math.Bool.{true, false, cond}
 use mathlib.Core.List.{List, [], ◌++◌}
 use Rattle.std.proofs.lemmas.List.{length-replicate}
 use borrow.Author.Tests.{le-leb, lt-leb}
-use Rattle.laws.specs.Booleans.{impossible}
+use Rattle.laws.specs.Booleans.{impossible, lt_or_le}
 use Rattle.laws.specs.Lists.{all}
 use Rattle.laws.specs.Scans.{first_failing, failing-all, failing-some}
 use Rattle.laws.specs.Parts.{drop_more}
 use Rattle.limits.specs.Limits.{max_rows, right_size}
 use Rattle.refusals.specs.Table.{place_misfit_number, bytes_follow_number, bundle_length_number, numbers_short_number}
 use Rattle.refusals.specs.Results.{value, refused, bind}
-use Rattle.refusals.specs.Answers.{refusal}
+use Rattle.refusals.specs.Answers.{Answer, refusal}
 use Rattle.nets.specs.Nets.{tally}
 use Rattle.rows.specs.Rows.{row_size, with_rows, cleared, Holds}
 use Rattle.logs.specs.Answers.{table_size}
@@ -23,25 +25,20 @@ use Rattle.bundles.specs.Reading.{Read, got, item, Reader, and_then, ◌>>=◌, 
 use Rattle.bundles.specs.Layout.{CertificateFields, Head, Contents, wrong_in, fits_in, to_net, to_bundle, words_in}
 use Rattle.bundles.specs.Readers.{head, rows_in_limit, bundle_size, head_of, log_in, net_in}
 use Rattle.bundles.specs.ReadingLaws.{and_then-got, require-got}
-use Rattle.bundles.specs.HeadReading.{net-size}
-use Rattle.verdicts.specs.Judging.{solved, at_end, after_head, contents, judging, judged, tally_of, verdict_of, verdict, table_on, table_after}
+use Rattle.verdicts.specs.Judging.{Verdict, solved, at_end, after_head, contents, judging, judged, tally_of, verdict_of, verdict, table_on, table_after}
 use Rattle.verdicts.proofs.Acceptance.{judged-right}
-use Rattle.verdicts.specs.declared.Verdict.{Verdict}
-use Rattle.verdicts.specs.declared.Verdict.TheVariants as verdicts
-use Rattle.heads.specs.Heads.{HeadHeld}
-use Rattle.heads.specs.declared.TakenHead.{TakenHead}
+use Rattle.verdicts.specs.declared.Tally.{Tally}
+use Rattle.fitting.specs.Fitting.{misfit}
 use Rattle.certificates.specs.Certifying.{certified_of}
-use Rattle.certificates.specs.declared.Certified.{Certified}
-use Rattle.certificates.specs.declared.Certified.TheVariants as certified
 
 -- what follows a head: its places are tested, its certificates are read, and nothing follows
 unfoldable pub afterwards : Head → List ℕ → ℕ → Read Contents
 afterwards h b at = and_then (after_head h b at) (λ c. at_end >> give c) b
 
 -- certificates that were read, and nothing may follow
-unfoldable pub ended_as : List ℕ → Certified → Verdict
-ended_as b (certified.Read counts next) = cond (leb (length b) next) (verdicts.Accepted counts) (verdicts.Refused (refusal bytes_follow_number next))
-ended_as b (certified.Refused r) = verdicts.Refused r
+unfoldable pub ended_as : List ℕ → Answer (Tally × ℕ) → Verdict
+ended_as b (Ok (counts, next)) = cond (leb (length b) next) (Ok counts) (Err (refusal bytes_follow_number next))
+ended_as b (Err r) = Err r
 
 -- the table before the last step: the log's rows where the bundle is accepted; else no number from 3,584 on is changed
 abbrev pub TableLeft : Read Contents → List ℕ → List ℕ → Type 0
@@ -50,21 +47,34 @@ TableLeft (refused number spot) t₀ t = drop table_size t ≡ drop table_size t
 
 -- ---- the places
 
-module _ {b t : List ℕ} {head : TakenHead} (held : HeadHeld b t head) {misfit : ℕ} (is : misfit ≡ first_failing (fits_in (head_of b)) (net_in b)) (at : ℕ) where
-  pub net_unfit : misfit < head.places.count → verdict_of (afterwards (head_of b) b at) ≡ verdicts.Refused (refusal place_misfit_number misfit)
+module _ (b : List ℕ) where
+  pub misfit-some : {j : ℕ} → misfit b ≡ Some j → (all (fits_in (head_of b)) (net_in b) ≡ false) × (first_failing (fits_in (head_of b)) (net_in b) ≡ j)
+  unfolding misfit
+  misfit-some {j} e =
+      let first : ℕ = first_failing (fits_in (head_of b)) (net_in b) in
+      let found = cond_some (ltb first (length (net_in b))) first j e in
+      (failing-some (fits_in (head_of b)) (net_in b) (ltb-true first (length (net_in b)) found.0), found.1)
+
+  pub misfit-none : misfit b ≡ None → all (fits_in (head_of b)) (net_in b) ≡ true
+  unfolding misfit
+  misfit-none e =
+      let first : ℕ = first_failing (fits_in (head_of b)) (net_in b) in
+      ⊎_elim (λ less. absurd (none-some first (sym e ∙ rw (lt-ltb first (length (net_in b)) less))))
+      (λ all_fit. failing-all (fits_in (head_of b)) (net_in b) all_fit) (lt_or_le first (length (net_in b)))
+
+module _ (b : List ℕ) (at : ℕ) where
+  pub net_unfit : all (fits_in (head_of b)) (net_in b) ≡ false
+      → verdict_of (afterwards (head_of b) b at) ≡ Err (refusal place_misfit_number (first_failing (fits_in (head_of b)) (net_in b)))
   unfolding afterwards after_head bind onward require verdict_of
-  net_unfit less =
-      let some : all (fits_in (head_of b)) (net_in b) ≡ false = failing-some (fits_in (head_of b)) (net_in b) (omega (arith, is, net-size held.found)) in
-      rw (some, is)
+  net_unfit some = rw some
 
   -- then the certificates decide
-  pub net-fits : head.places.count ≤ misfit → (r : Certified) → r ≡ certified_of (head_of b) (each (solved (head_of b)) (wrong_in (head_of b)) [] b at) → verdict_of (afterwards (head_of b) b at) ≡ ended_as b r
+  pub net-fits : all (fits_in (head_of b)) (net_in b) ≡ true → (r : Answer (Tally × ℕ))
+      → r ≡ certified_of (head_of b) (each (solved (head_of b)) (wrong_in (head_of b)) [] b at) → verdict_of (afterwards (head_of b) b at) ≡ ended_as b r
   unfolding afterwards after_head bind onward require verdict_of certified_of ended_as at_end
-  net-fits more r e =
-      let all_fit : all (fits_in (head_of b)) (net_in b) ≡ true = failing-all (fits_in (head_of b)) (net_in b) (omega (arith, is, net-size held.found)) in
-      rw (all_fit, e) (go (each (solved (head_of b)) (wrong_in (head_of b)) [] b at))
+  net-fits all_fit r e = rw (all_fit, e) (go (each (solved (head_of b)) (wrong_in (head_of b)) [] b at))
     where
-      last : (next : ℕ) (c : Contents) (ok : Bool) → verdict_of (and_then (cond ok (got (tt {0}) next) (refused bytes_follow_number next)) (λ u. give c) b) ≡ cond ok (verdicts.Accepted (tally_of (tally (to_bundle c)))) (verdicts.Refused (refusal bytes_follow_number next))
+      last : (next : ℕ) (c : Contents) (ok : Bool) → verdict_of (and_then (cond ok (got (tt {0}) next) (refused bytes_follow_number next)) (λ u. give c) b) ≡ cond ok (Ok (tally_of (tally (to_bundle c)))) (Err (refusal bytes_follow_number next))
       last next c true = refl
       last next c false = refl
 
@@ -119,29 +129,25 @@ pub cleared-again : (t₀ t : List ℕ) → drop table_size t ≡ drop table_siz
 unfolding cleared
 cleared-again t₀ t e = ap (λ (l : List ℕ). replicate table_size 0 ++ l) (e ∙ drop_at (replicate table_size 0) (drop table_size t₀) table_size (length-replicate {A = ℕ} table_size 0))
 
-unfoldable pub is_refused : Verdict → Bool
-is_refused (verdicts.Accepted c) = false
-is_refused (verdicts.Refused r) = true
-
 -- what is left of an accepted bundle stays; of a refused one it is cleared
-pub table_kept : (m : Read Contents) (t₀ t : List ℕ) → TableLeft m (cleared table_size t₀) t → is_refused (verdict_of m) ≡ false → t ≡ table_on m t₀
-unfolding verdict_of table_on is_refused
+pub table_kept : (m : Read Contents) (t₀ t : List ℕ) → TableLeft m (cleared table_size t₀) t → is_err (verdict_of m) ≡ false → t ≡ table_on m t₀
+unfolding verdict_of table_on
 table_kept (value (item d next)) t₀ t left e = left
 table_kept (refused number spot) t₀ t left e = impossible cc
 
-pub table-cleared : (m : Read Contents) (t₀ t : List ℕ) → TableLeft m (cleared table_size t₀) t → is_refused (verdict_of m) ≡ true → cleared table_size t ≡ table_on m t₀
-unfolding verdict_of table_on is_refused
+pub table-cleared : (m : Read Contents) (t₀ t : List ℕ) → TableLeft m (cleared table_size t₀) t → is_err (verdict_of m) ≡ true → cleared table_size t ≡ table_on m t₀
+unfolding verdict_of table_on
 table-cleared (value (item d next)) t₀ t left e = impossible cc
 table-cleared (refused number spot) t₀ t left e = cleared-again t₀ t left
 
 -- ---- the verdict, test by test
 
 module _ (b t : List ℕ) where
-  pub answer_4 : right_size (length b) ≡ false → (verdict (length t) b ≡ verdicts.Refused (refusal bundle_length_number 0)) × (table_after b t ≡ t)
+  pub answer_4 : right_size (length b) ≡ false → (verdict (length t) b ≡ Err (refusal bundle_length_number 0)) × (table_after b t ≡ t)
   unfolding verdict verdict_of judged bundle_size require bind onward table_after
   answer_4 e = (rw e, rw e)
 
-  pub answer_5 : right_size (length b) ≡ true → length t < table_size → (verdict (length t) b ≡ verdicts.Refused (refusal numbers_short_number table_size)) × (table_after b t ≡ t)
+  pub answer_5 : right_size (length b) ≡ true → length t < table_size → (verdict (length t) b ≡ Err (refusal numbers_short_number table_size)) × (table_after b t ≡ t)
   unfolding verdict verdict_of judged bundle_size require bind onward table_after
   answer_5 e h = let short = lt-leb table_size (length t) h in (rw (e, short), rw (e, short))
 

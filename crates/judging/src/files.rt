@@ -5,7 +5,6 @@ ghost use Rattle.block.specs.File.{opened};
 ghost use Rattle.judging.specs.Files.{file_verdict, file_table};
 
 use crate::judge;
-use refusals::Written;
 use verdicts::Verdict;
 
 // The verdict on a sealed file, whose bundle stands in front of the room afterwards, accepted or not. Inner function, of the program: the room is
@@ -16,8 +15,6 @@ pub fn judge_file(file: &[u8], room: &mut [u8], table: &mut [u16]) -> Verdict
     ensures room_after { room.new ≡ written (opened file.now) room.old }
     ensures table_after { table.new ≡ file_table (fitted (opened file.now) (length room.old)) table.old }
 {
-    match block::open(file, room) {
-        Written::Refused(refusal) => Verdict::Refused(refusal),
-        Written::Length(size) => judge(&room[..size], table),
-    }
+    let size = block::open(file, room)?;
+    judge(&room[..size], table)
 }

@@ -29,11 +29,9 @@ pub const MAX_TERMS: usize = 64;
 pub const MAX_WORD_EVENTS: usize = 65535;
 
 // Whether a bundle may have so many bytes. (Inner function.)
+#[tactic(auto, unfolding(crate::specs::Limits::right_size))]
 pub fn size_fits(size: usize) -> bool
     ensures { result ≡ right_size size }
 {
-    if size < 1 {
-        return false;
-    }
-    size <= MAX_BUNDLE_SIZE
+    (1..=MAX_BUNDLE_SIZE).contains(&size)
 }

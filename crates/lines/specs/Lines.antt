@@ -1,7 +1,7 @@
 -- The line that a program prints: a word, and numbers in decimal.
-use Rattle.std.specs.Prelude.{◌≡◌, refl, Bool, true, false, not, ◌&&◌, ◌||◌, ℕ, eqb, get_or}
+use Rattle.std.specs.Prelude.{◌≡◌, refl, Bool, true, false, not, ◌&&◌, ◌||◌, ℕ, eqb, flat_map, get_or}
 use Rattle.std.proofs.Common.{sym, ap, ap₂, ◌∙◌, arith, ne_eqb}
-use mathlib.Core.List.{List, [], ◌∷◌, ◌++◌, flat_map, append_assoc}
+use mathlib.Core.List.{List, [], ◌∷◌, ◌++◌, append_assoc}
 use Prim.Native.Char.{code}
 use Prim.Native.String as text
 use Prim.Native.String.{String}
@@ -64,7 +64,7 @@ others [] = []
 others (n ∷ ns) = decimal n ++ behind ns
 
 behind-first : (ns : List ℕ) → behind ns ≡ first ns ∷ others ns
-unfolding flat_map spaced
+unfolding spaced
 behind-first [] = refl
 behind-first (n ∷ ns) = ap (λ (l : List ℕ). 32 ∷ l) (append_assoc (decimal n) (flat_map spaced ns) (10 ∷ []))
 
@@ -117,5 +117,5 @@ refusal-line_unique r s e =
 
 -- `refused 6 3`
 pub refusal-sample : refusal_line (refusal 6 3) ≡ 114 ∷ 101 ∷ 102 ∷ 117 ∷ 115 ∷ 101 ∷ 100 ∷ 32 ∷ 54 ∷ 32 ∷ 51 ∷ 10 ∷ []
-unfolding refusal_line line flat_map spaced decimal digits_in last_digit
+unfolding refusal_line line spaced decimal digits_in last_digit
 refusal-sample = refl

@@ -1,61 +1,86 @@
 // The line that a program prints, as bytes: a word, each number in decimal behind one space, and a newline. All are inner functions.
 #![tactic(auto)]
 
-ghost use Rattle.std.specs.Prelude.{◌≡◌, ◌+◌, ◌*◌, ◌≤◌, ◌<◌, length};
-ghost use mathlib.Core.List.{flat_map};
-ghost use Rattle.laws.specs.Parts.{front, spliced};
+ghost use Rattle.std.specs.Prelude.{◌≡◌, ℕ, ◌+◌, ◌*◌, ◌≤◌, ◌<◌, List, [], ◌++◌, length, take};
 ghost use Rattle.lines.specs.Lines.{spaced, line, refusal_line};
 
 use refusals::Refusal;
-use slices::write_at;
+use std::marker::Model;
 
 // Room for every line that a program prints: a word of 43 bytes and four numbers of 20 digits.
 pub const LINE_SIZE: usize = 128;
 
-// Writes a space and a number, 20 digits at most, from `at` on. Where they end.
-fn write_number(output: &mut [u8], at: usize, n: usize) -> usize
-    requires { at + 21 ≤ length output.old }
-    ensures value { (result ≡ at + length (spaced n)) × (result ≤ at + 21) }
-    ensures output_after { output.new ≡ spliced at (spaced n) output.old }
-{
-    let mut digits = [0u8; 20];
-    let size = io::decimal(n as u64, &mut digits);
-    output[at] = b' ';
-    write_at(output, at + 1, &digits[..size]);
-    at + 1 + size
+// A line as far as it is written, in front of the rest of its room. Clauses see the bytes that are written.
+#[derive(Drop)]
+pub struct Line<const SIZE: usize> {
+    bytes: [u8; SIZE],
+    end: usize,
 }
 
-// Writes numbers from `at` on, each behind one space. Where they end.
-fn write_numbers(output: &mut [u8], at: usize, numbers: &[usize]) -> usize
-    requires { at + 21 * length numbers.now ≤ length output.old }
-    ensures value { (result ≡ at + length (flat_map spaced numbers.now)) × (result ≤ at + 21 * length numbers.now) }
-    ensures output_after { output.new ≡ spliced at (flat_map spaced numbers.now) output.old }
-{
-    let mut end = at;
-    let mut i = 0;
-    while i < numbers.len() {
-        end = write_number(output, end, numbers[i]);
-        i += 1;
+impl<const SIZE: usize> Model for Line<SIZE> {
+    ghost Value = { List ℕ };
+
+    ghost view = { λ l. take l.end l.bytes };
+
+    ghost invariant = { λ l. l.end ≤ SIZE };
+}
+
+impl<const SIZE: usize> Line<SIZE> {
+    // The line of a word and numbers.
+    #[tactic(auto, unfolding(crate::specs::Lines::line))]
+    pub fn new(word: &[u8], numbers: &[usize]) -> Self
+        requires { length word.now + 21 * length numbers.now < SIZE }
+        ensures { result ≡ line word.now numbers.now }
+    {
+        let mut line = Line {
+            bytes: [0; SIZE],
+            end: 0,
+        };
+        line.push(word);
+        for number in numbers {
+            line.push_number(*number);
+        }
+        line.push(b"\n");
+        line
     }
-    end
+
+    // Writes bytes behind those that are written.
+    fn push(&mut self, bytes: &[u8])
+        requires { length self.old + length bytes.now ≤ SIZE }
+        ensures { self.new ≡ self.old ++ bytes.now }
+    {
+        let room: &mut [u8] = &mut self.bytes;
+        let end = self.end + bytes.len();
+        room[self.end..end].copy_from_slice(bytes);
+        self.end = end;
+    }
+
+    // Writes a space and a number, of 20 digits at most. It is cast, since std has no `From` of `usize` for `u64`.
+    fn push_number(&mut self, n: usize)
+        requires { length self.old + 21 ≤ SIZE }
+        ensures written { self.new ≡ self.old ++ spaced n }
+        ensures within { length self.new ≤ length self.old + 21 }
+    {
+        let mut digits = [0; 20];
+        let size = io::decimal(n as u64, &mut digits);
+        self.push(b" ");
+        self.push(&digits[..size]);
+    }
+
+    // The bytes that are written.
+    pub fn as_bytes(&self) -> &[u8]
+        ensures { result.now ≡ self.now }
+    {
+        &self.bytes[..self.end]
+    }
 }
 
-// Writes the line of a word and numbers in front of the output. Its length.
-pub fn write_line(output: &mut [u8], word: &[u8], numbers: &[usize]) -> usize
-    requires { length word.now + 21 * length numbers.now < length output.old }
-    ensures value { result ≡ length (line word.now numbers.now) }
-    ensures output_after { output.new ≡ front (line word.now numbers.now) output.old }
-{
-    write_at(output, 0, word);
-    let end = write_numbers(output, word.len(), numbers);
-    output[end] = b'\n';
-    end + 1
-}
-
-// Writes the line of a refusal in front of the output. Its length.
-pub fn write_refusal(output: &mut [u8; LINE_SIZE], refusal: Refusal) -> usize
-    ensures value { result ≡ length (refusal_line refusal) }
-    ensures output_after { output.new ≡ front (refusal_line refusal) output.old }
-{
-    write_line(output, b"refused", &[refusal.number as usize, refusal.spot])
+impl Line<LINE_SIZE> {
+    // The line of a refusal.
+    #[tactic(auto, unfolding(crate::specs::Lines::refusal_line))]
+    pub fn of_refusal(refusal: Refusal) -> Self
+        ensures { result ≡ refusal_line refusal }
+    {
+        Line::new(b"refused", &[usize::from(refusal.number), refusal.spot])
+    }
 }

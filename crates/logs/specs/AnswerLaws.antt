@@ -1,5 +1,5 @@
 -- How taking a word ends: one law for each way, by the tests in their order.
-use Rattle.std.specs.Prelude.{◌≡◌, refl, true, false, List, ℕ, ◌+◌, ◌-◌, ◌<◌, ◌≤◌, leb}
+use Rattle.std.specs.Prelude.{◌≡◌, refl, true, false, List, ℕ, ◌+◌, ◌-◌, ◌<◌, ◌≤◌, leb, Err, Ok, None, Some}
 use Rattle.std.proofs.Common.{sym, ◌∙◌, lt_of_lt_of_le, leb-true, le-leb}
 use Rattle.std.proofs.Math.Path.{ap}
 use native.Mathlib.Omega.{arith}
@@ -14,17 +14,17 @@ use Rattle.refusals.specs.Results.{Result, value, refused, ◌>>◌, require, pa
 use Rattle.refusals.specs.Answers.{refusal}
 use Rattle.refusals.specs.declared.Refusal.{Refusal}
 use Rattle.nets.specs.Events.{first_bad, none_bad}
-use Rattle.rows.specs.Rows.{rows_of, none, Added}
+use Rattle.rows.specs.Rows.{rows_of, none, new_rows, Added}
+use Rattle.rows.specs.Adding.{added_some, added_none}
 use Rattle.logs.specs.Answers.{table_size, right_event_count, right_summary, taken_of, rows_after, word_taken, taken_answer, taken_table}
 use Rattle.taking.specs.Takable.{Takable}
 use Rattle.rows.specs.Flat.{length-rows, holds_with}
 use Rattle.rows.specs.Growth.{length-take}
 use Rattle.logs.specs.declared.Summary.{Summary}
-use Rattle.logs.specs.declared.Taken.{Taken}
-use Rattle.logs.specs.declared.Taken.TheVariants.{Next, Refused}
+use Rattle.logs.specs.Answers.{Taken}
 
 -- an answer with a summary is that of the chain behind it
-pub next→value : (m : Result Summary) (s : Summary) → taken_of m ≡ Next s → m ≡ value s
+pub next→value : (m : Result Summary) (s : Summary) → taken_of m ≡ Ok s → m ≡ value s
 unfolding taken_of
 next→value (value s') s e = cc
 next→value (refused number spot) s e = impossible cc
@@ -43,7 +43,7 @@ right_summary-bounds s e =
 
 module _ (s : Summary) (t w : List ℕ) where
   -- a refused word leaves the table
-  pub refused-table : (r : Refusal) → taken_answer s t w ≡ Refused r → t ≡ taken_table (taken_answer s t w) s t w
+  pub refused-table : (r : Refusal) → taken_answer s t w ≡ Err r → t ≡ taken_table (taken_answer s t w) s t w
   unfolding taken_table
   refused-table r e = rw e
 
@@ -51,19 +51,19 @@ module _ (s : Summary) (t w : List ℕ) where
   abbrev pub Ends : Taken → List ℕ → Type 0
   Ends answer after = (answer ≡ taken_answer s t w) × (after ≡ taken_table (taken_answer s t w) s t w)
 
-  ends-refused : (number spot : ℕ) → word_taken s t w ≡ refused number spot → Ends (Refused (refusal number spot)) t
+  ends-refused : (number spot : ℕ) → word_taken s t w ≡ refused number spot → Ends (Err (refusal number spot)) t
   unfolding taken_answer taken_of
   ends-refused number spot e = let a = ap taken_of e in (sym a, refused-table (refusal number spot) a)
 
-  pub answer_5 : length t < table_size → Ends (Refused (refusal numbers_short_number table_size)) t
+  pub answer_5 : length t < table_size → Ends (Err (refusal numbers_short_number table_size)) t
   unfolding word_taken
   answer_5 h = ends-refused _ _ (fails _ _ _ _ (lt-leb _ _ h))
 
-  pub answer_16 : table_size ≤ length t → right_summary s ≡ false → Ends (Refused (refusal state_range_number 0)) t
+  pub answer_16 : table_size ≤ length t → right_summary s ≡ false → Ends (Err (refusal state_range_number 0)) t
   unfolding word_taken
   answer_16 long e = ends-refused _ _ (passes _ _ _ _ (le-leb _ _ long) ∙ fails _ _ _ _ e)
 
-  pub answer_8 : table_size ≤ length t → right_summary s ≡ true → max_log_events - s.events < length w → Ends (Refused (refusal events_number 0)) t
+  pub answer_8 : table_size ≤ length t → right_summary s ≡ true → max_log_events - s.events < length w → Ends (Err (refusal events_number 0)) t
   unfolding word_taken
   answer_8 long fine h =
       let over : max_log_events < s.events + length w = omega arith in
@@ -78,7 +78,7 @@ module _ (s : Summary) (t w : List ℕ) where
   within : Admitted → s.events + length w ≤ max_log_events
   within a = let g = right_summary-bounds s a.fine in omega arith
 
-  pub answer_7 : Admitted → (bad : ℕ) → bad ≡ first_bad s.n w → bad < length w → Ends (Refused (refusal value_number bad)) t
+  pub answer_7 : Admitted → (bad : ℕ) → bad ≡ first_bad s.n w → bad < length w → Ends (Err (refusal value_number bad)) t
   unfolding word_taken first_bad
   answer_7 a bad first h =
       let some = failing-some (λ e. ltb e s.n) w (omega arith) in
@@ -104,25 +104,33 @@ module _ (s : Summary) (t w : List ℕ) where
         }
 
     -- its rows are added to the table, or there are too many
-    module _ (k : ℕ) (t' : List ℕ) (added : Added max_rows s.rows w t t' k) where
-      size : length (rows_after s t w) ≡ k
-      size = length-take (rows_of s.rows t) none w refl takable.below ∙ rw length-rows (sym added.size)
+    abbrev total : ℕ
+    total = s.rows + new_rows (rows_of s.rows t) none w
 
-      abbrev next : Summary
-      next = record { n = s.n; rows = k; events = s.events + length w }
+    abbrev next : ℕ → Summary
+    next k = record { n = s.n; rows = k; events = s.events + length w }
 
-      -- the test that is left
-      rows-test : word_taken s t w ≡ require (leb k max_rows) rows_number 0 >> value next
-      unfolding word_taken first_bad
-      rows-test =
-          let a = r.admitted in
-          passes _ _ _ _ (le-leb _ _ a.long) ∙ passes _ _ _ _ a.fine ∙ passes _ _ _ _ (le-leb _ _ (within a))
-          ∙ passes _ _ _ _ (failing-all (λ e. ltb e s.n) w r.events) ∙ rw size
+    size : length (rows_after s t w) ≡ total
+    size = length-take (rows_of s.rows t) none w refl takable.below ∙ rw length-rows refl
 
-      pub answer_9 : max_rows < k → Ends (Refused (refusal rows_number 0)) t'
-      answer_9 over = let e = ends-refused _ _ (rows-test ∙ fails _ _ _ _ (lt-leb _ _ over)) in (e.0, added.full over ∙ e.1)
+    -- the test that is left
+    rows-test : word_taken s t w ≡ require (leb total max_rows) rows_number 0 >> value (next total)
+    unfolding word_taken first_bad
+    rows-test =
+        let a = r.admitted in
+        passes _ _ _ _ (le-leb _ _ a.long) ∙ passes _ _ _ _ a.fine ∙ passes _ _ _ _ (le-leb _ _ (within a))
+        ∙ passes _ _ _ _ (failing-all (λ e. ltb e s.n) w r.events) ∙ rw size
 
-      pub answer-next : k ≤ max_rows → length t' ≡ length t → Ends (Next next) t'
+    module _ (t' : List ℕ) where
+      pub answer_9 : Added max_rows s.rows w t t' None → Ends (Err (refusal rows_number 0)) t'
+      answer_9 added =
+          let full = added_none max_rows s.rows t w t' added in
+          let e = ends-refused _ _ (rows-test ∙ fails _ _ _ _ (lt-leb _ _ full.0)) in
+          (e.0, full.1 ∙ e.1)
+
+      pub answer-next : (k : ℕ) → Added max_rows s.rows w t t' (Some k) → length t' ≡ length t → Ends (Ok (next k)) t'
       unfolding taken_answer taken_table taken_of
-      answer-next room kept =
-          rw (rows-test ∙ passes _ _ _ _ (le-leb _ _ room)) (refl, holds_with k _ t t' (added.fits room) (omega (arith, r.admitted.long)))
+      answer-next k added kept =
+          let fits = added_some max_rows s.rows t w k t' added in
+          let test : word_taken s t w ≡ value (next k) = rw fits.0 (rows-test ∙ passes _ _ _ _ (le-leb _ _ (rw (← fits.0) fits.1))) in
+          rw test (refl, holds_with k _ t t' fits.2 (omega (arith, fits.1, r.admitted.long)))

@@ -1,17 +1,15 @@
 -- What a fresh summary and a taken word answer, and what they leave in the table.
-use Rattle.std.specs.Prelude.{Bool, ◌&&◌, List, ℕ, ◌+◌, length, leb, ltb}
+use Rattle.std.specs.Prelude.{Bool, ◌&&◌, List, ℕ, ◌+◌, length, leb, ltb, Err, Ok}
 use Rattle.laws.specs.Lists.{all}
 use Rattle.limits.specs.Limits.{max_events, max_log_events, max_rows}
 use Rattle.refusals.specs.Table.{numbers_short_number, value_number, events_number, rows_number, state_range_number}
 use Rattle.refusals.specs.Results.{Result, value, refused, ◌>>◌, require}
-use Rattle.refusals.specs.Answers.{refusal}
+use Rattle.refusals.specs.Answers.{refusal, Answer}
 use Rattle.nets.specs.Events.{first_bad}
 use Rattle.nets.specs.Nets.{Word}
 pub use Rattle.rows.specs.Rows.{table_size}
 use Rattle.rows.specs.Rows.{Row, rows_of, with_rows, take_word, none, cleared}
 use Rattle.logs.specs.declared.Summary.{Summary}
-use Rattle.logs.specs.declared.Taken.{Taken}
-use Rattle.logs.specs.declared.Taken.TheVariants.{Next, Refused}
 
 -- 1 to 12 events
 unfoldable pub right_event_count : ℕ → Bool
@@ -22,9 +20,12 @@ unfoldable pub right_summary : Summary → Bool
 right_summary s = right_event_count s.n && (leb 1 s.rows && (leb s.rows max_rows && leb s.events max_log_events))
 
 -- a call's answer: the next summary, or the refusal
+abbrev pub Taken : Type 0
+Taken = Answer Summary
+
 unfoldable pub taken_of : Result Summary → Taken
-taken_of (value s) = Next s
-taken_of (refused number spot) = Refused (refusal number spot)
+taken_of (value s) = Ok s
+taken_of (refused number spot) = Err (refusal number spot)
 
 -- ---- A fresh summary
 
@@ -44,8 +45,8 @@ fresh_answer n t = taken_of (log_started n t)
 
 -- the table afterwards: its first 3,584 numbers zero; after a refusal as it was
 unfoldable pub fresh_table : Taken → List ℕ → List ℕ
-fresh_table (Next s) t = cleared table_size t
-fresh_table (Refused r) t = t
+fresh_table (Ok s) t = cleared table_size t
+fresh_table (Err r) t = t
 
 -- ---- A taken word
 
@@ -72,11 +73,11 @@ taken_answer s t w = taken_of (word_taken s t w)
 
 -- the table afterwards: with the rows after the word; after a refusal as it was
 unfoldable pub taken_table : Taken → Summary → List ℕ → Word → List ℕ
-taken_table (Next next) s t w = with_rows (rows_after s t w) t
-taken_table (Refused r) s t w = t
+taken_table (Ok next) s t w = with_rows (rows_after s t w) t
+taken_table (Err r) s t w = t
 
 -- ---- An answer as a number: 0 for a summary, else the refusal's
 
 unfoldable pub taken_number : Taken → ℕ
-taken_number (Next s) = 0
-taken_number (Refused r) = r.number
+taken_number (Ok s) = 0
+taken_number (Err r) = r.number

@@ -1,12 +1,11 @@
 -- The table of a log: its rows by the definitions of nets, and the words of a log taken one after the other.
-use Rattle.std.specs.Prelude.{◌≡◌, List, [], ◌∷◌, map, ℕ, min}
+use Rattle.std.specs.Prelude.{◌≡◌, List, [], ◌∷◌, map, ℕ, min, Ok}
 use Rattle.laws.specs.Bits.{mask_of}
 use Rattle.limits.specs.Limits.{max_events}
 use Rattle.nets.specs.Nets.{Log, Counts, rows, allowed, traffic}
 use Rattle.rows.specs.Rows.{max_traffic, Row, take_word, none}
 use Rattle.logs.specs.Answers.{taken_answer, taken_table}
 use Rattle.logs.specs.declared.Summary.{Summary}
-use Rattle.logs.specs.declared.Taken.TheVariants.{Next}
 
 -- the events that the log allows after the counts v, as a mask
 unfoldable pub mask_at : Log → Counts → ℕ
@@ -33,4 +32,4 @@ take_log rs (w ∷ ws) = take_log (take_word rs none w) ws
 unfoldable pub Takes : Summary → List ℕ → Log → Summary → List ℕ → Type 0
 Takes s t [] s' t' = (s' ≡ s) × (t' ≡ t)
 Takes s t (w ∷ ws) s' t' =
-    (next : Summary) × (taken_answer s t w ≡ Next next) × Takes next (taken_table (taken_answer s t w) s t w) ws s' t'
+    (next : Summary) × (taken_answer s t w ≡ Ok next) × Takes next (taken_table (taken_answer s t w) s t w) ws s' t'

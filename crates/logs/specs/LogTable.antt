@@ -1,5 +1,5 @@
 -- The table after the words of a log are taken from a fresh one.
-use Rattle.std.specs.Prelude.{◌≡◌, refl, true, ℕ, zero, suc, ◌+◌, ◌*◌, ◌-◌, ◌<◌, ◌≤◌, min, length, drop, ltb}
+use Rattle.std.specs.Prelude.{◌≡◌, refl, true, ℕ, zero, suc, ◌+◌, ◌*◌, ◌-◌, ◌<◌, ◌≤◌, min, length, drop, ltb, Ok}
 use Rattle.std.proofs.Common.{sym, ◌∙◌, subst, ⊎_elim, le_refl, le_trans, add-zero, zero-add, add_assoc, lt_of_lt_of_le, arith, length-append, length-drop, drop_at, length-take-le, leb-true}
 use Rattle.std.proofs.Math.Path.{ap}
 use mathlib.Core.List.Memᴰ
@@ -25,7 +25,6 @@ use Rattle.rows.specs.Visiting.{counts_of, visit_cases, length-visit, counts-fol
 use Rattle.rows.specs.Growth.{length-add_event, visit_le}
 use Rattle.logs.specs.LogRows.{log-rows}
 use Rattle.logs.specs.declared.Summary.{Summary}
-use Rattle.logs.specs.declared.Taken.TheVariants.{Next}
 
 -- rows of twelve counts each
 unfoldable pub Twelve : List Row → Type 0
@@ -94,7 +93,7 @@ pub record Took (s : Summary) (t w : List ℕ) (next : Summary) : Type 0 where
   pub fits : length (rows_after s t w) ≤ max_rows
   pub is : next ≡ summary_after s t w
 
-pub took : (s : Summary) (t w : List ℕ) (next : Summary) → taken_answer s t w ≡ Next next → Took s t w next
+pub took : (s : Summary) (t w : List ℕ) (next : Summary) → taken_answer s t w ≡ Ok next → Took s t w next
 unfolding taken_answer word_taken first_bad
 took s t w next e =
     let a = passed _ _ _ _ next (next→value (word_taken s t w) next e) in
@@ -163,7 +162,7 @@ pub cleared-length : (k : ℕ) (t : List ℕ) → k ≤ length (cleared k t)
 unfolding cleared
 cleared-length k t = rw (length-append, length-replicate) (omega arith)
 
-pub fresh-passed : (n : ℕ) (t : List ℕ) (s : Summary) → fresh_answer n t ≡ Next s → (n ≤ max_events) × (s ≡ fresh_summary n)
+pub fresh-passed : (n : ℕ) (t : List ℕ) (s : Summary) → fresh_answer n t ≡ Ok s → (n ≤ max_events) × (s ≡ fresh_summary n)
 unfolding fresh_answer log_started
 fresh-passed n t s e =
     let a = passed _ _ _ _ s (next→value (log_started n t) s e) in
@@ -210,7 +209,7 @@ length-log_rows n log h below =
 
 -- THE LAW: from a fresh table, the words of a log leave its rows, zeros up to number 3,583, and the rest of a longer table untouched
 pub log-table : (n : ℕ) (t : List ℕ) (ws : Log) (s s' : Summary) (t' : List ℕ)
-    → fresh_answer n t ≡ Next s → Takes s (fresh_table (fresh_answer n t) t) ws s' t'
+    → fresh_answer n t ≡ Ok s → Takes s (fresh_table (fresh_answer n t) t) ws s' t'
     → (s' ≡ record { n = n; rows = length (rows n ws); events = event_count ws }) × (t' ≡ with_rows (log_rows ws) (cleared table_size t))
 unfolding fresh_table
 log-table n t ws s s' t' e takes =

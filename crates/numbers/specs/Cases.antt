@@ -1,10 +1,6 @@
 -- Samples for the definitions: where each number stands in `answer`, which held 10, 11, 12 and 13.
-use Rattle.std.specs.Prelude.{◌≡◌, refl, List, [], ◌∷◌, ℕ}
+use Rattle.std.specs.Prelude.{◌≡◌, refl, List, [], ◌∷◌, ℕ, Err, None, Ok, Some}
 use Rattle.refusals.specs.Answers.{refusal, value_of}
-use Rattle.refusals.specs.declared.Written.TheVariants as writing
-use Rattle.logs.specs.declared.Taken.TheVariants as taking
-use Rattle.verdicts.specs.declared.Verdict.TheVariants as judging
-use Rattle.screening.specs.declared.Screened.TheVariants as screening
 use Rattle.numbers.specs.Numbers.{with_value, with_taken, with_verdict, with_screened}
 
 abbrev before : List ℕ
@@ -12,16 +8,16 @@ before = 10 ∷ 11 ∷ 12 ∷ 13 ∷ []
 
 -- what computing gives
 pub record Computed : Type 0 where
-  pub length : with_value before (writing.Length 5) ≡ 5 ∷ 11 ∷ 12 ∷ 13 ∷ []
-  pub summary : with_taken before (taking.Next (record { n = 2; rows = 4; events = 3 })) ≡ 2 ∷ 4 ∷ 3 ∷ 13 ∷ []
-  pub counts : with_verdict before (judging.Accepted (record { rows = 7; allowed = 6; by_place = 5; by_weights = 3 })) ≡ 7 ∷ 6 ∷ 5 ∷ 3 ∷ []
-  pub permitted : with_screened before screening.Permitted ≡ 10 ∷ 11 ∷ 12 ∷ 13 ∷ []
-  pub stop : with_screened before (screening.Stopped (record { position = 3; place = 1; shortfall = 2 })) ≡ 3 ∷ 1 ∷ 2 ∷ 13 ∷ []
+  pub length : with_value before (Ok 5) ≡ 5 ∷ 11 ∷ 12 ∷ 13 ∷ []
+  pub summary : with_taken before (Ok (record { n = 2; rows = 4; events = 3 })) ≡ 2 ∷ 4 ∷ 3 ∷ 13 ∷ []
+  pub counts : with_verdict before (Ok (record { rows = 7; allowed = 6; by_place = 5; by_weights = 3 })) ≡ 7 ∷ 6 ∷ 5 ∷ 3 ∷ []
+  pub permitted : with_screened before (Ok None) ≡ 10 ∷ 11 ∷ 12 ∷ 13 ∷ []
+  pub stop : with_screened before (Ok (Some (record { position = 3; place = 1; shortfall = 2 }))) ≡ 3 ∷ 1 ∷ 2 ∷ 13 ∷ []
   -- a refusal's spot
-  pub spots : (with_value before (writing.Refused (refusal 3 53)) ≡ 53 ∷ 11 ∷ 12 ∷ 13 ∷ [])
-      × (with_taken before (taking.Refused (refusal 7 4)) ≡ 4 ∷ 11 ∷ 12 ∷ 13 ∷ [])
-      × (with_verdict before (judging.Refused (refusal 12 2)) ≡ 2 ∷ 11 ∷ 12 ∷ 13 ∷ [])
-      × (with_screened before (screening.Refused (refusal 15 1)) ≡ 1 ∷ 11 ∷ 12 ∷ 13 ∷ [])
+  pub spots : (with_value before (Err (refusal 3 53)) ≡ 53 ∷ 11 ∷ 12 ∷ 13 ∷ [])
+      × (with_taken before (Err (refusal 7 4)) ≡ 4 ∷ 11 ∷ 12 ∷ 13 ∷ [])
+      × (with_verdict before (Err (refusal 12 2)) ≡ 2 ∷ 11 ∷ 12 ∷ 13 ∷ [])
+      × (with_screened before (Err (refusal 15 1)) ≡ 1 ∷ 11 ∷ 12 ∷ 13 ∷ [])
 
 pub computed : Computed
 unfolding value_of with_value with_taken with_verdict with_screened

@@ -1,13 +1,10 @@
 -- What the numbers handed out hold afterwards.
-use Rattle.std.specs.Prelude.{List, ℕ, set}
-use Rattle.refusals.specs.Answers.{value_of}
-use Rattle.refusals.specs.declared.Written.{Written}
-use Rattle.logs.specs.declared.Taken.{Taken}
-use Rattle.logs.specs.declared.Taken.TheVariants.{Next, Refused}
-use Rattle.verdicts.specs.declared.Verdict.{Verdict}
-use Rattle.verdicts.specs.declared.Verdict.TheVariants as verdicts
-use Rattle.screening.specs.declared.Screened.{Screened}
-use Rattle.screening.specs.declared.Screened.TheVariants as screening
+use Rattle.std.specs.Prelude.{◌≡◌, refl, List, ℕ, set, Err, None, Ok, Some}
+use Rattle.refusals.specs.Answers.{Answer, Written, number_of, value_of}
+use Rattle.refusals.specs.declared.Refusal.{Refusal}
+use Rattle.logs.specs.Answers.{Taken, taken_number}
+use Rattle.verdicts.specs.Judging.{Verdict, verdict_number}
+use Rattle.screening.specs.Screening.{Screened, screened_number}
 
 -- a length, or a refusal's spot, in the first; the others stay
 unfoldable pub with_value : List ℕ → Written → List ℕ
@@ -15,16 +12,39 @@ with_value numbers written = set numbers 0 (value_of written)
 
 -- a summary's n, rows and events in the first three, or a refusal's spot in the first; the others stay
 unfoldable pub with_taken : List ℕ → Taken → List ℕ
-with_taken numbers (Next s) = set (set (set numbers 0 s.n) 1 s.rows) 2 s.events
-with_taken numbers (Refused r) = set numbers 0 r.spot
+with_taken numbers (Ok s) = set (set (set numbers 0 s.n) 1 s.rows) 2 s.events
+with_taken numbers (Err r) = set numbers 0 r.spot
 
 -- the four counts, or a refusal's spot in the first; then the others stay
 unfoldable pub with_verdict : List ℕ → Verdict → List ℕ
-with_verdict numbers (verdicts.Accepted c) = set (set (set (set numbers 0 c.rows) 1 c.allowed) 2 c.by_place) 3 c.by_weights
-with_verdict numbers (verdicts.Refused r) = set numbers 0 r.spot
+with_verdict numbers (Ok c) = set (set (set (set numbers 0 c.rows) 1 c.allowed) 2 c.by_place) 3 c.by_weights
+with_verdict numbers (Err r) = set numbers 0 r.spot
 
 -- the stop's position, place and shortfall in the first three, or a refusal's spot in the first; the others stay
 unfoldable pub with_screened : List ℕ → Screened → List ℕ
-with_screened numbers screening.Permitted = numbers
-with_screened numbers (screening.Stopped stop) = set (set (set numbers 0 stop.position) 1 stop.place) 2 stop.shortfall
-with_screened numbers (screening.Refused r) = set numbers 0 r.spot
+with_screened numbers (Ok None) = numbers
+with_screened numbers (Ok (Some stop)) = set (set (set numbers 0 stop.position) 1 stop.place) 2 stop.shortfall
+with_screened numbers (Err r) = set numbers 0 r.spot
+
+-- ---- A refusal is handed out alike by each: its number, and its spot in the first
+
+-- of the number that an answer gets, and of what the numbers hold afterwards
+pub record RefusedAlike {A : Type 0} (number : Answer A → ℕ) (shown : List ℕ → Answer A → List ℕ) : Type 0 where
+  pub numbered : (r : Refusal) → number (Err r) ≡ r.number
+  pub spotted : (numbers : List ℕ) (r : Refusal) → shown numbers (Err r) ≡ set numbers 0 r.spot
+
+pub value_refused : RefusedAlike number_of with_value
+unfolding number_of value_of with_value
+value_refused = record { numbered = λ r. refl; spotted = λ numbers r. refl }
+
+pub taken_refused : RefusedAlike taken_number with_taken
+unfolding taken_number with_taken
+taken_refused = record { numbered = λ r. refl; spotted = λ numbers r. refl }
+
+pub verdict_refused : RefusedAlike verdict_number with_verdict
+unfolding verdict_number with_verdict
+verdict_refused = record { numbered = λ r. refl; spotted = λ numbers r. refl }
+
+pub screened_refused : RefusedAlike screened_number with_screened
+unfolding screened_number with_screened
+screened_refused = record { numbered = λ r. refl; spotted = λ numbers r. refl }

@@ -1,96 +1,32 @@
 -- A long word is searched part by part. Behind the parts that are done, each place has so many tokens; in the next part it is replayed from there.
-use Rattle.std.specs.Prelude.{◌≡◌, true, false, List, [], ◌∷◌, ◌++◌, ℕ, zero, suc, ◌+◌, ◌-◌, ◌*◌, ◌≤◌, ◌<◌, ℤ, pos, length, take, drop, get_or}
-use Rattle.std.proofs.Common.{sym, ap, ap₂, ◌∙◌, subst, ⊎_elim, add-one, arith, length-take, length-drop, take-take, take-add, take-suc, get_or-take, get_or-drop}
+use Rattle.std.specs.Prelude.{◌≡◌, true, List, [], ◌∷◌, ◌++◌, ℕ, zero, suc, ◌+◌, ◌-◌, ◌*◌, min, ◌≤◌, ◌<◌, ℤ, pos, length, take, set, get_or}
+use Rattle.std.proofs.Common.{sym, ap, ap₂, ◌∙◌, subst, ⊎_elim, add-one, arith, length-take, take-take, get_or-set_other}
 use Rattle.std.proofs.lemmas.Bool.{false≢true}
 use Rattle.std.proofs.Math.ListN.{get_or-map}
 use Rattle.laws.specs.Booleans.{lt_or_le}
-use Rattle.laws.specs.Lists.{all}
+use Rattle.laws.specs.Lists.{all, each_set}
 use Rattle.laws.specs.Numbers.{Bytes}
 use Rattle.laws.specs.Scans.{all-exactly}
-use Rattle.limits.specs.Limits.{max_events}
-use Rattle.nets.specs.Nets.{Word, Place, counts, step_after, step_at, tokens, place_permits, net_permits, shortfall}
+use Rattle.limits.specs.Limits.{max_events, max_places}
+use Rattle.nets.specs.Nets.{Word, Place, counts, step_at, tokens, place_permits, net_permits}
 use Rattle.nets.specs.Events.{EventsBelow}
-use Rattle.nets.specs.Markings.{tokens_none, tokens_snoc, permits-is}
-use Rattle.places.specs.Amounts.{TokensAfter, tokens-start, tokens-moved}
+use Rattle.nets.specs.Markings.{tokens_none}
 use Rattle.bundles.specs.Layout.{to_place}
 use Rattle.bundles.specs.NumberReading.{items_at, get_d_items}
-use Rattle.bundles.specs.PlaceReading.{place_size, fields_at, place_on, place-small}
-use Rattle.stops.specs.Positions.{step_behind, step_cut, Best, best-start, best-stays, best-earlier}
-use Rattle.stops.specs.Replay.{First, replay, Start, replay-first}
+use Rattle.bundles.specs.PlaceReading.{place_size, place_spot, fields_at, place-small}
+use Rattle.stops.specs.Positions.{step_cut, Best, best-start, best-stays, best-earlier}
+use Rattle.stops.specs.Replay.{replay, Start}
 use Rattle.stops.specs.Searching.{WordOver, net_at, net_snoc, net-length, part-below}
+use Rattle.stops.specs.Reached.{part, place_at, Reached, found-permits, found-refuses, found-short, start_reached}
+use Rattle.replays.specs.Columns.{column_width}
+use Rattle.stops.specs.declared.Search.{Search}
 use Rattle.stops.specs.declared.Stop.{Stop}
 
 -- a word of so many events is searched part by part; its first part has so many
 abbrev pub long_word : ℕ
 long_word = 1024
 
--- m events from d on
-abbrev pub part : Word → ℕ → ℕ → Word
-part w d m = take m (drop d w)
-
--- place j of those that start at an offset
-abbrev pub place_at : ℕ → List ℕ → ℕ → ℕ → Place
-place_at n b first j = place_on n b (first + 2 * (j * place_size n))
-
-pub part-size : (w : Word) (d m : ℕ) → d + m ≤ length w → length (part w d m) ≡ m
-part-size w d m inside = length-take m (drop d w) ∙ omega (arith, length-drop d w)
-
-pub part-events : {n : ℕ} (w : Word) → EventsBelow n w → (d m : ℕ) → d + m ≤ length w → EventsBelow n (part w d m)
-part-events w below d m inside i h =
-    let l : i < m = omega (arith, part-size w d m inside) in
-    rw (get_or-take m (drop d w) i 0 l, get_or-drop d w i 0) (below (d + i) (omega arith))
-
 module _ (n : ℕ) (w : Word) where
-  -- a place permits the first d steps of the word, and has t tokens behind them
-  pub record Reached (p : Place) (t : ℤ) (d : ℕ) : Type 0 where
-    pub is : t ≡ tokens n p (counts n (take d w))
-    pub permits : (i : ℕ) → i < d → place_permits n p (step_at n w i) ≡ true
-
-  -- the steps of a part
-  step_part : (d m i : ℕ) → i < m → step_behind n (take d w) (part w d m) i ≡ step_at n w (d + i)
-  step_part d m i h = ap₂ (λ (u : Word) (e : ℕ). step_after n u e)
-      (ap (λ (v : Word). take d w ++ v) (take-take i m (drop d w) (omega arith)) ∙ sym (take-add d i w))
-      (get_or-take m (drop d w) i 0 h ∙ get_or-drop d w i 0)
-
-  module _ (below : EventsBelow n w) (p : Place) (few : (e : ℕ) → p.produced e < 65536) where
-    -- behind d permitted steps a place has a natural number of tokens, which 64 bits hold
-    reached-tokens : p.initial < 65536 → (d : ℕ) → d ≤ length w → ((i : ℕ) → i < d → place_permits n p (step_at n w i) ≡ true)
-        → TokensAfter (tokens n p (counts n (take d w))) d
-    reached-tokens small zero h permits = subst (λ (t : ℤ). TokensAfter t 0) (sym (tokens_none n p)) (tokens-start p (omega (arith, small)))
-    reached-tokens small (suc d) h permits =
-        let so_far = reached-tokens small d (omega arith) (λ i l. permits i (omega arith)) in
-        let event = get_or w d 0 in
-        let covers = sym (permits-is n p (take d w) event) ∙ permits d (omega arith) in
-        let more : take (suc d) w ≡ take d w ++ event ∷ [] = take-suc w d 0 (omega arith) in
-        rw more (rw (tokens_snoc n p (take d w) event (below d (omega arith)), ← add-one d) (tokens-moved so_far p event covers (omega (arith, few event))))
-
-  -- a place that was followed behind d steps is replayed on the next m
-  module _ (below : EventsBelow n w) {p : Place} {t : ℤ} {d : ℕ} (r : Reached p t d) (m : ℕ) (inside : d + m ≤ length w) where
-    abbrev found : Stop
-    found = replay p t (part w d m)
-
-    size : length (part w d m) ≡ m
-    size = part-size w d m inside
-
-    first : First n p (take d w) (part w d m) found
-    first = replay-first n p (part w d m) (take d w) t (part-events w below d m inside) r.is
-
-    pub found_within : found.position ≤ m
-    found_within = omega (arith, first.within, size)
-
-    found-permits : (i : ℕ) → i < d + found.position → place_permits n p (step_at n w i) ≡ true
-    found-permits i h = ⊎_elim (r.permits i)
-        (λ l.
-        let at : d + (i - d) ≡ i = omega arith in
-        ap (place_permits n p) (ap (step_at n w) (sym at) ∙ sym (step_part d m (i - d) (omega (arith, found_within)))) ∙ first.permits (i - d) (omega arith))
-        (lt_or_le i d)
-
-    found-refuses : found.position < m → place_permits n p (step_at n w (d + found.position)) ≡ false
-    found-refuses h = ap (place_permits n p) (sym (step_part d m found.position h)) ∙ first.refuses (omega (arith, size))
-
-    found-short : found.position < m → shortfall n p (step_at n w (d + found.position)) ≡ found.shortfall
-    found-short h = ap (shortfall n p) (sym (step_part d m found.position h)) ∙ first.short (omega (arith, size))
-
   -- no place yet
   pub best_none : (b : List ℕ) (at : ℕ) → Best n (net_at n b at 0) w (record { position = length w; place = 0; shortfall = 0 })
   unfolding items_at
@@ -99,7 +35,7 @@ module _ (n : ℕ) (w : Word) where
   -- ---- one place more: j places of a bundle were searched, and the next one is replayed up to the best position
 
   module _ (below : EventsBelow n w) (b : List ℕ) (at j : ℕ) {from : Stop} (so_far : Best n (net_at n b at j) w from)
-      {t : ℤ} {d : ℕ} (r : Reached (place_at n b at j) t d) (early : d ≤ from.position) where
+      {t : ℤ} {d : ℕ} (r : Reached n w (place_at n b at j) t d) (early : d ≤ from.position) where
     inside : d + (from.position - d) ≤ length w
     inside = omega (arith, so_far.within)
 
@@ -107,7 +43,7 @@ module _ (n : ℕ) (w : Word) where
     next = replay (place_at n b at j) t (part w d (from.position - d))
 
     pub exact-stays : from.position ≤ d + next.position → Best n (net_at n b at (j + 1)) w from
-    exact-stays h = rw (net_snoc n b at j) (best-stays n so_far (place_at n b at j) (λ i l. found-permits below r (from.position - d) inside i (omega arith)))
+    exact-stays h = rw (net_snoc n b at j) (best-stays n so_far (place_at n b at j) (λ i l. found-permits n w below r (from.position - d) inside i (omega arith)))
 
     pub exact-earlier : d + next.position < from.position
         → Best n (net_at n b at (j + 1)) w (record { position = d + next.position; place = j; shortfall = next.shortfall })
@@ -115,8 +51,8 @@ module _ (n : ℕ) (w : Word) where
         let l : next.position < from.position - d = omega arith in
         rw (net_snoc n b at j)
         (subst (λ (s : Stop). Best n (net_at n b at j ++ place_at n b at j ∷ []) w s)
-        (ap₂ (λ (x y : ℕ). record { position = d + next.position; place = x; shortfall = y }) (net-length n b at j) (found-short below r (from.position - d) inside l))
-        (best-earlier n so_far (place_at n b at j) (d + next.position) h (found-permits below r (from.position - d) inside) (found-refuses below r (from.position - d) inside l)))
+        (ap₂ (λ (x y : ℕ). record { position = d + next.position; place = x; shortfall = y }) (net-length n b at j) (found-short n w below r (from.position - d) inside l))
+        (best-earlier n so_far (place_at n b at j) (d + next.position) h (found-permits n w below r (from.position - d) inside) (found-refuses n w below r (from.position - d) inside l)))
 
 -- ---- the places of a bundle in a part of a word
 
@@ -133,15 +69,8 @@ pub record PlacesReached (n : ℕ) (b : List ℕ) (at count : ℕ) (w : Word) (d
 pub start-part : {n : ℕ} {b : List ℕ} {at count : ℕ} {w : Word} {d : ℕ} {t : List ℤ} → PlacesReached n b at count w d t → Bytes b
     → (j : ℕ) → j < count → (m : ℕ) → d + m ≤ length w → Start (get_or t j (pos 0)) (part w d m)
 start-part {n} {b} {at} {count} {w} {d} {t} s bytes j h m inside =
-    let r = s.reached j h in
-    let p = place_at n b at j in
     let few = place-small b bytes n (at + 2 * (j * place_size n)) in
-    record {
-      earlier = d;
-      tokens = subst (λ (z : ℤ). TokensAfter z d) (sym r.is) (reached-tokens n w s.word.events p few.1 few.0 d s.early r.permits);
-      size = omega (arith, part-size w d m inside, s.word.size);
-      events = λ i l. omega (arith, part-events w s.word.events d m inside i l, s.limit);
-    }
+    start_reached s.word s.limit (place_at n b at j) few.0 few.1 (s.reached j h) s.early m inside
 
 -- the same, with a list of tokens that is `width` long at least, and no tokens in it behind the last place
 pub record Marked (width n : ℕ) (b : List ℕ) (at count : ℕ) (w : Word) (d : ℕ) (t : List ℤ) : Type 0 where
@@ -154,6 +83,28 @@ pub record Marked (width n : ℕ) (b : List ℕ) (at count : ℕ) (w : Word) (d 
 pub record Initial (n : ℕ) (b : List ℕ) (at count : ℕ) (m₀ m : List ℤ) : Type 0 where
   pub initial : (j : ℕ) → j < count → get_or m j (pos 0) ≡ pos (place_at n b at j).initial
   pub rest : (j : ℕ) → count ≤ j → get_or m j (pos 0) ≡ get_or m₀ j (pos 0)
+
+-- the front of a marking written place by place, behind zeros
+module _ {n : ℕ} {b : List ℕ} {at : ℕ} where
+  pub initial-start : {m : List ℤ} → ((j : ℕ) → get_or m j (pos 0) ≡ pos 0) → Initial n b at 0 [] m
+  initial-start blank = record { initial = λ j h. absurd (omega arith); rest = λ j h. blank j }
+
+  pub initial-next : {j : ℕ} {m : List ℤ} (x : ℤ) → j < length m → Initial n b at j [] m → x ≡ pos (place_at n b at j).initial → Initial n b at (j + 1) [] (set m j x)
+  initial-next {j} {m} x here so_far is = record {
+    initial = each_set (pos 0) (λ i z. z ≡ pos (place_at n b at i).initial) m j x here so_far.initial is;
+    rest = λ i h. get_or-set_other m j i x (pos 0) (λ e. omega arith) ∙ so_far.rest i (omega arith);
+  }
+
+-- the tokens of the places of a search
+abbrev pub MarkedAll : Search → ℕ → List ℤ → Type 0
+MarkedAll s d t = Marked max_places s.net.n s.net.bundle.now s.net.first s.net.count s.word.now d t
+
+-- and of up to eight of them, from number k on
+abbrev pub eight : Search → ℕ → ℕ
+eight s k = min column_width (s.net.count - k)
+
+abbrev pub MarkedEight : Search → ℕ → ℕ → List ℤ → Type 0
+MarkedEight s k d t = Marked column_width s.net.n s.net.bundle.now (place_spot s.net k) (eight s k) s.word.now d t
 
 -- at first
 pub marked_start : {width n : ℕ} {b : List ℕ} {at count : ℕ} {w : Word} {t₀ t : List ℤ} → n ≤ max_events → at + 2 * (count * place_size n) ≤ length b → WordOver n w

@@ -1,30 +1,22 @@
 -- The places of a bundle in a part of a word, eight of them side by side in the columns of a table.
-use Rattle.std.specs.Prelude.{◌≡◌, refl, true, List, ◌++◌, ℕ, ◌+◌, ◌-◌, ◌*◌, ◌≤◌, ◌<◌, ℤ, pos, length, take, drop, get_or}
+use Rattle.std.specs.Prelude.{◌≡◌, refl, true, List, ◌++◌, ℕ, ◌+◌, ◌-◌, ◌≤◌, ◌<◌, ℤ, pos, length, take, drop, get_or}
 use Rattle.std.proofs.Common.{sym, ap, ap₂, ◌∙◌, subst, ⊎_elim, arith, take-take, take-add, get_or-take, get_or-drop}
 use Rattle.laws.specs.Booleans.{lt_or_le}
-use Rattle.laws.specs.Numbers.{Bytes}
-use Rattle.limits.specs.Limits.{max_events}
-use Rattle.nets.specs.Nets.{Word, no_place, counts, step_at, tokens, place_permits}
+use Rattle.laws.specs.Lists.{each_next}
+use Rattle.nets.specs.Nets.{Word, Place, no_place, counts, step_at, tokens, place_permits}
 use Rattle.nets.specs.Events.{EventsBelow}
 use Rattle.places.specs.Machine.{Held, held}
 use Rattle.nets.specs.Markings.{covered, permits-is}
 use Rattle.places.specs.Amounts.{after-held}
-use Rattle.replays.specs.Columns.{column_width, changes_size, Column, behind, Replayable, Advanced, CoveredAll}
-use Rattle.replays.specs.ReplayLaws.{behind-tokens, behind-none}
-use Rattle.bundles.specs.PlaceReading.{place_size}
+use Rattle.replays.specs.Columns.{column_width, changes_size, Column, Beside, behind, Replayable, Advanced, CoveredAll}
+use Rattle.replays.specs.ReplayLaws.{behind-tokens, behind-none, column-none, column-beside}
 use Rattle.stops.specs.Searching.{part-below}
-use Rattle.parts.specs.Parts.{part, place_at, part-size, part-events, start-part, Marked}
+use Rattle.stops.specs.Reached.{part, place_at, part-size, part-events, start_reached}
+use Rattle.parts.specs.Parts.{Marked}
 
--- `count` places from an offset on, and a table with room for their changes, which is clear
-pub record Clear (n : ℕ) (b : List ℕ) (at count : ℕ) (m : List ℤ) : Type 0 where
-  pub limit : n ≤ max_events
-  pub inside : at + 2 * (count * place_size n) ≤ length b
-  pub few : count ≤ column_width
-  pub room : changes_size ≤ length m
-  pub zeros : (k : ℕ) → get_or m k (pos 0) ≡ pos 0
-
--- the first `count` columns of a table have the places from an offset on, the others none
+-- the first `count` columns of a table have the places from an offset on, whose initial tokens are `u16` too, the others none
 pub record Columns (n : ℕ) (b : List ℕ) (at count : ℕ) (m : List ℤ) : Type 0 where
+  pub initial : (j : ℕ) → j < count → (place_at n b at j).initial < 65536
   pub places : (j : ℕ) → j < count → Column (place_at n b at j) m j
   pub none : (j : ℕ) → count ≤ j → j < column_width → Column no_place m j
 
@@ -43,11 +35,14 @@ module _ {n : ℕ} {b : List ℕ} {at count : ℕ} {w : Word} {d : ℕ} {t : Lis
   whole = let end : d + (length w - d) ≡ length w = omega (arith, m.places.early) in sym (take-add d (length w - d) w) ∙ ap (λ (k : ℕ). take k w) end
 
   -- they may be replayed on it
-  pub rest_replayable : {c : List ℤ} → Bytes b → changes_size ≤ length c → Columns n b at count c → Replayable t c rest
-  rest_replayable {c} bytes room columns = record {
+  pub rest_replayable : {c : List ℤ} → changes_size ≤ length c → Columns n b at count c → Replayable t c rest
+  rest_replayable {c} room columns = record {
     tokens = m.wide;
     held = λ j h. ⊎_elim
-        (λ l. let start = start-part m.places bytes j l 0 (omega (arith, m.places.early)) in after-held start.tokens (omega (arith, start.size)))
+        (λ l.
+        let p = place_at n b at j in
+        let start = start_reached m.places.word m.places.limit p (columns.initial j l) (columns.places j l).produced (m.places.reached j l) m.places.early 0 (omega (arith, m.places.early)) in
+        after-held start.tokens (omega (arith, start.size)))
         (λ l. subst Held (sym (m.none j l h)) (held 0 0 (omega arith) (omega arith) refl))
         (lt_or_le j count);
     table = room;
@@ -104,3 +99,21 @@ module _ {n : ℕ} {b : List ℕ} {at count : ℕ} {w : Word} {d : ℕ} {t : Lis
         wide = omega (arith, m.wide);
         none = λ j h l. next j no_place l (columns.none j h l) ∙ ap (λ (z : ℤ). behind no_place z rest) (m.none j h l) ∙ behind-none rest;
       }
+
+-- ---- the table, column by column
+
+module _ {n : ℕ} {b : List ℕ} {at : ℕ} where
+  -- no place yet
+  pub columns-start : {m : List ℤ} → ((k : ℕ) → get_or m k (pos 0) ≡ pos 0) → Columns n b at 0 m
+  columns-start zeros = record { initial = λ i h. absurd (omega arith); places = λ i h. absurd (omega arith); none = λ i h l. column-none zeros }
+
+  -- one place more
+  pub columns-next : {j : ℕ} {m m' : List ℤ} → j < column_width → Columns n b at j m → {p : Place} → p ≡ place_at n b at j → p.initial < 65536
+      → Column p m' j × Beside m m' j → Columns n b at (j + 1) m'
+  columns-next {j} {m} {m'} few so_far is small written = record {
+    initial = each_next (λ i. (place_at n b at i).initial < 65536) j so_far.initial (subst (λ (p : Place). p.initial < 65536) is small);
+    places = each_next (λ i. Column (place_at n b at i) m' i) j
+        (λ i h. column-beside written.1 (λ e. omega arith) (omega arith) (so_far.places i h))
+        (subst (λ (p : Place). Column p m' j) is written.0);
+    none = λ i h l. column-beside written.1 (λ e. omega arith) l (so_far.none i (omega arith) l);
+  }

@@ -2,23 +2,19 @@
 // step. The contracts cite specs/Parts.antt and specs/SideBySide.antt. All are inner functions.
 #![tactic(auto)]
 
-ghost use Rattle.std.specs.Prelude.{◌≡◌, ◌++◌, ◌+◌, ◌*◌, ◌≤◌, length};
-ghost use Rattle.limits.specs.Limits.{max_events, max_places};
-ghost use Rattle.nets.specs.Nets.{Net};
-ghost use Rattle.bundles.specs.Readers.{events_in, net_in};
-ghost use Rattle.bundles.specs.PlaceReading.{place_size, place_on};
+ghost use Rattle.std.specs.Prelude.{◌≡◌, [], ◌-◌, min, ◌≤◌, ◌<◌, None, length};
+ghost use Rattle.bundles.specs.HeadReading.{HeadAt};
+ghost use Rattle.bundles.specs.PlaceReading.{place_spot};
 ghost use Rattle.replays.specs.Columns.{column_width};
-ghost use Rattle.stops.specs.Positions.{Best};
-ghost use Rattle.stops.specs.Replay.{replay, Start};
-ghost use Rattle.stops.specs.Searching.{Searchable, net_at};
-ghost use Rattle.parts.specs.Parts.{long_word, PlacesReached, Initial, Marked};
-ghost use Rattle.parts.specs.SideBySide.{Clear, Columns};
+ghost use Rattle.stops.specs.Searching.{Searchable};
+ghost use Rattle.stops.specs.Onward.{end_of, Late, Onward, Searched};
+ghost use Rattle.parts.specs.Parts.{long_word, Initial, MarkedAll, MarkedEight, eight};
+ghost use Rattle.parts.specs.SideBySide.{Columns};
 
-use bundles::Head;
+use bundles::net::Net;
 use limits::MAX_PLACES;
-use replays::{CHANGES, WIDTH, load, write_column};
-use slices::{number_at, smaller};
-use stops::{Stop, search_short, stop_at, stop_from};
+use replays::{Table, WIDTH};
+use stops::{Search, Stop};
 
 // A word that is shorter is searched pair by pair: writing the tables would take longer than they spare. It is the length of the first part, too.
 const LONG: usize = 1024;
@@ -26,210 +22,142 @@ const LONG: usize = 1024;
 // The length of the other parts: the tables are written for each anew.
 const PART: usize = 4096;
 
-// The first step of a word that the place at an offset refuses, with so many tokens at first.
-fn stop_of_place_from(bundle: &[u8], at: usize, n: usize, start: i64, word: &[u8]) -> Stop
-    requires { (n ≤ max_events) × (at + 2 * place_size n ≤ length bundle.now) × Start start word.now }
-    ensures { result ≡ replay (place_on n bundle.now at) start word.now }
+// The initial tokens of the places of a net, and zeros. By number, as the net has its places.
+fn initial_tokens(net: &Net) -> [i64; MAX_PLACES]
+    requires { HeadAt net.now }
+    ensures { Initial net.now.n net.now.bundle.now net.now.first net.now.count [] result }
 {
-    let place = bundles::net::place_at(bundle, at, n);
-    stop_from(place, start, word)
+    let mut marking = [0; MAX_PLACES];
+    for j in 0..net.count {
+        marking[j] = i64::from(net.initial(j));
+    }
+    marking
 }
 
-// The first step of a word that one of `count` places refuses, and the lowest of them that does. The first `done` steps are permitted, and these
-// are the tokens behind them; each place is followed from there up to the best position so far.
-fn search_exactly(
-    bundle: &[u8],
-    at: usize,
-    count: usize,
-    n: usize,
-    word: &[u8],
-    done: usize,
-    tokens: &[i64],
-) -> Stop
-    requires { PlacesReached n bundle.now at count word.now done tokens.now }
-    ensures { Best n (net_at n bundle.now at count) word.now result }
+// The changes of up to eight places of a net, from number `first` on.
+fn table(net: &Net, first: usize) -> Table
+    requires { HeadAt net.now × (first ≤ net.now.count) }
+    ensures { Columns net.now.n net.now.bundle.now (place_spot net.now first) (min column_width (net.now.count - first)) result.changes }
 {
-    let size = 2 * (1 + 2 * n);
-    let mut next = at;
-    let mut best = word.len();
-    let mut lowest = 0;
-    let mut missing: u64 = 0;
-    let mut j = 0;
-    while j < count {
-        let found = stop_of_place_from(bundle, next, n, tokens[j], &word[done..best]);
-        if done + found.position < best {
-            best = done + found.position;
-            lowest = j;
-            missing = found.shortfall;
+    let mut table = Table::clear();
+    for j in 0..WIDTH.min(net.count - first) {
+        table.write_column(j, net.place(first + j));
+    }
+    table
+}
+
+// A search in a word whose first `done` steps are permitted by each place.
+#[derive(Clone, Copy)]
+struct Part<'a> {
+    search: Search<'a>,
+    done: usize,
+}
+
+impl<'a> Part<'a> {
+    // The first refused step of up to eight places from number `first` on, whose tokens behind the steps that are done are given. Where there is
+    // none, the tokens behind the word are left.
+    fn search_eight(&self, first: usize, tokens: &mut [i64; WIDTH]) -> Option<Stop>
+        requires { Searchable self.now.search × (first < self.now.search.net.count) × MarkedEight self.now.search first self.now.done tokens.old }
+        ensures late { Late self.now.search self.now.done result }
+        ensures onward { Onward self.now.search first (eight self.now.search first) None result }
+        ensures marked { result ≡ None → MarkedEight self.now.search first (length self.now.search.word.now) tokens.new }
+    {
+        let before = *tokens;
+        if table(&self.search.net, first).replay(tokens, &self.search.word[self.done..]) {
+            return None;
         }
-        next += size;
-        j += 1;
+        let end = first + WIDTH.min(self.search.net.count - first);
+        self.search
+            .search_from(first..end, self.done, None, |j, _| before[j - first])
     }
-    stop_at(best, lowest, missing)
-}
 
-// Writes the initial tokens of `count` places from an offset on to the front of a marking.
-fn write_initial(bundle: &[u8], first: usize, count: usize, n: usize, marking: &mut [i64])
-    requires { (n ≤ max_events) × (first + 2 * (count * place_size n) ≤ length bundle.now) × (count ≤ length marking.old) }
-    ensures { Initial n bundle.now first count marking.old marking.new }
-{
-    let size = 2 * (1 + 2 * n);
-    let mut at = first;
-    let mut j = 0;
-    while j < count {
-        marking[j] = number_at(bundle, at) as i64;
-        at += size;
-        j += 1;
-    }
-}
-
-// Writes the changes of `count` places from an offset on into the first columns of a table that is clear.
-fn write_columns(bundle: &[u8], first: usize, count: usize, n: usize, changes: &mut [i64])
-    requires { Clear n bundle.now first count changes.old }
-    ensures { Columns n bundle.now first count changes.new }
-{
-    let size = 2 * (1 + 2 * n);
-    let mut at = first;
-    let mut j = 0;
-    while j < count {
-        let place = bundles::net::place_at(bundle, at, n);
-        write_column(changes, j, place);
-        at += size;
-        j += 1;
+    // The first refused step of the places of the net, whose tokens behind the steps that are done are given. Where there is none, the tokens behind
+    // the word are left. The places are followed eight at a time, up to the best position so far.
+    fn search_part(&self, marking: &mut [i64; MAX_PLACES]) -> Option<Stop>
+        requires { Searchable self.now.search × MarkedAll self.now.search self.now.done marking.old }
+        ensures late { Late self.now.search self.now.done result }
+        ensures onward { Onward self.now.search 0 self.now.search.net.count None result }
+        ensures marked { result ≡ None → MarkedAll self.now.search (length self.now.search.word.now) marking.new }
+    {
+        let mut best = None;
+        for group in 0..self.search.net.count.div_ceil(WIDTH) {
+            let first = WIDTH * group;
+            // The tokens are copied out and back: nothing is known of an array behind its `first_chunk_mut`.
+            let mut tokens = *marking[first..].first_chunk().unwrap();
+            let word = &self.search.word[..self.search.end(best)];
+            let front = Part {
+                search: Search {
+                    word,
+                    ..self.search
+                },
+                ..*self
+            };
+            best = front.search_eight(first, &mut tokens).or(best);
+            marking[first..first + WIDTH].copy_from_slice(&tokens);
+        }
+        best
     }
 }
 
-// The first step of a word that one of eight places refuses, or fewer, whose tokens behind its first `done` steps are given. Where there is none,
-// the tokens behind the word are left.
-fn search_eight(
-    bundle: &[u8],
-    at: usize,
-    count: usize,
-    n: usize,
-    word: &[u8],
-    done: usize,
-    tokens: &mut [i64],
-) -> Stop
-    requires { Marked column_width n bundle.now at count word.now done tokens.old }
-    ensures best { Best n (net_at n bundle.now at count) word.now result }
-    ensures marked { length word.now ≤ result.position → Marked column_width n bundle.now at count word.now (length word.now) tokens.new }
+// The first refused step of a long word behind its first part, whose steps are permitted, part by part; the tokens behind it are given.
+fn search_rest(search: &Search, marking: &mut [i64; MAX_PLACES]) -> Option<Stop>
+    requires { Searchable search.now × (long_word ≤ length search.now.word.now) × MarkedAll search.now long_word marking.old }
+    ensures late { Late search.now 0 result }
+    ensures onward { Onward search.now 0 search.now.net.count None result }
 {
-    let mut changes = [0i64; CHANGES];
-    write_columns(bundle, at, count, n, &mut changes);
-    let before = load(tokens);
-    if replays::replay(tokens, &changes, &word[done..]) {
-        return stop_at(word.len(), 0, 0);
-    }
-    search_exactly(bundle, at, count, n, word, done, &before)
-}
-
-// The first step of a word that one of `count` places refuses, whose tokens behind its first `done` steps are given. Where there is none, the tokens
-// behind the word are left. The places are followed eight at a time, up to the best position so far.
-fn search_part(
-    bundle: &[u8],
-    first: usize,
-    count: usize,
-    n: usize,
-    word: &[u8],
-    done: usize,
-    marking: &mut [i64],
-) -> Stop
-    requires { Marked max_places n bundle.now first count word.now done marking.old }
-    ensures best { Best n (net_at n bundle.now first count) word.now result }
-    ensures marked { length word.now ≤ result.position → Marked max_places n bundle.now first count word.now (length word.now) marking.new }
-{
-    let mut best = word.len();
-    let mut lowest = 0;
-    let mut missing: u64 = 0;
-    let mut j = 0;
-    while j < count {
-        let found = search_eight(
-            bundle,
-            first + 2 * (j * (1 + 2 * n)),
-            smaller(WIDTH, count - j),
-            n,
-            &word[..best],
+    for done in (LONG..search.word.len()).step_by(PART) {
+        let end = search.word.len().min(done + PART);
+        let part = Part {
+            search: Search {
+                word: &search.word[..end],
+                ..*search
+            },
             done,
-            &mut marking[j..j + WIDTH],
-        );
-        if found.position < best {
-            best = found.position;
-            lowest = j + found.place;
-            missing = found.shortfall;
-        }
-        j += WIDTH;
-    }
-    stop_at(best, lowest, missing)
-}
-
-// The first step of a word that one of `count` places refuses, whose tokens behind its first `from` steps are given: part by part.
-fn search_rest(
-    bundle: &[u8],
-    first: usize,
-    count: usize,
-    n: usize,
-    word: &[u8],
-    from: usize,
-    marking: &mut [i64],
-) -> Stop
-    requires { Marked max_places n bundle.now first count word.now from marking.old }
-    ensures { Best n (net_at n bundle.now first count) word.now result }
-{
-    let mut done = from;
-    while done < word.len() {
-        let end = smaller(done + PART, word.len());
-        let found = search_part(bundle, first, count, n, &word[..end], done, marking);
-        if found.position < end {
-            return found;
-        }
-        done = end;
-    }
-    stop_at(done, 0, 0)
-}
-
-// The first step of a long word that a place of a bundle refuses. The first part is short, since a word that is refused is often refused early.
-fn search_parts(bundle: &[u8], head: Head, word: &[u8]) -> Stop
-    requires { Searchable bundle.now head word.now × (long_word ≤ length word.now) }
-    ensures { Best head.n (net_at head.n bundle.now head.places.first head.places.count) word.now result }
-{
-    let n = head.n;
-    let first = head.places.first;
-    let count = head.places.count;
-    let mut marking = [0i64; MAX_PLACES];
-    write_initial(bundle, first, count, n, &mut marking);
-    let found = search_part(bundle, first, count, n, &word[..LONG], 0, &mut marking);
-    if found.position < LONG {
-        return found;
-    }
-    search_rest(bundle, first, count, n, word, LONG, &mut marking)
-}
-
-// The first refused step of a word with the places of a bundle, which follow `before` places whose first refused step is `from`, a late one.
-fn search_long(bundle: &[u8], head: Head, word: &[u8], before: usize, from: Stop) -> Stop
-    requires searchable { Searchable bundle.now head word.now × (before ≤ max_places) }
-    requires le_position { (long_word ≤ from.position) × (from.position ≤ length word.now) }
-    ensures { (net : Net) → length net ≡ before → Best (events_in bundle.now) net word.now from
-        → Best (events_in bundle.now) (net ++ net_in bundle.now) word.now result }
-{
-    let found = search_parts(bundle, head, &word[..from.position]);
-    if found.position < from.position {
-        return stop_at(found.position, before + found.place, found.shortfall);
-    }
-    from
-}
-
-// The first refused step of a word with the places of a bundle, which follow `before` places whose first refused step is `from`. A long word with
-// three places or more is searched part by part, eight places at a time.
-pub fn search_places(bundle: &[u8], head: Head, word: &[u8], before: usize, from: Stop) -> Stop
-    requires searchable { Searchable bundle.now head word.now }
-    requires before_bound { (before ≤ max_places) × (from.position ≤ length word.now) }
-    ensures { (net : Net) → length net ≡ before → Best (events_in bundle.now) net word.now from
-        → Best (events_in bundle.now) (net ++ net_in bundle.now) word.now result }
-{
-    if LONG <= from.position {
-        if 2 < head.places.count {
-            return search_long(bundle, head, word, before, from);
+        };
+        if let Some(stop) = part.search_part(marking) {
+            return Some(stop);
         }
     }
-    search_short(bundle, head, word, before, from)
+    None
+}
+
+// The first refused step of a long word. The first part is short, since a word that is refused is often refused early.
+fn search_parts(search: &Search) -> Option<Stop>
+    requires { Searchable search.now × (long_word ≤ length search.now.word.now) }
+    ensures late { Late search.now 0 result }
+    ensures onward { Onward search.now 0 search.now.net.count None result }
+{
+    let mut marking = initial_tokens(&search.net);
+    let part = Part {
+        search: Search {
+            word: &search.word[..LONG],
+            ..*search
+        },
+        done: 0,
+    };
+    if let Some(stop) = part.search_part(&mut marking) {
+        return Some(stop);
+    }
+    search_rest(search, &mut marking)
+}
+
+// The first refused step of a word with the places of a net, which follow those whose first refused step is `from`, a late one.
+fn search_long(search: &Search, from: Option<Stop>) -> Option<Stop>
+    requires { Searchable search.now × (long_word ≤ end_of search.now from) × (end_of search.now from ≤ length search.now.word.now) }
+    ensures { Searched search.now from result }
+{
+    let word = &search.word[..search.end(from)];
+    search_parts(&Search { word, ..*search }).or(from)
+}
+
+// The first refused step of a word with the places of a net, which follow those whose first refused step is `from`. A long word with three places or
+// more is searched part by part, eight places at a time.
+pub fn search_places(search: &Search, from: Option<Stop>) -> Option<Stop>
+    requires { Searchable search.now × Late search.now 0 from }
+    ensures { Searched search.now from result }
+{
+    if LONG <= search.end(from) && 2 < search.net.count {
+        return search_long(search, from);
+    }
+    search.search_short(from)
 }

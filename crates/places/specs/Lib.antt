@@ -1,2 +1,3 @@
 pub mod Machine
 pub mod Amounts
+pub mod Words

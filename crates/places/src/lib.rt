@@ -9,8 +9,8 @@ ghost use Rattle.laws.specs.Differences.{negative_part};
 ghost use Rattle.laws.specs.Lists.{all};
 ghost use Rattle.limits.specs.Limits.{max_events};
 ghost use Rattle.nets.specs.Nets.{tokens as tokens_after};
-ghost use Rattle.nets.specs.Events.{first_bad};
 ghost use Rattle.places.specs.Machine.{place_of, Held};
+ghost use Rattle.places.specs.Words.{bad_event};
 
 use limits::MAX_EVENTS;
 
@@ -22,34 +22,35 @@ pub struct Place {
     pub consumed: [u16; MAX_EVENTS],
 }
 
+impl Place {
+    // The tokens in the place after the events of `counts`: negative where it could not permit them all. (Inner function.)
+    pub fn tokens(self, counts: &[u16]) -> i64
+        requires { max_events ≤ length counts.now }
+        ensures value { result ≡ tokens_after max_events (place_of self) counts.now }
+        ensures held { Held result }
+    {
+        let mut total = i64::from(self.initial);
+        for ((count, produced), consumed) in counts.iter().zip(&self.produced).zip(&self.consumed) {
+            total += gain(*count, *produced, *consumed);
+        }
+        total
+    }
+}
+
 // The tokens that `count` occurrences of an event put into a place, less those that they take. (Inner function.)
 pub fn gain(count: u16, produced: u16, consumed: u16) -> i64
     ensures { result ≡ pos count *ℤ (pos produced -ℤ pos consumed) }
 {
-    count as i64 * (produced as i64 - consumed as i64)
-}
-
-// The tokens in a place after the events of `counts`: negative where it could not permit them all. (Inner function.)
-pub fn tokens(place: Place, counts: &[u16]) -> i64
-    requires { max_events ≤ length counts.now }
-    ensures value { result ≡ tokens_after max_events (place_of place) counts.now }
-    ensures held { Held result }
-{
-    let mut total = place.initial as i64;
-    let mut i = 0;
-    while i < MAX_EVENTS {
-        total += gain(counts[i], place.produced[i], place.consumed[i]);
-        i += 1;
-    }
-    total
+    i64::from(count) * (i64::from(produced) - i64::from(consumed))
 }
 
 // The surplus of a place: its tokens, less what an event takes. (Inner function.)
+// `Held` is a clause and no type: callers add to tokens in arrays, several places at a time, where the numbers in between are plain `i64`s.
 pub fn surplus(tokens: i64, consumed: u16) -> i64
     requires { Held tokens }
     ensures { result ≡ tokens -ℤ pos consumed }
 {
-    tokens - consumed as i64
+    tokens - i64::from(consumed)
 }
 
 // The shortfall: how many tokens are missing, 0 where the surplus is 0 or more. This is the one test of a place. (Inner function.)
@@ -59,8 +60,7 @@ pub fn shortfall(surplus: i64) -> u64
     if 0 <= surplus {
         return 0;
     }
-    // Negated after adding 1: the smallest `i64` has no opposite.
-    -(surplus + 1) as u64 + 1
+    surplus.unsigned_abs()
 }
 
 // Whether a place permits an event that takes so many of its tokens: whether none is missing. (Inner function.)
@@ -71,43 +71,36 @@ pub fn covers(tokens: i64, consumed: u16) -> bool
     shortfall(surplus(tokens, consumed)) == 0
 }
 
-// Whether every event of a word is below n. No event ends the loop, so that the compiler takes several at a time.
+// Whether every event of a word is below n. No event ends the fold, so that the compiler takes several at a time.
 fn all_below(word: &[u8], n: u8) -> bool
     ensures { result ≡ all (λ e. ltb e n) word.now }
 {
-    let mut fit = true;
-    let mut i = 0;
-    while i < word.len() {
-        fit = fit & (word[i] < n);
-        i += 1;
-    }
-    fit
+    word.iter().fold(true, |fit, event| fit & (*event < n))
 }
 
-// The position of the first event that is not below n, or the word's length.
-fn search_bad(word: &[u8], n: usize) -> usize
-    ensures { result ≡ first_bad n word.now }
+// A word with fewer events is searched at once: it takes less time than a test of all.
+const SHORT: usize = 16;
+
+// The position of the first event that is not below n. Mostly there is none, which is faster to find out.
+fn search_bad(word: &[u8], n: u8) -> Option<usize>
+    ensures { result ≡ bad_event n word.now }
 {
-    let mut i = 0;
-    while i < word.len() {
-        if n <= word[i] as usize {
-            return i;
+    if SHORT <= word.len() {
+        if all_below(word, n) {
+            return None;
         }
-        i += 1;
     }
-    i
+    word.iter().position(|event| n <= *event)
 }
 
-// The same. Mostly there is none, which is faster to find out. (Inner function.)
-pub fn first_bad(word: &[u8], n: usize) -> usize
-    ensures { result ≡ first_bad n word.now }
+// The same for every n: all bytes are below one that is no byte. (Inner function.)
+pub fn first_bad(word: &[u8], n: usize) -> Option<usize>
+    ensures { result ≡ bad_event n word.now }
 {
-    if n < 256 {
-        if all_below(word, n as u8) {
-            return word.len();
-        }
+    match u8::try_from(n) {
+        Ok(n) => search_bad(word, n),
+        Err(_) => None,
     }
-    search_bad(word, n)
 }
 
 // The mask with bit `event` set. (Inner function.)

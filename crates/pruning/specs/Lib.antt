@@ -2,6 +2,6 @@ pub mod Pruning
 pub mod PruneLaws
 pub mod Judged
 pub mod Marking
+pub mod Pushing
 pub mod Writing
-pub mod Assembling
 pub mod RefusalNumbers

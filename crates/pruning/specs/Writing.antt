@@ -1,100 +1,37 @@
 -- The parts of a pruned bundle, as the code writes them: places, then certificates.
-use Rattle.std.specs.Prelude.{◌≡◌, Bool, ℕ, ◌+◌, ◌-◌, ◌*◌, ◌≤◌, ◌<◌, ltb, take, drop, set, replicate}
-use Rattle.std.proofs.Math.Path.{refl, sym, ap, subst}
-use Rattle.std.proofs.Common.{ap₂, ◌∙◌, ⊎_elim, add-mul, add-one, arith, ne_eqb, eqb-true, ltb-true, ltb-false, lt-ltb, le-ltb, length-append, take_all, length-take-le}
+use Rattle.std.specs.Prelude.{◌≡◌, Bool, ℕ, ◌+◌, ◌*◌, ◌≤◌, ◌<◌, ltb, set, replicate}
+use Rattle.std.proofs.Math.Path.{refl, sym, ap}
+use Rattle.std.proofs.Common.{◌∙◌, ⊎_elim, arith, eqb-true, ltb-true, ltb-false, lt-ltb, le-ltb, length-append}
 use Rattle.std.proofs.Math.Bool.{true, false, cond}
-use mathlib.Core.List.{List, [], ◌∷◌, ◌++◌, flat_map}
-use Rattle.std.proofs.Math.Nat.{mul-le-mul_right}
+use mathlib.Core.List.{List, [], ◌∷◌, ◌++◌, flat_map, append_assoc}
 use Rattle.std.proofs.lemmas.Bool.{eqb-false}
 use Rattle.std.proofs.Math.Dec.{eqb}
 use Rattle.std.proofs.Math.ListN.{length, get_or}
 use Rattle.laws.specs.Booleans.{lt_or_le}
 use Rattle.laws.specs.Lists.{tabulate, tabulate-same, get_d_tabulate}
-use Rattle.laws.specs.Ranks.{keep_at, rank, rank-next, rank-more, rank_same, keep_at-length}
-use Rattle.laws.specs.Rewriting.{rewritten, rewritten-next, rewritten-map, rewritten-kept}
-use Rattle.laws.specs.Spans.{part_at, set-tabulate}
+use Rattle.laws.specs.Ranks.{keep_at, rank, rank_same}
+use Rattle.laws.specs.Rewriting.{rewritten, rewritten-map, rewritten-kept}
+use Rattle.laws.specs.Spans.{set-tabulate}
 use Rattle.limits.specs.Limits.{max_places}
-use Rattle.bundles.specs.Layout.{PlaceFields, CertificateFields, kind0, kind1, PlaceInLimits, place_bytes, certificate_bytes, head_bytes, front_bytes}
+use Rattle.bundles.specs.Layout.{PlaceFields, CertificateFields, Contents, InLimits, place_bytes, certificate_bytes, front_bytes, bytes_of}
 use Rattle.bundles.specs.PlaceReading.{place_size}
-use Rattle.contents.specs.Contents.{IsBundle, contents_of, places-length}
-use Rattle.contents.specs.Walking.{CertificateAt, end_at, end_is, certificate-long, certificate-inside, kind_0, kind_1, no_certificate, Walked, walk_least, walk_here, walk_certificate, walk_next, walk_end, certificate_offset, no_place, first-within, place-bytes, place_inside}
+use Rattle.contents.specs.Contents.{bytes-parts, places-length}
+use Rattle.contents.specs.Certificates.{place, weights, piece_of, place-back, weights-back}
 use Rattle.pruning.specs.Pruning.{named, renumbered, pruned}
-use Rattle.pruning.specs.PruneLaws.{every_kept, certificates-length}
-use Rattle.pruning.specs.Marking.{marks_of, marked, marks-named, walk_place}
+use Rattle.pruning.specs.PruneLaws.{certificates-length, pruned-head}
+use Rattle.pruning.specs.Marking.{marks_of, marked, marks-named}
+use Rattle.pruning.specs.Pushing.{HasRoom, Pushed, room_behind, pushed-next}
+use Rattle.pruning.specs.declared.writing.Writer.{Writer}
 
 -- ---- places
 
--- a place of so many bytes that is copied if it is marked
-unfoldable pub place_copied : List ℕ → ℕ → ℕ → ℕ → List ℕ
-place_copied b from size mark = cond (eqb mark 0) [] (take size (drop from b))
+-- what is written for a place, by its number: its bytes if it is named
+abbrev pub place_piece : Contents → ℕ → PlaceFields → List ℕ
+place_piece c j p = cond (named c.certificates j) (place_bytes p) []
 
--- it lies in the bundle, and where it is marked the output has room for it
-pub record PlaceRoom (b : List ℕ) (from size mark : ℕ) (output : List ℕ) (at : ℕ) : Type 0 where
-  pub inside : from + size ≤ length b
-  pub starts : at ≤ length output
-  pub room : (mark ≡ 0 → ⊥) → at + size ≤ length output
-
--- what is written for a place of a bundle, by its number: its bytes if it is named
-abbrev pub place_piece : List ℕ → ℕ → PlaceFields → List ℕ
-place_piece b j p = cond (named (contents_of b).certificates j) (place_bytes p) []
-
--- what writing the places asks: where they stand, of how many bytes they are, the marks, and room for those that are marked
-pub record PlacesRoom (b : List ℕ) (first size count : ℕ) (marks output : List ℕ) : Type 0 where
-  pub bundle : IsBundle b
-  pub starts : first ≡ length (front_bytes (contents_of b).head) + 1
-  pub sizes : size ≡ 2 * place_size (contents_of b).head.events
-  pub counts : count ≡ length (contents_of b).head.places
-  pub marks_are : marks ≡ marks_of (contents_of b).certificates
-  pub room : first + rank (named (contents_of b).certificates) count * size ≤ length output
-
-module _ {b : List ℕ} {first size count : ℕ} {marks output : List ℕ} (r : PlacesRoom b first size count marks output) where
-  abbrev ps : List PlaceFields
-  ps = (contents_of b).head.places
-
-  abbrev kept : ℕ → Bool
-  kept = named (contents_of b).certificates
-
-  done-length : (j : ℕ) → j ≤ count → length (rewritten (place_piece b) (take j ps)) ≡ rank kept j * size
-  done-length j h =
-      ap length (rewritten-kept place_bytes kept (take j ps))
-      ∙ places-length (contents_of b).head.events (keep_at kept (take j ps)) (every_kept (PlaceInLimits (contents_of b).head.events) kept (take j ps) (first-within r.bundle j))
-      ∙ ap₂ (λ (x y : ℕ). x * y) (keep_at-length kept (take j ps) ∙ ap (rank kept) (length-take-le j ps (omega (arith, r.counts)))) (sym r.sizes)
-
-  -- one place more
-  module _ (j : ℕ) (h : j < count) where
-    there : j < length ps
-    there = omega (arith, r.counts)
-
-    -- room for it
-    place-room : kept j ≡ true → first + length (rewritten (place_piece b) (take j ps)) + size ≤ length output
-    place-room e =
-        let next : rank kept (j + 1) ≡ rank kept j + 1 = ap (rank kept) (add-one j) ∙ rank-next kept j ∙ ap (λ (t : Bool). rank kept j + cond t 1 0) e in
-        let product : rank kept (j + 1) * size ≡ rank kept j * size + size = rw next (omega (arith, add-mul (rank kept j) 1 size)) in
-        omega (arith, product, r.room, done-length j (omega arith), mul-le-mul_right size (rank-more kept (j + 1) count (omega arith)))
-
-    mark_kept : marked marks j ≡ kept j
-    mark_kept = rw r.marks_are (marks-named (contents_of b).certificates j (omega (arith, there, r.bundle.limits.head.places_size)))
-
-    -- what is copied of it
-    pub place_copied_lem : place_piece b j (get_or ps j no_place) ≡ place_copied b (first + j * size) size (get_or marks j 0)
-    unfolding place_copied marked
-    place_copied_lem = go (eqb (get_or marks j 0) 0) refl
-      where
-        go : (t : Bool) → eqb (get_or marks j 0) 0 ≡ t → place_piece b j (get_or ps j no_place) ≡ cond t [] (take size (drop (first + j * size) b))
-        go true e = let idle : kept j ≡ false = sym mark_kept ∙ rw e in rw idle
-        go false e = let stays : kept j ≡ true = sym mark_kept ∙ rw e in rw stays (sym (place-bytes r.bundle r.starts r.sizes j there))
-
-    pub place-fits : PlaceRoom b (first + j * size) size (get_or marks j 0) output (first + length (rewritten (place_piece b) (take j ps)))
-    unfolding marked
-    place-fits = record {
-      inside = place_inside r.bundle r.starts r.sizes j there;
-      starts = omega (arith, r.room, done-length j (omega arith), mul-le-mul_right size (rank-more kept j count (omega arith)));
-      room = λ other. place-room (sym mark_kept ∙ rw (ne_eqb (get_or marks j 0) 0 other));
-    }
-
-  pub places-all : rewritten (place_piece b) (take count ps) ≡ flat_map place_bytes (pruned (contents_of b)).head.places
-  unfolding pruned
-  places-all = ap (rewritten (place_piece b)) (take_all count ps (omega (arith, r.counts))) ∙ rewritten-kept place_bytes kept ps
+pub places-all : (c : Contents) → rewritten (place_piece c) c.head.places ≡ flat_map place_bytes (pruned c).head.places
+unfolding pruned
+places-all c = rewritten-kept place_bytes (named c.certificates) c.head.places
 
 -- ---- numbers
 
@@ -125,92 +62,105 @@ numbers-all f = tabulate-same max_places (λ i. cond (ltb i max_places) (rank f 
 
 -- ---- certificates
 
--- the bytes of a certificate with its place's new number
-unfoldable pub piece_at : List ℕ → List ℕ → ℕ → List ℕ
-piece_at numbers b from = cond (eqb (get_or b from 0) 0) (0 ∷ get_or numbers (get_or b (from + 1) 0) 0 ∷ []) (take (end_at b from - from) (drop from b))
+-- what is written for a certificate: its bytes, with its place's new number
+abbrev pub certificate_piece : Contents → ℕ → CertificateFields → List ℕ
+certificate_piece c k x = certificate_bytes (renumbered (named c.certificates) x)
 
--- what writing one of them asks: it stands there, up to its end, and the output has room for as many bytes
-pub record CertificateRoom (b : List ℕ) (from end : ℕ) (output : List ℕ) (at : ℕ) : Type 0 where
-  pub here : CertificateAt b from
-  pub place : get_or b from 0 ≡ 0 → get_or b (from + 1) 0 < max_places
-  pub ends : end ≡ end_at b from
-  pub room : at + (end - from) ≤ length output
+pub certificates-all : (c : Contents) → rewritten (certificate_piece c) c.certificates ≡ flat_map certificate_bytes (pruned c).certificates
+unfolding pruned
+certificates-all c = rewritten-map certificate_bytes (renumbered (named c.certificates)) c.certificates
 
-pub certificate-fits : {b : List ℕ} {from end : ℕ} {output : List ℕ} {at : ℕ} → CertificateRoom b from end output at
-    → (from + 2 ≤ end) × (end ≤ length b) × (at + 2 ≤ length output)
-certificate-fits r =
-    let long = certificate-long r.here in
-    let inside = certificate-inside r.here in
-    let is = end_is r.here in
-    (omega (arith, long, is, r.ends), omega (arith, inside, is, r.ends), omega (arith, long, is, r.ends, r.room))
-
--- what is written for a certificate of a bundle: its bytes, with its place's new number
-abbrev pub certificate_piece : List ℕ → ℕ → CertificateFields → List ℕ
-certificate_piece b k c = certificate_bytes (renumbered (named (contents_of b).certificates) c)
-
--- what writing all of them asks
-pub record CertificatesRoom (b : List ℕ) (first : ℕ) (numbers output : List ℕ) (start : ℕ) : Type 0 where
-  pub bundle : IsBundle b
-  pub starts : first ≡ length (head_bytes (contents_of b).head)
-  pub numbers_are : numbers ≡ tabulate max_places (rank (marked (marks_of (contents_of b).certificates)))
-  pub room : start + (length b - first) ≤ length output
-
-module _ {b : List ℕ} {first : ℕ} {numbers output : List ℕ} {start : ℕ} (r : CertificatesRoom b first numbers output start) where
-  abbrev cs : List CertificateFields
-  cs = (contents_of b).certificates
-
+module _ (c : Contents) (x : CertificateFields) where
   -- a place's new number
-  number_is : (j : ℕ) → j < max_places → get_or numbers j 0 ≡ rank (named cs) j
+  number_is : (j : ℕ) → j < max_places → get_or (tabulate max_places (rank (marked (marks_of c.certificates)))) j 0 ≡ rank (named c.certificates) j
   number_is j h =
-      rw r.numbers_are (get_d_tabulate max_places (rank (marked (marks_of cs))) j 0 h
-      ∙ rank_same (marked (marks_of cs)) (named cs) j (λ i l. marks-named cs i (omega arith)))
+      get_d_tabulate max_places (rank (marked (marks_of c.certificates))) j 0 h
+      ∙ rank_same (marked (marks_of c.certificates)) (named c.certificates) j (λ i l. marks-named c.certificates i (omega arith))
 
-  -- as long as those that stand in the bundle
-  pub done-size : {k from : ℕ} → Walked b first k from → start + length (rewritten (certificate_piece b) (take k cs)) ≡ start + (from - first)
-  unfolding certificate_offset
-  done-size {k} {from} w =
-      let done : length (rewritten (certificate_piece b) (take k cs)) ≡ length (flat_map certificate_bytes (take k cs)) = ap length (rewritten-map certificate_bytes (renumbered (named cs)) (take k cs)) ∙ certificates-length (named cs) (take k cs) in
-      omega (arith, w.offset, done)
+  -- with its place's new number, as the walk gives the place
+  pub piece-place : (j : ℕ) → place j ≡ piece_of x → j < max_places
+      → certificate_piece c 0 x ≡ 0 ∷ get_or (tabulate max_places (rank (marked (marks_of c.certificates)))) j 0 ∷ []
+  unfolding renumbered certificate_bytes
+  piece-place j e h = rw (place-back x j e, number_is j h)
 
-  module _ {k from : ℕ} (w : Walked b first k from) (more : k < length cs) where
-    here : CertificateAt b from
-    here = walk_here r.bundle r.starts w more
+  -- as it is
+  pub piece-weights : (bytes : List ℕ) → weights bytes ≡ piece_of x → certificate_piece c 0 x ≡ bytes
+  unfolding renumbered
+  piece-weights bytes e =
+      let (w, is, same) = weights-back x bytes e in
+      ap (λ (y : CertificateFields). certificate_piece c 0 y) is ∙ sym (same ∙ ap certificate_bytes is)
 
-    abbrev c : CertificateFields
-    c = get_or cs k no_certificate
+-- ---- all parts
 
-    pub piece-place : get_or b from 0 ≡ 0 → get_or b (from + 1) 0 < max_places
-    piece-place e = omega (arith, (walk_place r.bundle r.starts w more e).0, r.bundle.limits.head.places_size)
+module _ (c : Contents) where
+  abbrev places : List ℕ
+  places = flat_map place_bytes (pruned c).head.places
 
-    -- what is written of it
-    piece_is : piece_at numbers b from ≡ certificate_bytes (renumbered (named cs) c)
-    unfolding piece_at renumbered certificate_bytes here
-    piece_is = go (eqb (get_or b from 0) 0) refl
-      where
-        go : (t : Bool) → eqb (get_or b from 0) 0 ≡ t
-            → cond t (0 ∷ get_or numbers (get_or b (from + 1) 0) 0 ∷ []) (take (end_at b from - from) (drop from b)) ≡ certificate_bytes (renumbered (named cs) c)
-        go true e =
-            let (j, is, place, inside) = kind_0 here (eqb-true (get_or b from 0) 0 e) in
-            let certificate : c ≡ kind0 j = sym (walk_certificate r.bundle r.starts w more) ∙ is in
-            let few : j < max_places = subst (λ (i : ℕ). i < max_places) place (piece-place (eqb-true (get_or b from 0) 0 e)) in
-            rw (place, certificate, number_is j few)
-        go false e =
-            let (v, is, terms, inside) = kind_1 here (eqb-false (get_or b from 0) 0 e) in
-            let certificate : c ≡ kind1 v = sym (walk_certificate r.bundle r.starts w more) ∙ is in
-            let size : length (certificate_bytes here.certificate) ≡ end_at b from - from = omega (arith, end_is here) in
-            part_at here.before (certificate_bytes here.certificate) here.rest b from (end_at b from - from) here.here here.size size
-            ∙ rw (is, certificate)
+  abbrev certificates : List ℕ
+  certificates = flat_map certificate_bytes (pruned c).certificates
 
-    pub piece-written : certificate_piece b k c ≡ piece_at numbers b from
-    piece-written = sym piece_is
+  -- the parts of the result
+  pub result_parts : bytes_of (pruned c) ≡ ((front_bytes c.head ++ length (pruned c).head.places ∷ []) ++ places) ++ certificates
+  unfolding front_bytes pruned
+  result_parts =
+      let k = length (pruned c).head.places in
+      bytes-parts (pruned c) ∙ sym (append_assoc (front_bytes c.head ++ k ∷ []) places certificates ∙ append_assoc (front_bytes c.head) (k ∷ []) (places ++ certificates))
 
-    -- as long as the certificate
-    pub piece-long : length (piece_at numbers b from) ≡ end_at b from - from
-    piece-long =
-        let done = rewritten (certificate_piece b) (take k cs) in
-        let longer : rewritten (certificate_piece b) (take (k + 1) cs) ≡ done ++ piece_at numbers b from = rewritten-next (certificate_piece b) cs k no_certificate more ∙ ap (λ (l : List ℕ). done ++ l) piece-written in
-        omega (arith, ap length longer, length-append done (piece_at numbers b from), done-size w, done-size (walk_next r.bundle r.starts w more), walk_least w, end_is here)
-
-  pub certificates-all : {k from : ℕ} → Walked b first k from → length b ≤ from → rewritten (certificate_piece b) (take k cs) ≡ flat_map certificate_bytes (pruned (contents_of b)).certificates
+  -- its length, where each place that is kept has so many bytes
+  pub result-length : InLimits c → length (front_bytes c.head) + 1 + length (pruned c).head.places * (2 * place_size c.head.events) + length (flat_map certificate_bytes c.certificates) ≡ length (bytes_of (pruned c))
   unfolding pruned
-  certificates-all {k} w h = ap (rewritten (certificate_piece b)) (walk_end r.bundle r.starts w h) ∙ rewritten-map certificate_bytes (renumbered (named cs)) cs
+  result-length limits =
+      let kept = keep_at (named c.certificates) c.head.places in
+      omega (
+        arith,
+        ap length result_parts,
+        length-append ((front_bytes c.head ++ length kept ∷ []) ++ places) certificates,
+        length-append (front_bytes c.head ++ length kept ∷ []) places,
+        length-append (front_bytes c.head) (length kept ∷ []),
+        places-length c.head.events kept (pruned-head c limits).places,
+        certificates-length (named c.certificates) c.certificates,
+      )
+
+  abbrev count : List ℕ
+  count = length (pruned c).head.places ∷ []
+
+  pub lengths : length (bytes_of (pruned c)) ≡ length (front_bytes c.head) + 1 + length places + length certificates
+  lengths = omega (
+    arith,
+    ap length result_parts,
+    length-append ((front_bytes c.head ++ count) ++ places) certificates,
+    length-append (front_bytes c.head ++ count) places,
+    length-append (front_bytes c.head) count,
+  )
+
+  -- pushed to the front of an output that takes them
+  module _ (w₀ : Writer) (starts : w₀.end ≡ 0) (room : length (bytes_of (pruned c)) ≤ length w₀.output.now) where
+    module _ (w₁ : Writer) (front : Pushed w₀ w₁ (front_bytes c.head)) where
+      with_count : HasRoom w₀ (front_bytes c.head ++ count)
+      with_count = omega (arith, lengths, length-append (front_bytes c.head) count)
+
+      pub count-room : HasRoom w₁ count
+      count-room = room_behind front count with_count
+
+      module _ (w₂ : Writer) (counted : Pushed w₁ w₂ count) where
+        first : Pushed w₀ w₂ (front_bytes c.head ++ count)
+        first = pushed-next front count with_count counted
+
+        with_places : HasRoom w₀ ((front_bytes c.head ++ count) ++ places)
+        with_places = omega (arith, lengths, length-append (front_bytes c.head ++ count) places, length-append (front_bytes c.head) count)
+
+        pub places-room : HasRoom w₂ places
+        places-room = room_behind first places with_places
+
+        module _ (w₃ : Writer) (placed : Pushed w₂ w₃ places) where
+          second : Pushed w₀ w₃ ((front_bytes c.head ++ count) ++ places)
+          second = pushed-next first places with_places placed
+
+          with_all : HasRoom w₀ (((front_bytes c.head ++ count) ++ places) ++ certificates)
+          with_all = omega (arith, room, ap length result_parts)
+
+          pub certificates-room : HasRoom w₃ certificates
+          certificates-room = room_behind second certificates with_all
+
+          pub all-pushed : (w₄ : Writer) → Pushed w₃ w₄ certificates → Pushed w₀ w₄ (bytes_of (pruned c))
+          all-pushed w₄ last = rw result_parts (pushed-next second certificates with_all last)

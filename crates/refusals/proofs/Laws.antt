@@ -1,5 +1,5 @@
 -- Laws of answers: one for each way that a call ends, and what a caller learns from an answer.
-use Rattle.std.specs.Prelude.{◌≡◌, refl, true, List, ◌∷◌, ℕ, ◌≤◌, ◌<◌, length, take, drop, leb}
+use Rattle.std.specs.Prelude.{◌≡◌, refl, true, List, ◌∷◌, ℕ, ◌≤◌, ◌<◌, length, take, drop, leb, Ok, Err}
 use Rattle.std.proofs.Common.{sym, ap, ◌∙◌, inr, arith}
 use borrow.Author.Tests.{lt-leb, le-leb, leb-true}
 use Rattle.laws.specs.Booleans.{impossible}
@@ -9,7 +9,6 @@ use Rattle.refusals.specs.Table.{output_short_number}
 use Rattle.refusals.specs.Results.{Result, value, refused, bind, require, bind-value, passed, number_in, Refuses, refuses-value, refuses-require, refuses-then, numbers-listed}
 use Rattle.refusals.specs.Answers.{refusal, fitted, answer_of, answer, output_of, written, number_of}
 use Rattle.refusals.specs.declared.Refusal.{Refusal}
-use Rattle.refusals.specs.declared.Written.TheVariants.{Length, Refused}
 use Rattle.refusals.specs.Laws.{Ends}
 
 module _ (result : Result (List ℕ)) (output : List ℕ) where
@@ -18,27 +17,27 @@ module _ (result : Result (List ℕ)) (output : List ℕ) where
   ends m e = rw (← e) (refl, refl)
 
   -- a refusal
-  pub ends-refused : (number spot : ℕ) → result ≡ refused number spot → Ends result output (Refused (refusal number spot)) output
+  pub ends-refused : (number spot : ℕ) → result ≡ refused number spot → Ends result output (Err (refusal number spot)) output
   unfolding fitted bind answer_of output_of
   ends-refused number spot e = ends (refused number spot) (rw e)
 
   -- a result that does not fit
-  pub ends-short : (new : List ℕ) → result ≡ value new → length output < length new → Ends result output (Refused (refusal output_short_number (length new))) output
+  pub ends-short : (new : List ℕ) → result ≡ value new → length output < length new → Ends result output (Err (refusal output_short_number (length new))) output
   unfolding fitted bind require answer_of output_of
   ends-short new e short = ends (refused output_short_number (length new)) (rw (e, lt-leb _ _ short))
 
   -- a result in front of the output
-  pub ends-written : (new : List ℕ) → result ≡ value new → length new ≤ length output → Ends result output (Length (length new)) (front new output)
+  pub ends-written : (new : List ℕ) → result ≡ value new → length new ≤ length output → Ends result output (Ok (length new)) (front new output)
   unfolding fitted bind require answer_of output_of
   ends-written new e room = ends (value new) (rw (e, le-leb _ _ room))
 
 -- what an answer says of the chain behind it
-length→value : (m : Result (List ℕ)) (n : ℕ) → answer_of m ≡ Length n → (new : List ℕ) × (m ≡ value new) × (n ≡ length new)
+length→value : (m : Result (List ℕ)) (n : ℕ) → answer_of m ≡ Ok n → (new : List ℕ) × (m ≡ value new) × (n ≡ length new)
 unfolding answer_of
 length→value (value new) n e = (new, refl, cc)
 length→value (refused number spot) n e = impossible cc
 
-pub answer_of-refused : (m : Result (List ℕ)) (r : Refusal) → answer_of m ≡ Refused r → m ≡ refused r.number r.spot
+pub answer_of-refused : (m : Result (List ℕ)) (r : Refusal) → answer_of m ≡ Err r → m ≡ refused r.number r.spot
 unfolding answer_of
 answer_of-refused (value new) r e = impossible cc
 answer_of-refused (refused number spot) r e = let same : refusal number spot ≡ r = cc in ap (λ (x : Refusal). refused x.number x.spot) same
@@ -53,7 +52,7 @@ fitted→ result room new e =
     (r.1 ∙ ap value same, omega (arith, leb-true (length r.0) room p.0, ap length same))
 
 -- so they are in front of the output
-pub answer-length : (result : Result (List ℕ)) (output : List ℕ) (n : ℕ) → answer result (length output) ≡ Length n
+pub answer-length : (result : Result (List ℕ)) (output : List ℕ) (n : ℕ) → answer result (length output) ≡ Ok n
     → (new : List ℕ) × (result ≡ value new) × ((n ≡ length new) × (written result output ≡ front new output))
 unfolding answer written output_of
 answer-length result output n e =
@@ -61,12 +60,12 @@ answer-length result output n e =
     (v.0, (fitted→ result (length output) v.0 v.1).0, (v.2, ap (λ (m : Result (List ℕ)). output_of m output) v.1))
 
 -- they lie in the output
-pub answer-within : (result : Result (List ℕ)) (room n : ℕ) → answer result room ≡ Length n → n ≤ room
+pub answer-within : (result : Result (List ℕ)) (room n : ℕ) → answer result room ≡ Ok n → n ≤ room
 unfolding answer
 answer-within result room n e = let v = length→value (fitted result room) n e in omega (arith, v.2, (fitted→ result room v.0 v.1).1)
 
 -- behind them the output is as it was
-pub answer-rest : (result : Result (List ℕ)) (output : List ℕ) (n : ℕ) → answer result (length output) ≡ Length n
+pub answer-rest : (result : Result (List ℕ)) (output : List ℕ) (n : ℕ) → answer result (length output) ≡ Ok n
     → (length (written result output) ≡ length output) × (drop n (written result output) ≡ drop n output)
 answer-rest result output n e =
     let a = answer-length result output n e in
@@ -74,7 +73,7 @@ answer-rest result output n e =
     front_rest a.0 output (written result output) n a.2.0 a.2.1 fits
 
 -- and the bytes in front of the output are the result
-pub answer-fitted : (result : Result (List ℕ)) (output : List ℕ) (n : ℕ) → answer result (length output) ≡ Length n
+pub answer-fitted : (result : Result (List ℕ)) (output : List ℕ) (n : ℕ) → answer result (length output) ≡ Ok n
     → fitted result (length output) ≡ value (take n (written result output))
 unfolding answer written output_of
 answer-fitted result output n e = let v = length→value (fitted result (length output)) n e in go v.0 v.1 v.2
@@ -83,22 +82,22 @@ answer-fitted result output n e = let v = length→value (fitted result (length 
         → fitted result (length output) ≡ value (take n (output_of (fitted result (length output)) output))
     go new is size = is ∙ ap value (sym (rw (size, is) (take-front new output)))
 
-pub answer-taken : (result : Result (List ℕ)) (output : List ℕ) (n : ℕ) → answer result (length output) ≡ Length n → result ≡ value (take n (written result output))
+pub answer-taken : (result : Result (List ℕ)) (output : List ℕ) (n : ℕ) → answer result (length output) ≡ Ok n → result ≡ value (take n (written result output))
 answer-taken result output n e = (fitted→ result (length output) (take n (written result output)) (answer-fitted result output n e)).0
 
 -- and the other way
 pub fitted-written : (result : Result (List ℕ)) (output new : List ℕ) → fitted result (length output) ≡ value new
-    → (answer result (length output) ≡ Length (length new)) × (take (length new) (written result output) ≡ new)
+    → (answer result (length output) ≡ Ok (length new)) × (take (length new) (written result output) ≡ new)
 unfolding answer written answer_of output_of
 fitted-written result output new e = (rw e, rw e (take-front new output))
 
 -- a refusal is the chain's, the output's length included
-pub answer-refused : (result : Result (List ℕ)) (room : ℕ) (r : Refusal) → answer result room ≡ Refused r → fitted result room ≡ refused r.number r.spot
+pub answer-refused : (result : Result (List ℕ)) (room : ℕ) (r : Refusal) → answer result room ≡ Err r → fitted result room ≡ refused r.number r.spot
 unfolding answer
 answer-refused result room r e = answer_of-refused (fitted result room) r e
 
 -- it writes nothing
-pub refused-writes-nothing : (result : Result (List ℕ)) (output : List ℕ) (r : Refusal) → answer result (length output) ≡ Refused r → written result output ≡ output
+pub refused-writes-nothing : (result : Result (List ℕ)) (output : List ℕ) (r : Refusal) → answer result (length output) ≡ Err r → written result output ≡ output
 unfolding written output_of
 refused-writes-nothing result output r e = rw (answer-refused result (length output) r e)
 

@@ -1,5 +1,5 @@
 -- Exactly when a chain refuses: one law for a test that is met first, and one for those behind it.
-use Rattle.std.specs.Prelude.{◌≡◌, Bool, cond, ◌↔◌, ◌⊎◌, ℕ, ◌≤◌, ◌<◌}
+use Rattle.std.specs.Prelude.{◌≡◌, Bool, cond, ◌↔◌, ◌⊎◌, ℕ, ◌≤◌, ◌<◌, Ok, Err}
 use Rattle.std.proofs.Math.Path.{refl}
 use Rattle.std.proofs.Common.{sym, ap, ◌∙◌, inl, inr, ⊎_elim}
 use Rattle.std.proofs.Math.Bool.{true, false}
@@ -12,9 +12,8 @@ use Rattle.laws.specs.Booleans.{impossible}
 use Rattle.laws.specs.Lists.{among}
 use Rattle.refusals.specs.Table.{output_short_number}
 use Rattle.refusals.specs.Results.{Result, value, refused, bind, require, bind-refused, Refuses}
-use Rattle.refusals.specs.Answers.{refusal, fitted, answer_of, answer}
+use Rattle.refusals.specs.Answers.{refusal, fitted, answer_of, answer, Written}
 use Rattle.refusals.specs.declared.Refusal.{Refusal}
-use Rattle.refusals.specs.declared.Written.TheVariants.{Length, Refused}
 
 -- m refuses with this number, at a spot, exactly when the cause is there
 pub record Exactly {A : Type 0} (m : Result A) (number : ℕ) (Cause : ℕ → Type 0) : Type 0 where
@@ -114,18 +113,18 @@ gives_value y = record { line = λ x. ((λ e. cc), (λ e. ap value (sym e))) }
 -- ---- Calls that write bytes
 
 -- the answer is the chain's
-answer_of-exactly : (m : Result (List ℕ)) (number spot : ℕ) → (answer_of m ≡ Refused (refusal number spot)) ↔ (m ≡ refused number spot)
+answer_of-exactly : (m : Result (List ℕ)) (number spot : ℕ) → (answer_of m ≡ Err (refusal number spot)) ↔ (m ≡ refused number spot)
 unfolding answer_of
 answer_of-exactly (value new) number spot = ((λ e. impossible cc), (λ e. impossible cc))
 answer_of-exactly (refused n s) number spot = (to, (λ e. ap answer_of e))
   where
-    to : Refused (refusal n s) ≡ Refused (refusal number spot) → ◌≡◌ {A = Result (List ℕ)} (refused n s) (refused number spot)
+    to : ◌≡◌ {A = Written} (Err (refusal n s)) (Err (refusal number spot)) → ◌≡◌ {A = Result (List ℕ)} (refused n s) (refused number spot)
     to e = let same : refusal n s ≡ refusal number spot = cc in ap (λ (r : Refusal). refused r.number r.spot) same
 
 module _ (m : Result (List ℕ)) (room : ℕ) where
   -- a refusal of the chain
   pub answer-refused-exactly : {number : ℕ} {C : ℕ → Type 0} → Exactly m number C → (number ≡ output_short_number → ⊥)
-      → (spot : ℕ) → (answer m room ≡ Refused (refusal number spot)) ↔ C spot
+      → (spot : ℕ) → (answer m room ≡ Err (refusal number spot)) ↔ C spot
   unfolding answer fitted bind require
   answer-refused-exactly {number} {C} e other spot = (
     (λ h. (e.line spot).0 (to m ((answer_of-exactly (fitted m room) number spot).0 h))),
@@ -140,12 +139,12 @@ module _ (m : Result (List ℕ)) (room : ℕ) where
       to (value new) e = absurd (short (leb (length new) room) (length new) new e)
       to (refused n s) e = e
 
-      from : m ≡ refused number spot → answer m room ≡ Refused (refusal number spot)
+      from : m ≡ refused number spot → answer m room ≡ Err (refusal number spot)
       from e = (answer_of-exactly (fitted m room) number spot).1 (rw e)
 
   -- an output that is too short
   pub answer-short-exactly : {numbers : List ℕ} → Refuses numbers m → among output_short_number numbers ≡ false
-      → (spot : ℕ) → (answer m room ≡ Refused (refusal output_short_number spot))
+      → (spot : ℕ) → (answer m room ≡ Err (refusal output_short_number spot))
       ↔ ((new : List ℕ) × (m ≡ value new) × (spot ≡ length new) × (room < length new))
   unfolding answer fitted bind require
   answer-short-exactly {numbers} rest other spot = ((λ h. to m refl ((answer_of-exactly (fitted m room) output_short_number spot).0 h)), from)
@@ -161,24 +160,24 @@ module _ (m : Result (List ℕ)) (room : ℕ) where
       to (value new) is e = let s = short (leb (length new) room) new refl e in (new, is, s.0, s.1)
       to (refused n s) is e = absurd (never rest output_short_number spot other (is ∙ e))
 
-      from : (new : List ℕ) × (m ≡ value new) × (spot ≡ length new) × (room < length new) → answer m room ≡ Refused (refusal output_short_number spot)
+      from : (new : List ℕ) × (m ≡ value new) × (spot ≡ length new) × (room < length new) → answer m room ≡ Err (refusal output_short_number spot)
       from (new, is, at, short) = (answer_of-exactly (fitted m room) output_short_number spot).1 (rw (is, lt-leb (length new) room short, at))
 
   -- a result
-  pub answer-length-exactly : (n : ℕ) → (answer m room ≡ Length n) ↔ ((new : List ℕ) × (m ≡ value new) × (n ≡ length new) × (length new ≤ room))
+  pub answer-length-exactly : (n : ℕ) → (answer m room ≡ Ok n) ↔ ((new : List ℕ) × (m ≡ value new) × (n ≡ length new) × (length new ≤ room))
   unfolding answer fitted bind require answer_of
   answer-length-exactly n = (to m refl, from)
     where
       room-there : (b : Bool) (new : List ℕ) → leb (length new) room ≡ b
-          → answer_of (bind (cond b (value (tt {0})) (refused output_short_number (length new))) (λ u. value new)) ≡ Length n
+          → answer_of (bind (cond b (value (tt {0})) (refused output_short_number (length new))) (λ u. value new)) ≡ Ok n
           → (n ≡ length new) × (length new ≤ room)
       room-there true new t e = let same : length new ≡ n = cc in (sym same, leb-true (length new) room t)
       room-there false new t e = impossible cc
 
-      to : (k : Result (List ℕ)) → m ≡ k → answer_of (fitted k room) ≡ Length n → (new : List ℕ) × (m ≡ value new) × (n ≡ length new)
+      to : (k : Result (List ℕ)) → m ≡ k → answer_of (fitted k room) ≡ Ok n → (new : List ℕ) × (m ≡ value new) × (n ≡ length new)
           × (length new ≤ room)
       to (value new) is e = let s = room-there (leb (length new) room) new refl e in (new, is, s.0, s.1)
       to (refused n s) is e = impossible cc
 
-      from : (new : List ℕ) × (m ≡ value new) × (n ≡ length new) × (length new ≤ room) → answer m room ≡ Length n
+      from : (new : List ℕ) × (m ≡ value new) × (n ≡ length new) × (length new ≤ room) → answer m room ≡ Ok n
       from (new, is, size, long) = rw (is, le-leb (length new) room long, size)

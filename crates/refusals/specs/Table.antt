@@ -1,5 +1,7 @@
 -- The numbers of the refusal table, by the names that the code has for them.
 use Rattle.std.specs.Prelude.{ℕ}
+use Rattle.refusals.specs.declared.Cause.{Cause}
+use Rattle.refusals.specs.declared.Cause.TheVariants.{FileLength, BlockSums, OutputShort, BundleLength, NumbersShort, BundleEnd, Value, Events, Rows, PlaceMisfit, PlacePermits, Weights, BytesFollow, WordLength, WordEvent, StateRange, BlockNumber, BlockUse, EventCounts}
 
 abbrev pub file_length_number : ℕ
 file_length_number = 1
@@ -57,3 +59,25 @@ block_use_number = 18
 
 abbrev pub event_counts_number : ℕ
 event_counts_number = 19
+
+-- the number of a cause
+abbrev pub number : Cause → ℕ
+number FileLength = file_length_number
+number BlockSums = block_sums_number
+number OutputShort = output_short_number
+number BundleLength = bundle_length_number
+number NumbersShort = numbers_short_number
+number BundleEnd = bundle_end_number
+number Value = value_number
+number Events = events_number
+number Rows = rows_number
+number PlaceMisfit = place_misfit_number
+number PlacePermits = place_permits_number
+number Weights = weights_number
+number BytesFollow = bytes_follow_number
+number WordLength = word_length_number
+number WordEvent = word_event_number
+number StateRange = state_range_number
+number BlockNumber = block_number_number
+number BlockUse = block_use_number
+number EventCounts = event_counts_number

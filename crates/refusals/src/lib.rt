@@ -1,65 +1,72 @@
-// Refusals: what every call answers where it gives no result. The numbers are those of the refusal table.
+// Refusals: what every call answers where it gives no result.
 #![tactic(auto)]
 
 ghost use Rattle.std.specs.Prelude.{◌≡◌};
 ghost use Rattle.refusals.specs.Answers.{refusal};
+ghost use Rattle.refusals.specs.Table.{number};
 
-// A call that is refused: the number of the cause, and the spot that the table names for it.
-#[derive(Clone, Copy)]
+// A call that is refused: the number of the cause, and the spot that the table names for it. It stays a number: C, the program and the statements
+// about every number speak of it. `Cause::at` makes it.
+#[derive(Clone, Copy, Debug, PartialEq, Eq)]
 pub struct Refusal {
     pub number: u8,
     pub spot: usize,
 }
 
 // The answer of a call that writes bytes to an output: the length written, or a refusal.
-#[derive(Clone, Copy)]
-pub enum Written {
-    Length(usize),
-    Refused(Refusal),
+pub type Written = Result<usize, Refusal>;
+
+// The causes, with their numbers in the refusal table.
+#[derive(Clone, Copy, Debug, PartialEq, Eq)]
+pub enum Cause {
+    // A file's length is 0, no multiple of 512, or above 65,536.
+    FileLength = 1,
+    // A block's sums are wrong.
+    BlockSums = 2,
+    // The output is shorter than the result.
+    OutputShort = 3,
+    // A bundle's length is 0 or above 64,512.
+    BundleLength = 4,
+    // A slice of numbers that the call writes is too short; today this is the table.
+    NumbersShort = 5,
+    // The bundle ends before or inside a field.
+    BundleEnd = 6,
+    // A value is outside its range, or names a row, an event or a place that isn't there.
+    Value = 7,
+    // The events would pass 1,024.
+    Events = 8,
+    // The rows would pass 256.
+    Rows = 9,
+    // A place doesn't fit the log.
+    PlaceMisfit = 10,
+    // The place that a certificate lists doesn't refuse the step.
+    PlacePermits = 11,
+    // A certificate's weights don't hold, or one of its steps isn't allowed.
+    Weights = 12,
+    // Bytes follow the last certificate.
+    BytesFollow = 13,
+    // A screened word is above 65,535 events.
+    WordLength = 14,
+    // A screened event is not below n.
+    WordEvent = 15,
+    // A state that is handed back to a call is outside its ranges; today this is a summary.
+    StateRange = 16,
+    // A block's number is not its position.
+    BlockNumber = 17,
+    // A block's used count is wrong, or an unused byte of its contents is not zero.
+    BlockUse = 18,
+    // The event counts of two bundles that are joined are not the same.
+    EventCounts = 19,
 }
 
-// The answer of a call that writes bytes and is refused. (Inner function.)
-pub fn refused(number: u8, spot: usize) -> Written
-    ensures { result ≡ Written.Refused (refusal number spot) }
-{
-    Written::Refused(Refusal { number, spot })
+impl Cause {
+    // The refusal of this cause at a spot.
+    pub fn at(self, spot: usize) -> Refusal
+        ensures { result ≡ refusal (number self) spot }
+    {
+        Refusal {
+            number: self as u8,
+            spot,
+        }
+    }
 }
-
-// A file's length is 0, no multiple of 512, or above 65,536.
-pub const FILE_LENGTH: u8 = 1;
-// A block's sums are wrong.
-pub const BLOCK_SUMS: u8 = 2;
-// The output is shorter than the result.
-pub const OUTPUT_SHORT: u8 = 3;
-// A bundle's length is 0 or above 64,512.
-pub const BUNDLE_LENGTH: u8 = 4;
-// A slice of numbers that the call writes is too short; today this is the table.
-pub const NUMBERS_SHORT: u8 = 5;
-// The bundle ends before or inside a field.
-pub const BUNDLE_END: u8 = 6;
-// A value is outside its range, or names a row, an event or a place that isn't there.
-pub const VALUE: u8 = 7;
-// The events would pass 1,024.
-pub const EVENTS: u8 = 8;
-// The rows would pass 256.
-pub const ROWS: u8 = 9;
-// A place doesn't fit the log.
-pub const PLACE_MISFIT: u8 = 10;
-// The place that a certificate lists doesn't refuse the step.
-pub const PLACE_PERMITS: u8 = 11;
-// A certificate's weights don't hold, or one of its steps isn't allowed.
-pub const WEIGHTS: u8 = 12;
-// Bytes follow the last certificate.
-pub const BYTES_FOLLOW: u8 = 13;
-// A screened word is above 65,535 events.
-pub const WORD_LENGTH: u8 = 14;
-// A screened event is not below n.
-pub const WORD_EVENT: u8 = 15;
-// A state that is handed back to a call is outside its ranges; today this is a summary.
-pub const STATE_RANGE: u8 = 16;
-// A block's number is not its position.
-pub const BLOCK_NUMBER: u8 = 17;
-// A block's used count is wrong, or an unused byte of its contents is not zero.
-pub const BLOCK_USE: u8 = 18;
-// The event counts of two bundles that are joined are not the same.
-pub const EVENT_COUNTS: u8 = 19;

@@ -2,14 +2,13 @@
 // specs/Columns.antt. All are inner functions.
 #![tactic(auto)]
 
-ghost use Rattle.std.specs.Prelude.{◌≡◌, true, ℕ, ◌≤◌, ◌<◌, T, pos, length, get_or};
-ghost use Rattle.std.specs.Int.Signed.{non_neg};
+ghost use Rattle.std.specs.Prelude.{◌≡◌, true, ℕ, ◌≤◌, ◌<◌, pos, get_or};
 ghost use Rattle.limits.specs.Limits.{max_events};
 ghost use Rattle.places.specs.Machine.{place_of};
-ghost use Rattle.replays.specs.Columns.{column_width, changes_size, Column, Beside, Changed, Steppable, Stepped, Noted, Replayable, Advanced, CoveredAll};
+ghost use Rattle.replays.specs.Columns.{column_width, changes_of, Column, Beside, Changed, Steppable, Stepped, Noted, Replayable, Advanced, CoveredAll};
 
 use limits::MAX_EVENTS;
-use places::{Place, gain, shortfall};
+use places::Place;
 
 // The columns of a table: so many places are replayed at a time.
 pub const WIDTH: usize = 8;
@@ -17,115 +16,79 @@ pub const WIDTH: usize = 8;
 // The events, and one more that takes no token and puts none there.
 const EVENTS: usize = MAX_EVENTS + 1;
 
-// The numbers of a table: for each two events what a step from the one to the other adds to the surplus of each place.
-pub const CHANGES: usize = WIDTH * (EVENTS * EVENTS);
+const CHANGES: usize = WIDTH * (EVENTS * EVENTS);
 
-// Writes the changes of column j from an event that puts so many tokens there.
-fn write_changes(
-    changes: &mut [i64],
-    j: usize,
-    event: usize,
-    produced: u16,
-    consumed: [u16; MAX_EVENTS],
-)
-    requires { (j < column_width) × (event ≤ max_events) × (changes_size ≤ length changes.old) }
-    ensures { Changed changes.old changes.new j event produced (λ e. get_or consumed e 0) }
-{
-    let at = WIDTH * (EVENTS * event) + j;
-    let mut e = 0;
-    while e < MAX_EVENTS {
-        changes[at + WIDTH * e] = gain(1, produced, consumed[e]);
-        e += 1;
-    }
-    changes[at + WIDTH * MAX_EVENTS] = produced as i64;
+// Eight places, one in each column: for each two events what a step from the one to the other adds to the surplus of each place. One flat array,
+// in which the changes of a step are eight numbers at one offset.
+#[derive(Drop)]
+pub struct Table {
+    changes: [i64; CHANGES],
 }
 
-// Writes the changes of a place into column j.
-pub fn write_column(changes: &mut [i64], j: usize, place: Place)
-    requires { (j < column_width) × (changes_size ≤ length changes.old) }
-    ensures { Column (place_of place) changes.new j × Beside changes.old changes.new j }
-{
-    let consumed = place.consumed;
-    let mut e = 0;
-    while e < MAX_EVENTS {
-        write_changes(changes, j, e, place.produced[e], consumed);
-        e += 1;
+impl Table {
+    // The table of places that take no token and put none there.
+    pub fn clear() -> Table
+        ensures { (k : ℕ) → get_or result.changes k (pos 0) ≡ pos 0 }
+    {
+        Table {
+            changes: [0; CHANGES],
+        }
     }
-    write_changes(changes, j, MAX_EVENTS, 0, consumed);
-}
 
-// The tokens of eight places.
-pub fn load(tokens: &[i64]) -> [i64; WIDTH]
-    requires { column_width ≤ length tokens.now }
-    ensures { (j : ℕ) → j < column_width → get_or result j (pos 0) ≡ get_or tokens.now j (pos 0) }
-{
-    let mut loaded = [0i64; WIDTH];
-    let mut j = 0;
-    while j < WIDTH {
-        loaded[j] = tokens[j];
-        j += 1;
+    // Writes the changes of column j from an event that puts so many tokens there.
+    fn write_changes(&mut self, j: usize, from: usize, produced: u16, consumed: &[u16; MAX_EVENTS])
+        requires { (j < column_width) × (from ≤ max_events) }
+        ensures { Changed self.old.changes self.new.changes j from produced (λ e. get_or consumed.now e 0) }
+    {
+        let at = WIDTH * (EVENTS * from) + j;
+        for (to, taken) in consumed.iter().enumerate() {
+            self.changes[at + WIDTH * to] = i64::from(produced) - i64::from(*taken);
+        }
+        self.changes[at + WIDTH * MAX_EVENTS] = i64::from(produced);
     }
-    loaded
-}
 
-// One step: the surplus of each place, and in `all` the bits of every surplus so far.
-fn step(surplus: &mut [i64], all: &mut [i64], changes: &[i64], at: usize)
-    requires { Steppable changes.now surplus.old at × (column_width ≤ length all.old) }
-    ensures stepped { Stepped changes.now surplus.old surplus.new at }
-    ensures noted { Noted changes.now surplus.old all.old all.new at }
-{
-    let mut j = 0;
-    while j < WIDTH {
-        let next = surplus[j] + changes[at + j];
-        surplus[j] = next;
-        all[j] = all[j] | next;
-        j += 1;
+    // Writes the changes of a place into column j.
+    pub fn write_column(&mut self, j: usize, place: Place)
+        requires { j < column_width }
+        ensures { Column (place_of place) self.new.changes j × Beside self.old.changes self.new.changes j }
+    {
+        for (from, produced) in place.produced.iter().enumerate() {
+            self.write_changes(j, from, *produced, &place.consumed);
+        }
+        self.write_changes(j, MAX_EVENTS, 0, &place.consumed);
     }
-}
 
-// The tokens behind the last event, and whether no surplus was negative: the sign of `any` is set where that of one surplus was.
-fn finish(tokens: &mut [i64], surplus: &[i64], all: &[i64], changes: &[i64], at: usize) -> bool
-    requires { Steppable changes.now surplus.now at × (column_width ≤ length tokens.old) × (column_width ≤ length all.now) }
-    ensures stepped { Stepped changes.now surplus.now tokens.new at }
-    ensures t { result ≡ true → (j : ℕ) → j < column_width → T (non_neg (get_or all.now j (pos 0))) }
-{
-    let mut any = 0i64;
-    let mut j = 0;
-    while j < WIDTH {
-        tokens[j] = surplus[j] + changes[at + j];
-        any = any | all[j];
-        j += 1;
+    // One step: the surplus of each place, and in `all` the bits of every surplus so far. An index, since two lists are written.
+    fn step(&self, from: usize, to: usize, surplus: &mut [i64; WIDTH], all: &mut [i64; WIDTH])
+        requires { (from ≤ max_events) × (to ≤ max_events) × Steppable self.now.changes surplus.old (changes_of from to) }
+        ensures stepped { Stepped self.now.changes surplus.old surplus.new (changes_of from to) }
+        ensures noted { Noted self.now.changes surplus.old all.old all.new (changes_of from to) }
+    {
+        let at = WIDTH * (EVENTS * from + to);
+        for j in 0..WIDTH {
+            let next = surplus[j] + self.changes[at + j];
+            surplus[j] = next;
+            all[j] |= next;
+        }
     }
-    shortfall(any) == 0
-}
 
-// Replays a part of a word on the places of a table, whose tokens before it are given: leaves those behind it, and says whether no step of it lacks
-// a token. False says nothing of a single place.
-pub fn replay(tokens: &mut [i64], changes: &[i64], part: &[u8]) -> bool
-    requires { Replayable tokens.old changes.now part.now }
-    ensures advanced { Advanced changes.now tokens.old tokens.new part.now }
-    ensures covered_all { result ≡ true → CoveredAll changes.now tokens.old part.now }
-{
-    let mut surplus = load(tokens);
-    let mut all = [0i64; WIDTH];
-    let mut last = MAX_EVENTS;
-    let mut i = 0;
-    while i < part.len() {
-        let event = part[i] as usize;
-        step(
-            &mut surplus,
-            &mut all,
-            changes,
-            WIDTH * (EVENTS * last + event),
-        );
-        last = event;
-        i += 1;
+    // Replays a part of a word on the places of a table, whose tokens before it are given: leaves those behind it, and says whether no step of it
+    // lacks a token. False says nothing of a single place.
+    pub fn replay(&self, tokens: &mut [i64; WIDTH], part: &[u8]) -> bool
+        requires { Replayable tokens.old self.now.changes part.now }
+        ensures advanced { Advanced self.now.changes tokens.old tokens.new part.now }
+        ensures covered_all { result ≡ true → CoveredAll self.now.changes tokens.old part.now }
+    {
+        let mut surplus = *tokens;
+        let mut all = [0; WIDTH];
+        let mut last = MAX_EVENTS;
+        for event in part {
+            let event = usize::from(*event);
+            self.step(last, event, &mut surplus, &mut all);
+            last = event;
+        }
+        self.step(last, MAX_EVENTS, &mut surplus, &mut all);
+        *tokens = surplus;
+        all.iter().all(|bits| 0 <= *bits)
     }
-    finish(
-        tokens,
-        &surplus,
-        &all,
-        changes,
-        WIDTH * (EVENTS * last + MAX_EVENTS),
-    )
 }

@@ -1,25 +1,27 @@
 -- Laws of an index: its numbers, one row more, and a chain followed.
-use Rattle.std.specs.Prelude.{◌≡◌, refl, ◌≢◌, Bool, not, ℕ, zero, suc, ◌+◌, ◌*◌, ◌-◌, ◌%◌, ◌<◌, ◌≤◌, ltb, length, take, set, replicate}
-use Rattle.std.proofs.Common.{sym, ◌∙◌, ⊎_elim, zero-le, le_refl, not-suc-le-zero, le_of_suc-le-suc, mul-one, add-one, arith, ltb→lt, take_all, take_at, take-take, get_or-set_same, drop-cons}
+use Rattle.std.specs.Prelude.{◌≡◌, refl, Bool, not, ℕ, zero, suc, ◌+◌, ◌*◌, ◌-◌, ◌%◌, ◌<◌, ◌≤◌, ltb, length, take, set, Option, Some, None, IfSome, unwrap_or}
+use Rattle.std.proofs.Common.{sym, ◌∙◌, ⊎_elim, zero-le, suc-le-suc, le_refl, not-suc-le-zero, le_of_suc-le-suc, mul-one, mul-le-mul, add-one, arith, ltb→lt, take_all, take_at, take-take, get_or-set_same, drop-cons}
 use Rattle.std.proofs.Math.Path.{ap}
 use Rattle.std.proofs.Math.Bool.{true, false, cond}
 use mathlib.Core.List.{List, [], ◌∷◌, ◌++◌, map, map-map}
 use borrow.Author.Tests.{eqb-true, eqb-false}
 use Rattle.std.proofs.Math.Dec.{eqb}
-use Rattle.std.proofs.Math.ListN.{get_or, drop, length-set, drop_of_length-le, get_or-append}
+use Rattle.std.proofs.Math.ListN.{get_or, drop, drop_of_length-le, get_or-append}
 use Rattle.std.proofs.lemmas.List.{get_or_at}
 use Rattle.std.proofs.Math.Seq.{get_or-set_other}
 use Rattle.laws.specs.Booleans.{lt_or_le, true_or_false}
 use Rattle.laws.specs.Lists.{all, all-member, get_d_member, get_d_copies, get_d_map, map-append, equal, equal_true}
 use Rattle.laws.specs.Scans.{first_failing}
-use Rattle.laws.specs.Sums.{weighted-more, weighted-zeros}
+use Rattle.laws.specs.Sums.{weighted, weighted-more, weighted-zeros}
 use Rattle.limits.specs.Limits.{max_events}
 use Rattle.nets.specs.Nets.{Counts}
-use Rattle.rows.specs.Rows.{row_size, Row, row_at, rows_of, find_row, new_row, visit, follow, add_event, take_word, none, Holds}
+use Rattle.rows.specs.Rows.{row_size, Row, row_at, rows_of, find_row, found, new_row, visit, follow, add_event, take_word, none, Holds}
 use Rattle.rows.specs.Flat.{held, length-rows, rows_at, rows_last}
 use Rattle.rows.specs.Visiting.{counts_of, visit_cases, length-visit, counts-follow, length-follow}
 use Rattle.rows.specs.Growth.{visit_le}
-use Rattle.rows.specs.Index.{multipliers, multiplier, key, chain_count, index_size, chains, last_in, Index}
+use Rattle.rows.specs.Searching.{found_from}
+use Rattle.rows.specs.Index.{multipliers, multiplier, key, chain_count, chains, last_in, up_to, IsIndex, no_rows}
+use Rattle.rows.specs.declared.index.Index.{Index}
 
 -- ---- Keys
 
@@ -35,6 +37,19 @@ key-none = weighted-zeros multiplier max_events
 pub key-add_event : (v : List ℕ) (e : ℕ) → e < length v → key (add_event v e) ≡ key v + multiplier e
 unfolding key add_event
 key-add_event v e h = weighted-more multiplier v e 1 h ∙ rw mul-one
+
+-- so a key is no large number, where the counts are of 16 bits
+weighted_le : (w : ℕ → ℕ) (xs : List ℕ) (a b : ℕ) → ((i : ℕ) → i < length xs → w i ≤ a) → ((i : ℕ) → get_or xs i 0 ≤ b) → weighted w xs ≤ length xs * (a * b)
+unfolding weighted
+weighted_le w [] a b few small = zero-le
+weighted_le w (x ∷ xs) a b few small =
+    let rest = weighted_le (λ (i : ℕ). w (suc i)) xs a b (λ i h. few (suc i) (suc-le-suc h)) (λ i. small (suc i)) in
+    omega (arith, mul-le-mul (few 0 (suc-le-suc zero-le)) (small 0), rest)
+
+pub key_le : (v : List ℕ) → length v ≡ max_events → ((i : ℕ) → get_or v i 0 < 65536) → key v ≤ max_events * (255 * 65535)
+unfolding key
+key_le v twelve small =
+    rw twelve at (weighted_le multiplier v 255 65535 (λ i h. omega (arith, multiplier-small i (rw twelve at h))) (λ i. omega (arith, small i)))
 
 -- ---- Chains
 
@@ -129,21 +144,17 @@ last-append c cs ds (suc r) h = rw (get_or-append cs ds 0 r h, last-append c cs 
 
 -- ---- An index
 
--- nothing is claimed of one that is too short
-pub index_short : (k : ℕ) (t l : List ℕ) → length l < index_size → Index k t l
-index_short k t l h = record { last = λ room c b. absurd (omega arith); before = λ room r b. absurd (omega arith) }
-
--- zeros are an index of no rows
-pub index_none : (t : List ℕ) → Index 0 t (replicate index_size 0)
+-- one of no rows
+pub index_none : (t : List ℕ) → IsIndex 0 t no_rows
 unfolding last_in
-index_none t = record { last = λ room c b. get_d_copies index_size c 0; before = λ room r b. absurd (not-suc-le-zero b) }
+index_none t = record { chained = λ c b. ap up_to (get_d_copies chain_count c None); preceded = λ r b. absurd (not-suc-le-zero b) }
 
 -- it depends on the chains of the rows only
-index_same : (k : ℕ) (t t' l : List ℕ) → chains (rows_of k t') ≡ chains (rows_of k t) → Index k t l → Index k t' l
-index_same k t t' l same i = record { last = λ room c b. rw same (i.last room c b); before = λ room r b. rw same (i.before room r b) }
+index_same : (k : ℕ) (t t' : List ℕ) (l : Index) → chains (rows_of k t') ≡ chains (rows_of k t) → IsIndex k t l → IsIndex k t' l
+index_same k t t' l same i = record { chained = λ c b. rw same (i.chained c b); preceded = λ r b. rw same (i.preceded r b) }
 
 -- so it stays one where a word is taken
-pub index_taken : (k m : ℕ) (w t t' l : List ℕ) → Holds m (take_word (rows_of k t) none w) t t' → Index k t l → Index k t' l
+pub index_taken : (k m : ℕ) (w t t' : List ℕ) (l : Index) → Holds m (take_word (rows_of k t) none w) t t' → IsIndex k t l → IsIndex k t' l
 index_taken k m w t t' l holds i =
     let rs : List Row = take_word (rows_of k t) none w in
     let more : k ≤ m = omega (arith, held m rs t t' holds, length-rows k t, length-visit none (rows_of k t), visit_le (rows_of k t) none w) in
@@ -151,10 +162,8 @@ index_taken k m w t t' l holds i =
     index_same k t t' l (chains-held k m rs t t' holds more ∙ kept) i
 
 -- row r, which is in chain c, is put at the end of that chain
-module _ (r c : ℕ) (t l : List ℕ) (low : r < chain_count) (room : index_size ≤ length l) (in_c : c ≡ key (row_at (drop (row_size * r) t)).counts % chain_count) (i : Index r t l) where
-  linked : List ℕ
-  linked = set (set l (chain_count + r) (get_or l c 0)) c (r + 1)
-
+module _ (r c : ℕ) (t : List ℕ) (l : Index) (low : r < length l.before) (room : chain_count ≤ length l.last)
+    (in_c : c ≡ key (row_at (drop (row_size * r) t)).counts % chain_count) (i : IsIndex r t l) where
   cs : List ℕ
   cs = chains (rows_of r t)
 
@@ -166,36 +175,34 @@ module _ (r c : ℕ) (t l : List ℕ) (low : r < chain_count) (room : index_size
   unfolding cs
   more = rw (add-one, in_c) (chains-last r t)
 
-  in_other : (j : ℕ) → j ≢ c → j ≢ chain_count + r → get_or linked j 0 ≡ get_or l j 0
-  unfolding linked
-  in_other j p q = get_or-set_other (set l (chain_count + r) (get_or l c 0)) c j (r + 1) 0 p ∙ get_or-set_other l (chain_count + r) j (get_or l c 0) 0 q
-
-  link_last : (d : ℕ) → d < chain_count → get_or linked d 0 ≡ last_in d (cs ++ (c ∷ [])) (suc r)
-  unfolding last_in linked cs
-  link_last d b = rw (get_or_at cs c [] 0 r few, last-append d cs (c ∷ []) r (omega (arith, few)), ← i.last room d b) (go (eqb c d) refl)
+  link_last : (d : ℕ) → d < chain_count → up_to (get_or (set l.last c (Some r)) d None) ≡ last_in d (cs ++ (c ∷ [])) (suc r)
+  unfolding last_in cs
+  link_last d b = rw (get_or_at cs c [] 0 r few, last-append d cs (c ∷ []) r (omega (arith, few)), ← i.chained d b) (go (eqb c d) refl)
     where
-      go : (x : Bool) → eqb c d ≡ x → get_or linked d 0 ≡ cond x (suc r) (get_or l d 0)
-      go true e =
-          rw (← eqb-true c d e, add-one) (get_or-set_same (set l (chain_count + r) (get_or l c 0)) c (suc r) 0 (simp length-set (omega (arith, eqb-true c d e))))
-      go false e = in_other d (λ p. eqb-false c d e (sym p)) (λ p. omega arith)
+      go : (x : Bool) → eqb c d ≡ x → up_to (get_or (set l.last c (Some r)) d None) ≡ cond x (suc r) (up_to (get_or l.last d None))
+      go true e = rw (← eqb-true c d e) (ap up_to (get_or-set_same l.last c (Some r) None (omega (arith, eqb-true c d e))))
+      go false e = ap up_to (get_or-set_other l.last c d (Some r) None (λ p. eqb-false c d e (sym p)))
 
-  link_before : (j : ℕ) → j < suc r → get_or linked (chain_count + j) 0 ≡ last_in (get_or (cs ++ (c ∷ [])) j 0) (cs ++ (c ∷ [])) j
-  unfolding linked cs
+  link_before : (j : ℕ) → j < suc r
+      → up_to (get_or (set l.before r (get_or l.last c None)) j None) ≡ last_in (get_or (cs ++ (c ∷ [])) j 0) (cs ++ (c ∷ [])) j
+  unfolding cs
   link_before j b = rw (last-append (get_or (cs ++ (c ∷ [])) j 0) cs (c ∷ []) j (omega (arith, few))) (⊎_elim older newest (lt_or_le j r))
     where
-      older : j < r → get_or linked (chain_count + j) 0 ≡ last_in (get_or (cs ++ (c ∷ [])) j 0) cs j
-      older h = in_other (chain_count + j) (λ p. omega (arith, in_c)) (λ p. omega arith) ∙ rw (get_or-append cs (c ∷ []) 0 j (omega (arith, few))) (i.before room j h)
+      older : j < r → up_to (get_or (set l.before r (get_or l.last c None)) j None) ≡ last_in (get_or (cs ++ (c ∷ [])) j 0) cs j
+      older h = ap up_to (get_or-set_other l.before r j (get_or l.last c None) None (λ p. omega arith))
+          ∙ rw (get_or-append cs (c ∷ []) 0 j (omega (arith, few))) (i.preceded j h)
 
-      newest : r ≤ j → get_or linked (chain_count + j) 0 ≡ last_in (get_or (cs ++ (c ∷ [])) j 0) cs j
+      newest : r ≤ j → up_to (get_or (set l.before r (get_or l.last c None)) j None) ≡ last_in (get_or (cs ++ (c ∷ [])) j 0) cs j
       newest h =
           let here : j ≡ r = omega arith in
           let low-c : c < chain_count = omega (arith, in_c) in
-          rw (here, get_or_at cs c [] 0 r few, ← i.last room c low-c)
-          (get_or-set_other (set l (chain_count + r) (get_or l c 0)) c (chain_count + r) (r + 1) 0 (λ p. omega arith) ∙ get_or-set_same l (chain_count + r) (get_or l c 0) 0 (omega arith))
+          rw (here, get_or_at cs c [] 0 r few, ← i.chained c low-c) (ap up_to (get_or-set_same l.before r (get_or l.last c None) None low))
 
-  pub index_link : Index (r + 1) t (set (set l (chain_count + r) (get_or l c 0)) c (r + 1))
-  unfolding linked
-  index_link = record { last = λ _ d b. rw more (link_last d b ∙ ap (last_in d (cs ++ (c ∷ []))) (sym (add-one r))); before = λ _ j b. rw more (link_before j (omega arith)) }
+  pub index_link : IsIndex (r + 1) t (record { last = set l.last c (Some r); before = set l.before r (get_or l.last c None) })
+  index_link = record {
+    chained = λ d b. rw more (link_last d b ∙ ap (last_in d (cs ++ (c ∷ []))) (sym (add-one r)));
+    preceded = λ j b. rw more (link_before j (omega arith));
+  }
 
 -- ---- A chain followed
 
@@ -226,57 +233,68 @@ skip v rs (suc x) h = go (eqb (get_or (chains rs) x 0) (key v % chain_count)) re
         let here : find_row v (drop x rs) ≡ suc (find_row v (drop (suc x) rs)) = find_cons v rs x (new_row none) h ∙ rw other in
         omega (arith, below, here)
 
--- a chain of k rows that is followed from its end: `left` is the row looked at next plus 1, and `lowest` the lowest row from there on with the counts v
-pub record Following (v : Counts) (k : ℕ) (t : List ℕ) (lowest left : ℕ) : Type 0 where
-  pub within : left ≤ k
-  pub found : lowest ≡ left + find_row v (drop left (rows_of k t))
-  pub chained : 0 < left → get_or (chains (rows_of k t)) (left - 1) 0 ≡ key v % chain_count
+-- a chain of k rows that is followed from its end: `next` is the row looked at next, and `lowest` the lowest row behind it with the counts v
+pub record Following (v : Counts) (k : ℕ) (t : List ℕ) (lowest next : Option ℕ) : Type 0 where
+  pub within : up_to next ≤ k
+  pub behind : unwrap_or lowest k ≡ up_to next + find_row v (drop (up_to next) (rows_of k t))
+  pub below : IfSome lowest (λ r. r < k)
+  pub chained : 0 < up_to next → get_or (chains (rows_of k t)) (up_to next - 1) 0 ≡ key v % chain_count
 
 -- from the rows below x to the last of them that is in the chain
-chain-from : (v : Counts) (k : ℕ) (t : List ℕ) (lowest x left : ℕ) → x ≤ k → lowest ≡ x + find_row v (drop x (rows_of k t))
-    → left ≡ last_in (key v % chain_count) (chains (rows_of k t)) x → Following v k t lowest left
-chain-from v k t lowest x left h e at =
-    let within : left ≤ k = omega (arith, last_le (key v % chain_count) (chains (rows_of k t)) x) in
+chain-from : (v : Counts) (k : ℕ) (t : List ℕ) (lowest : Option ℕ) (x : ℕ) (next : Option ℕ) → x ≤ k → unwrap_or lowest k ≡ x + find_row v (drop x (rows_of k t))
+    → IfSome lowest (λ r. r < k) → up_to next ≡ last_in (key v % chain_count) (chains (rows_of k t)) x → Following v k t lowest next
+chain-from v k t lowest x next h e low at =
+    let within : up_to next ≤ k = omega (arith, last_le (key v % chain_count) (chains (rows_of k t)) x) in
     record {
       within = within;
-      found = rw at (e ∙ skip v (rows_of k t) x (rw length-rows h));
+      behind = rw at (e ∙ skip v (rows_of k t) x (rw length-rows h));
+      below = low;
       chained = rw at (last_in_lem (key v % chain_count) (chains (rows_of k t)) x);
     }
 
-module _ (v : Counts) (k : ℕ) (t l : List ℕ) (room : index_size ≤ length l) (i : Index k t l) where
-  pub chain-start : (sum : ℕ) → sum ≡ key v → Following v k t k (get_or l (sum % chain_count) 0)
+module _ (v : Counts) (k : ℕ) (t : List ℕ) (l : Index) (i : IsIndex k t l) where
+  pub chain-start : (sum : ℕ) → sum ≡ key v → Following v k t None (get_or l.last (sum % chain_count) None)
   unfolding find_row first_failing
   chain-start sum e =
       let end : drop k (rows_of k t) ≡ [] = drop_of_length-le (rows_of k t) {i = k} (rw length-rows (le_refl k)) in
-      chain-from v k t k k (get_or l (sum % chain_count) 0) (le_refl k) (rw end (omega arith)) (rw e (i.last room (key v % chain_count) (omega arith)))
+      chain-from v k t None k (get_or l.last (sum % chain_count) None) (le_refl k) (rw end (omega arith)) tt
+      (rw e (i.chained (key v % chain_count) (omega arith)))
 
-  -- one row more
-  module _ (lowest left : ℕ) (some : 0 < left) (f : Following v k t lowest left) where
-    below : left - 1 < k
-    below = omega (arith, f.within)
+  -- row r, which is the next
+  module _ (lowest : Option ℕ) (r : ℕ) (f : Following v k t lowest (Some r)) where
+    pub chain_row : r < k
+    chain_row = f.within
 
-    before_in : get_or l (chain_count + (left - 1)) 0 ≡ last_in (key v % chain_count) (chains (rows_of k t)) (left - 1)
-    before_in = i.before room (left - 1) below ∙ rw (f.chained some)
+    before_in : up_to (get_or l.before r None) ≡ last_in (key v % chain_count) (chains (rows_of k t)) r
+    before_in =
+        let here : suc r - 1 ≡ r = omega arith in
+        let in_chain : get_or (chains (rows_of k t)) r 0 ≡ key v % chain_count = rw here at (f.chained (omega arith)) in
+        i.preceded r chain_row ∙ rw in_chain
 
-    pub chain-less : get_or l (chain_count + (left - 1)) 0 < left
-    chain-less = omega (arith, before_in, last_le (key v % chain_count) (chains (rows_of k t)) (left - 1))
+    pub chain-less : up_to (get_or l.before r None) < up_to (Some r)
+    chain-less = omega (arith, before_in, last_le (key v % chain_count) (chains (rows_of k t)) r)
 
     -- b is the test on it, and u its counts
-    pub chain_next : (u : Counts) (b : Bool) (lowest' : ℕ) → u ≡ (row_at (drop (row_size * (left - 1)) t)).counts → b ≡ equal u v → lowest' ≡ cond b (left - 1) lowest
-        → Following v k t lowest' (get_or l (chain_count + (left - 1)) 0)
+    pub chain_next : (u : Counts) (b : Bool) (lowest' : Option ℕ) → u ≡ (row_at (drop (row_size * r) t)).counts → b ≡ equal u v → lowest' ≡ cond b (Some r) lowest
+        → Following v k t lowest' (get_or l.before r None)
     chain_next u b lowest' is test e =
         let rs : List Row = rows_of k t in
-        let r : ℕ = left - 1 in
         let row : equal (get_or rs r (new_row none)).counts v ≡ b =
-        ap (λ (x : Row). equal x.counts v) (rows_at k t r (new_row none) below) ∙ rw (test, is) in
-        let step : find_row v (drop r rs) ≡ cond (not b) (suc (find_row v (drop (suc r) rs))) 0 = find_cons v rs r (new_row none) (rw length-rows below) ∙ rw row in
-        let next : suc r ≡ left = omega arith in
-        chain-from v k t lowest' r (get_or l (chain_count + r) 0) (omega arith) (e ∙ lower b r rs step (rw next f.found)) before_in
+        ap (λ (x : Row). equal x.counts v) (rows_at k t r (new_row none) chain_row) ∙ rw (test, is) in
+        let step : find_row v (drop r rs) ≡ cond (not b) (suc (find_row v (drop (suc r) rs))) 0 =
+        find_cons v rs r (new_row none) (rw length-rows chain_row) ∙ rw row in
+        chain-from v k t lowest' r (get_or l.before r None) (omega (arith, chain_row)) (rw e (lower b rs step f.behind)) (rw e (kept b)) before_in
       where
-        lower : (b : Bool) (r : ℕ) (rs : List Row) → find_row v (drop r rs) ≡ cond (not b) (suc (find_row v (drop (suc r) rs))) 0
-            → lowest ≡ suc r + find_row v (drop (suc r) rs) → cond b r lowest ≡ r + find_row v (drop r rs)
-        lower true r rs e f = omega arith
-        lower false r rs e f = omega arith
+        lower : (b : Bool) (rs : List Row) → find_row v (drop r rs) ≡ cond (not b) (suc (find_row v (drop (suc r) rs))) 0
+            → unwrap_or lowest k ≡ suc r + find_row v (drop (suc r) rs) → unwrap_or (cond b (Some r) lowest) k ≡ r + find_row v (drop r rs)
+        lower true rs e f = omega arith
+        lower false rs e f = omega arith
 
-pub chain-end : (v : Counts) (k : ℕ) (t : List ℕ) (lowest left : ℕ) → Following v k t lowest left → left ≡ 0 → lowest ≡ find_row v (rows_of k t)
-chain-end v k t lowest left f e = f.found ∙ rw e (omega arith)
+        kept : (b : Bool) → IfSome (cond b (Some r) lowest) (λ x. x < k)
+        kept true = chain_row
+        kept false = f.below
+
+pub chain-end : (v : Counts) (k : ℕ) (t : List ℕ) (lowest next : Option ℕ) → Following v k t lowest next → next ≡ None → lowest ≡ found v (rows_of k t)
+chain-end v k t lowest next f e =
+    let is : unwrap_or lowest k ≡ find_row v (rows_of k t) = f.behind ∙ rw e (omega arith) in
+    found_from v k t lowest f.below is

@@ -7,3 +7,4 @@ pub mod Flat
 pub mod Storing
 pub mod Searching
 pub mod IndexLaws
+pub mod Adding

@@ -1,5 +1,5 @@
 -- The log table as a list of rows: how rows lie in a list of numbers, and what taking a word does to them.
-use Rattle.std.specs.Prelude.{◌≡◌, not, cond, List, [], ◌∷◌, ◌++◌, ℕ, zero, suc, ◌+◌, ◌*◌, ◌≤◌, ◌<◌, min, length, get_or, take, drop, set, replicate, ltb}
+use Rattle.std.specs.Prelude.{◌≡◌, not, cond, List, [], ◌∷◌, ◌++◌, ℕ, zero, suc, ◌+◌, ◌*◌, min, length, get_or, take, drop, set, replicate, ltb, leb, Option, Some, None}
 use Rattle.laws.specs.Lists.{equal}
 use Rattle.laws.specs.Scans.{first_failing}
 use Rattle.laws.specs.Bits.{with_bit}
@@ -117,6 +117,10 @@ unfoldable pub new_rows : List Row → Counts → Word → ℕ
 new_rows rs v [] = absent v rs
 new_rows rs v (e ∷ w) = absent v rs + new_rows rs (add_event v e) w
 
+-- the lowest row with the counts v, where there is one
+unfoldable pub found : Counts → List Row → Option ℕ
+found v rs = cond (ltb (find_row v rs) (length rs)) (Some (find_row v rs)) None
+
 -- the row with the counts v, or k where there is none
 unfoldable pub row_or : List Row → ℕ → Counts → ℕ
 row_or rs k v = cond (ltb (find_row v rs) (length rs)) (find_row v rs) k
@@ -131,8 +135,12 @@ pub record Holds (k : ℕ) (rs : List Row) (t t' : List ℕ) : Type 0 where
   pub front : rows_of k t' ≡ rs
   pub rest : drop (row_size * k) t' ≡ drop (row_size * k) t
 
+-- how many rows there are with the word w, where they are not too many
+unfoldable pub rows_with : ℕ → ℕ → List ℕ → Word → Option ℕ
+rows_with most k t w = cond (leb (k + new_rows (rows_of k t) none w) most) (Some (k + new_rows (rows_of k t) none w)) None
+
 -- the word w was added to the k rows of t, which gives r rows in t'; or they would be too many, and t' is t
-pub record Added (most k : ℕ) (w : Word) (t t' : List ℕ) (r : ℕ) : Type 0 where
-  pub size : r ≡ k + new_rows (rows_of k t) none w
-  pub fits : r ≤ most → Holds r (take_word (rows_of k t) none w) t t'
-  pub full : most < r → t' ≡ t
+pub record Added (most k : ℕ) (w : Word) (t t' : List ℕ) (r : Option ℕ) : Type 0 where
+  pub size : r ≡ rows_with most k t w
+  pub fits : (n : ℕ) → r ≡ Some n → Holds n (take_word (rows_of k t) none w) t t'
+  pub full : r ≡ None → t' ≡ t

@@ -1,12 +1,14 @@
 -- Rows visited and followed in a table: what the stores of the code do to them.
-use Rattle.std.specs.Prelude.{◌≡◌, refl, List, [], ◌∷◌, ◌++◌, ℕ, zero, suc, ◌+◌, ◌*◌, ◌<◌, ◌≤◌, length, get_or, take, drop, set}
-use Rattle.std.proofs.Common.{sym, ap, ◌∙◌, append_assoc, ⊎_elim, not-suc-le-zero, le_of_suc-le-suc, arith, lt-ltb, le-ltb, lit<, length-append, length-take, length-drop, length-set, drop-drop, drop-cons, take_all, drop-set-lt, get_or-set_same, get_or-set_other, get_or-drop}
+use Rattle.std.specs.Prelude.{◌≡◌, refl, T, ltb, Some, None, List, [], ◌∷◌, ◌++◌, ℕ, zero, suc, ◌+◌, ◌*◌, ◌<◌, ◌≤◌, length, get_or, take, drop, set}
+use Rattle.std.proofs.Common.{sym, ap, ◌∙◌, subst, append_assoc, ⊎_elim, not-suc-le-zero, le_of_suc-le-suc, arith, lt-ltb, le-ltb, ltb→lt, lit<, length-append, length-take, length-drop, length-set, drop-drop, drop-cons, take_all, drop-set-lt, get_or-set_same, get_or-set_other, get_or-drop}
 use Rattle.std.proofs.lemmas.List.{set_at, take-set-le, drop-set-add}
+use Rattle.std.proofs.lemmas.Option.{none-some, cond_some}
 use Rattle.std.proofs.Math.Seq.{paste, append_snoc}
 use Rattle.laws.specs.Booleans.{lt_or_le}
 use Rattle.laws.specs.Bits.{with_bit}
 use Rattle.limits.specs.Limits.{max_events}
-use Rattle.rows.specs.Rows.{row_size, traffic_offset, Row, row_at, numbers, rows_of, find_row, new_row, present, one_more, passed_once, visit, marked, update_at, follow, absent, row_or, Holds}
+use Rattle.nets.specs.Nets.{Counts}
+use Rattle.rows.specs.Rows.{row_size, traffic_offset, Row, row_at, numbers, rows_of, find_row, found, new_row, present, one_more, passed_once, visit, marked, update_at, follow, absent, row_or, Holds}
 use Rattle.rows.specs.Visiting.{length-same, present-found, present-new, counts-visit, length-visit, find_visit}
 use Rattle.rows.specs.Flat.{row_at-front, length-rows, append-row, find_le, held}
 
@@ -93,6 +95,18 @@ module _ (f : Row → Row) (j : ℕ) (g : ℕ → ℕ) (inside : j < row_size)
       })
 
 -- ---- A prefix
+
+-- what a search that found the counts v says, and one that did not
+pub found_some : (v : Counts) (rs : List Row) (r : ℕ) → Some r ≡ found v rs → (r ≡ find_row v rs) × (r < length rs)
+unfolding found
+found_some v rs r e =
+    let q = cond_some (ltb (find_row v rs) (length rs)) (find_row v rs) r (sym e) in
+    (sym q.1, rw (← q.1) (ltb→lt (find_row v rs) (length rs) (subst T (sym q.0) tt)))
+
+pub found_none : (v : Counts) (rs : List Row) → None ≡ found v rs → length rs ≤ find_row v rs
+unfolding found
+found_none v rs e =
+    ⊎_elim (λ h. absurd (none-some (find_row v rs) (e ∙ rw (lt-ltb (find_row v rs) (length rs) h)))) (λ h. h) (lt_or_le (find_row v rs) (length rs))
 
 -- the row for the counts v, at r: found below k, or k where there is none
 module _ (v t : List ℕ) (k r : ℕ) (at : r ≡ find_row v (rows_of k t)) where

@@ -1,5 +1,5 @@
 -- Exactly when the joined call refuses with each number, and at which spot: by what screening says of each bundle, and by the word.
-use Rattle.std.specs.Prelude.{◌≡◌, true, ◌↔◌, ◌⊎◌, List, [], ◌∷◌, ℕ, leb, eqb, length}
+use Rattle.std.specs.Prelude.{◌≡◌, true, ◌↔◌, ◌⊎◌, List, [], ◌∷◌, ℕ, leb, eqb, length, Err}
 use Rattle.std.proofs.Math.Path.{refl}
 use Rattle.std.proofs.Math.Bool.{false, not}
 use Rattle.std.proofs.Math.Logic.{inl, inr, ⊎_elim}
@@ -21,14 +21,13 @@ use Rattle.bundles.specs.HeadReading.{HeadIsRead, head_refusal_numbers, head-ref
 use Rattle.screening.specs.Screening.{word_on, joining, screened, screened_joined}
 use Rattle.screening.specs.Causes.{refused-exactly, word-refuses, word_15}
 use Rattle.screening.specs.Joins.{empty-word}
-use Rattle.screening.specs.declared.Screened.TheVariants as answers
 
 -- a chain, by its own refusals
 itself : {A : Type 0} (m : Result A) (number : ℕ) → Exactly m number (λ spot. m ≡ refused number spot)
 itself m number = record { line = λ spot. ((λ e. e), (λ e. e)) }
 
 -- a bundle's own refusals are those of screening the empty word
-pub empty-refused : (b : List ℕ) (number spot : ℕ) → (screened b [] ≡ answers.Refused (refusal number spot)) ↔ (read_head b ≡ refused number spot)
+pub empty-refused : (b : List ℕ) (number spot : ℕ) → (screened b [] ≡ Err (refusal number spot)) ↔ (read_head b ≡ refused number spot)
 unfolding screened any
 empty-refused b number = refused-exactly (rw (empty-word b) (exactly-first (itself (read_head b) number) (λ h. refuses-end (screen h.events (to_net h) [])) refl))
 
@@ -52,19 +51,19 @@ module _ (first second : List ℕ) (w : Word) where
   behind-refuses = refuses-then (refuses-wider tt (head-refuses first)) (λ one. refuses-then (refuses-wider tt (head-refuses second)) (λ two. refuses-wider tt (on_heads-refuses one two)))
 
   lined : {number : ℕ} {C : ℕ → Type 0} → (word_length_number ≡ number → ⊥) → Exactly behind number C
-      → (spot : ℕ) → (screened_joined first second w ≡ answers.Refused (refusal number spot)) ↔ ((leb (length w) max_word_events ≡ true) × C spot)
+      → (spot : ℕ) → (screened_joined first second w ≡ Err (refusal number spot)) ↔ ((leb (length w) max_word_events ≡ true) × C spot)
   unfolding screened_joined joining
   lined other e = refused-exactly (exactly-later (leb (length w) max_word_events) word_length_number max_word_events behind other e)
 
   -- ---- 14, the first bundle's 4, 6, 7, 8, the second's, 19, 15
 
-  pub join_14 : (spot : ℕ) → (screened_joined first second w ≡ answers.Refused (refusal word_length_number spot))
+  pub join_14 : (spot : ℕ) → (screened_joined first second w ≡ Err (refusal word_length_number spot))
       ↔ ((spot ≡ max_word_events) × (leb (length w) max_word_events ≡ false))
   unfolding screened_joined joining any
   join_14 = refused-exactly (exactly-here (leb (length w) max_word_events) word_length_number max_word_events behind behind-refuses refl)
 
   -- a bundle's own refusal: the first one's, or the second's where the first is read
-  pub join-own : (number : ℕ) → among number head_refusal_numbers ≡ true → (spot : ℕ) → (screened_joined first second w ≡ answers.Refused (refusal number spot))
+  pub join-own : (number : ℕ) → among number head_refusal_numbers ≡ true → (spot : ℕ) → (screened_joined first second w ≡ Err (refusal number spot))
       ↔ ((leb (length w) max_word_events ≡ true) × ((read_head first ≡ refused number spot) ⊎ (HeadIsRead first × (read_head second ≡ refused number spot))))
   unfolding all any
   join-own number listed = lined (not-among head_refusal_numbers word_length_number number refl listed) (exactly-same (exactly-then (itself (read_head first) number) (λ one. exactly-first (itself (read_head second) number) (on_heads-refuses one) none)) (λ spot. (
@@ -83,13 +82,13 @@ module _ (first second : List ℕ) (w : Word) where
     (λ (is, is', d). (head_of first, is, (head_of second, is', d))),
   ))
 
-  pub join_19 : (spot : ℕ) → (screened_joined first second w ≡ answers.Refused (refusal event_counts_number spot))
+  pub join_19 : (spot : ℕ) → (screened_joined first second w ≡ Err (refusal event_counts_number spot))
       ↔ ((leb (length w) max_word_events ≡ true) × (HeadIsRead first × HeadIsRead second × ((spot ≡ 0) × (eqb (events_in first) (events_in second) ≡ false))))
   unfolding any
   join_19 = lined (λ e. omega (arith, e)) (both {D = λ one two spot. (spot ≡ 0) × (eqb one.events two.events ≡ false)} refl (λ one two.
       exactly-here (eqb one.events two.events) event_counts_number 0 (word_on w one.events (join (to_net one) (to_net two))) (word-refuses w one.events (join (to_net one) (to_net two))) refl))
 
-  pub join_15 : (spot : ℕ) → (screened_joined first second w ≡ answers.Refused (refusal word_event_number spot))
+  pub join_15 : (spot : ℕ) → (screened_joined first second w ≡ Err (refusal word_event_number spot))
       ↔ ((leb (length w) max_word_events ≡ true) × (HeadIsRead first × HeadIsRead second
       × ((eqb (events_in first) (events_in second) ≡ true) × ((spot ≡ first_bad (events_in first) w) × (all (λ e. ltb e (events_in first)) w ≡ false)))))
   unfolding any

@@ -1,5 +1,5 @@
 -- The laws of the joined call: yes or no, order, a bundle joined to itself, the grouping of three, a net of no places, and where it stops.
-use Rattle.std.specs.Prelude.{◌≡◌, refl, ◌↔◌, List, ℕ, ◌+◌, ◌-◌, ◌≤◌, ◌<◌, T, length}
+use Rattle.std.specs.Prelude.{◌≡◌, refl, ◌↔◌, List, ℕ, ◌+◌, ◌-◌, ◌≤◌, ◌<◌, T, length, Err, None, Ok, Some}
 use Rattle.std.proofs.Common.{sym, ap, ap₂, ◌∙◌, subst, append-nil, arith, length-append}
 use Rattle.std.specs.Float.Ieee.Fits.{and_i, and_l, and_r}
 use Rattle.laws.specs.Booleans.{impossible}
@@ -16,8 +16,7 @@ use Rattle.screening.specs.Screens.{Readable, readable-read, screened-replayed, 
 use Rattle.screening.specs.Joins.{JoinReadable, answer_on, screened-on, joined-on, answer-replayed, permitted-on, answer-same, readable-on}
 use Rattle.screening.proofs.Joins.{joined→}
 use Rattle.stops.specs.declared.Stop.{Stop}
-use Rattle.screening.specs.declared.Screened.{Screened}
-use Rattle.screening.specs.declared.Screened.TheVariants as answers
+use Rattle.screening.specs.Screening.{Screened}
 use Rattle.screening.specs.JoinLaws.{NoPlaces, JoinOf}
 
 -- ---- a bundle that is refused
@@ -71,17 +70,17 @@ module _ (first second : List ℕ) (w : Word) where
 
 module _ (first second : List ℕ) (w : Word) where
   -- permitted exactly when both nets permit the word
-  pub joined-permitted : (screened_joined first second w ≡ answers.Permitted)
-      ↔ ((screened first w ≡ answers.Permitted) × (screened second w ≡ answers.Permitted) × (events_in first ≡ events_in second))
+  pub joined-permitted : (screened_joined first second w ≡ Ok None)
+      ↔ ((screened first w ≡ Ok None) × (screened second w ≡ Ok None) × (events_in first ≡ events_in second))
   joined-permitted = (to, from)
     where
       n : ℕ
       n = events_in first
 
-      other : {x : Screened} → x ≡ answers.Permitted → (r : Refusal) → x ≡ answers.Refused r → ⊥
+      other : {x : Screened} → x ≡ Ok None → (r : Refusal) → x ≡ Err r → ⊥
       other e r e' = impossible (cc (sym e ∙ e'))
 
-      to : screened_joined first second w ≡ answers.Permitted → (screened first w ≡ answers.Permitted) × (screened second w ≡ answers.Permitted) × (events_in first ≡ events_in second)
+      to : screened_joined first second w ≡ Ok None → (screened first w ≡ Ok None) × (screened second w ≡ Ok None) × (events_in first ≡ events_in second)
       to e =
           let (one, two, same) = joined→ first second w (other e) in
           let (passes, t) = (permitted-on w n (join (net_in first) (net_in second))).0 (sym (joined-on first second one two same w) ∙ e) in
@@ -93,7 +92,7 @@ module _ (first second : List ℕ) (w : Word) where
             same,
           )
 
-      from : (screened first w ≡ answers.Permitted) × (screened second w ≡ answers.Permitted) × (events_in first ≡ events_in second) → screened_joined first second w ≡ answers.Permitted
+      from : (screened first w ≡ Ok None) × (screened second w ≡ Ok None) × (events_in first ≡ events_in second) → screened_joined first second w ≡ Ok None
       from (e, e', same) =
           let one = readable-read first w (other e) in
           let two = readable-read second w (other e') in
@@ -104,10 +103,10 @@ module _ (first second : List ℕ) (w : Word) where
           (passes, subst T (sym (permits-join n (net_in first) (net_in second) w)) (and_i (permits n (net_in first) w) (permits n (net_in second) w) t t'))
 
 -- the order of the two makes no difference to yes or no
-pub joined-order : (first second : List ℕ) (w : Word) → (screened_joined first second w ≡ answers.Permitted) ↔ (screened_joined second first w ≡ answers.Permitted)
+pub joined-order : (first second : List ℕ) (w : Word) → (screened_joined first second w ≡ Ok None) ↔ (screened_joined second first w ≡ Ok None)
 joined-order first second w = (swap first second, swap second first)
   where
-    swap : (a b : List ℕ) → screened_joined a b w ≡ answers.Permitted → screened_joined b a w ≡ answers.Permitted
+    swap : (a b : List ℕ) → screened_joined a b w ≡ Ok None → screened_joined b a w ≡ Ok None
     swap a b e = let (one, two, same) = (joined-permitted a b w).0 e in (joined-permitted b a w).1 (two, one, sym same)
 
 -- ---- the whole answer
@@ -162,7 +161,7 @@ joined_grouped a b c ab bc left right w =
 
 -- ---- where it stops
 
-module _ (first second : List ℕ) (w : Word) (s : Stop) (is : screened_joined first second w ≡ answers.Stopped s) where
+module _ (first second : List ℕ) (w : Word) (s : Stop) (is : screened_joined first second w ≡ Ok (Some s)) where
   stop-readable : JoinReadable first second w
   stop-readable r e = impossible (cc (sym is ∙ e))
 
@@ -170,7 +169,7 @@ module _ (first second : List ℕ) (w : Word) (s : Stop) (is : screened_joined f
   stops = (replayed-stopped _ s).0 (sym (joined-replayed first second w stop-readable) ∙ is)
 
   -- below the first net's place count it is the first net's own stop
-  pub joined-stop-first : s.place < length (net_in first) → screened first w ≡ answers.Stopped s
+  pub joined-stop-first : s.place < length (net_in first) → screened first w ≡ Ok (Some s)
   joined-stop-first h =
       let readable = (join-readable first second w).0 stop-readable in
       screened-replayed first w readable.0
@@ -178,7 +177,7 @@ module _ (first second : List ℕ) (w : Word) (s : Stop) (is : screened_joined f
 
   -- from there on the second's, its places numbered behind the first's
   pub joined-stop-second : length (net_in first) ≤ s.place
-      → screened second w ≡ answers.Stopped (record { position = s.position; place = s.place - length (net_in first); shortfall = s.shortfall })
+      → screened second w ≡ Ok (Some (record { position = s.position; place = s.place - length (net_in first); shortfall = s.shortfall }))
   joined-stop-second h =
       let (readable, readable', same) = (join-readable first second w).0 stop-readable in
       screened-replayed second w readable'

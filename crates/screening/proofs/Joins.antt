@@ -1,5 +1,5 @@
 -- What the joined call permits.
-use Rattle.std.specs.Prelude.{◌≡◌, ℕ, leb, eqb, length}
+use Rattle.std.specs.Prelude.{◌≡◌, ℕ, leb, eqb, length, Err}
 use Rattle.std.proofs.Math.Path.{refl, sym, ap}
 use Rattle.std.proofs.Common.{◌∙◌}
 use mathlib.Core.List.{List}
@@ -15,7 +15,6 @@ use Rattle.bundles.specs.Layout.{Head}
 use Rattle.bundles.specs.Readers.{read_head, events_in}
 use Rattle.bundles.specs.HeadReading.{HeadIsRead, read-head-of, read_is}
 use Rattle.screening.specs.Screening.{joining, screened_of, screened_joined}
-use Rattle.screening.specs.declared.Screened.TheVariants as answers
 use Rattle.screening.specs.Joins.{JoinReadable}
 
 -- ---- permitted
@@ -39,6 +38,6 @@ module _ (first second : List ℕ) (w : Word) where
   unfolding screened_joined screened_of
   joined→ readable = go (joining first second w) refl readable
     where
-      go : (m : Result nets.Answer) → joining first second w ≡ m → ((r : Refusal) → screened_of m ≡ answers.Refused r → ⊥) → HeadIsRead first × HeadIsRead second × (events_in first ≡ events_in second)
+      go : (m : Result nets.Answer) → joining first second w ≡ m → ((r : Refusal) → screened_of m ≡ Err r → ⊥) → HeadIsRead first × HeadIsRead second × (events_in first ≡ events_in second)
       go (value x) is rest = joining→ x is
       go (refused number spot) is rest = absurd (rest (refusal number spot) refl)

@@ -1,5 +1,5 @@
 -- Exactly when screening refuses with each number, and at which spot, by what the bundle and the word hold.
-use Rattle.std.specs.Prelude.{◌≡◌, true, ◌↔◌, List, [], ◌∷◌, ℕ, leb, length}
+use Rattle.std.specs.Prelude.{◌≡◌, true, ◌↔◌, List, [], ◌∷◌, ℕ, leb, length, Err}
 use Rattle.std.proofs.Math.Path.{refl}
 use Rattle.std.proofs.Common.{ap, arith}
 use Rattle.std.proofs.Math.Bool.{false, not}
@@ -19,19 +19,18 @@ use Rattle.nets.specs.Events.{first_bad}
 use Rattle.bundles.specs.Layout.{Head, to_net, HeadInFront}
 use Rattle.bundles.specs.Readers.{any_rows, head, read_head}
 use Rattle.bundles.specs.HeadReading.{head-refuses, head_4, head-field, read→front, front→read}
-use Rattle.screening.specs.Screening.{word_on, screening, replayed, screened_of, screened}
-use Rattle.screening.specs.declared.Screened.TheVariants as answers
+use Rattle.screening.specs.Screening.{word_on, screening, replayed, screened_of, screened, Screened}
 
 -- the answer refuses where the chain does
 pub refused-exactly : {m : Result nets.Answer} {number : ℕ} {C : ℕ → Type 0} → Exactly m number C
-    → (spot : ℕ) → (screened_of m ≡ answers.Refused (refusal number spot)) ↔ C spot
+    → (spot : ℕ) → (screened_of m ≡ Err (refusal number spot)) ↔ C spot
 unfolding screened_of replayed
 refused-exactly {m} {number} e spot = ((λ h. (e.line spot).0 (to m h)), (λ c. ap screened_of ((e.line spot).1 c)))
   where
-    same : (n s : ℕ) → answers.Refused (refusal n s) ≡ answers.Refused (refusal number spot) → ◌≡◌ {A = Result nets.Answer} (refused n s) (refused number spot)
+    same : (n s : ℕ) → ◌≡◌ {A = Screened} (Err (refusal n s)) (Err (refusal number spot)) → ◌≡◌ {A = Result nets.Answer} (refused n s) (refused number spot)
     same n s e = let r : refusal n s ≡ refusal number spot = cc in ap (λ (r : Refusal). refused r.number r.spot) r
 
-    to : (m : Result nets.Answer) → screened_of m ≡ answers.Refused (refusal number spot) → m ≡ refused number spot
+    to : (m : Result nets.Answer) → screened_of m ≡ Err (refusal number spot) → m ≡ refused number spot
     to (value permitted) h = impossible cc
     to (value (stopped i j k)) h = impossible cc
     to (refused n s) h = same n s h
@@ -56,18 +55,18 @@ module _ (b : List ℕ) (w : Word) where
 
   -- a line of what follows the word's length, for the answer
   lined : {number : ℕ} {C : ℕ → Type 0} → (word_length_number ≡ number → ⊥) → Exactly behind number C
-      → (spot : ℕ) → (screened b w ≡ answers.Refused (refusal number spot)) ↔ ((leb (length w) max_word_events ≡ true) × C spot)
+      → (spot : ℕ) → (screened b w ≡ Err (refusal number spot)) ↔ ((leb (length w) max_word_events ≡ true) × C spot)
   unfolding screened screening
   lined other e = refused-exactly (exactly-later (leb (length w) max_word_events) word_length_number max_word_events behind other e)
 
   -- ---- 14, 4, then 6, 7, 8 in bundle order, then 15
 
-  pub screen_14 : (spot : ℕ) → (screened b w ≡ answers.Refused (refusal word_length_number spot))
+  pub screen_14 : (spot : ℕ) → (screened b w ≡ Err (refusal word_length_number spot))
       ↔ ((spot ≡ max_word_events) × (leb (length w) max_word_events ≡ false))
   unfolding screened screening any
   screen_14 = refused-exactly (exactly-here (leb (length w) max_word_events) word_length_number max_word_events behind behind-refuses refl)
 
-  pub screen_4 : (spot : ℕ) → (screened b w ≡ answers.Refused (refusal bundle_length_number spot))
+  pub screen_4 : (spot : ℕ) → (screened b w ≡ Err (refusal bundle_length_number spot))
       ↔ ((leb (length w) max_word_events ≡ true) × ((spot ≡ 0) × (right_size (length b) ≡ false)))
   unfolding any
   screen_4 = lined (λ e. omega (arith, e)) (exactly-first (head_4 b) (λ h. word-refuses w h.events (to_net h)) refl)
@@ -76,7 +75,7 @@ module _ (b : List ℕ) (w : Word) where
   field_numbers = bundle_end_number ∷ value_number ∷ events_number ∷ []
 
   -- 6, 7 and 8 are those of the head
-  pub screen-field : (number : ℕ) → among number field_numbers ≡ true → (spot : ℕ) → (screened b w ≡ answers.Refused (refusal number spot))
+  pub screen-field : (number : ℕ) → among number field_numbers ≡ true → (spot : ℕ) → (screened b w ≡ Err (refusal number spot))
       ↔ ((leb (length w) max_word_events ≡ true) × ((right_size (length b) ≡ true) × (head any_rows b 0 ≡ refused number spot)))
   unfolding all any
   screen-field number listed =
@@ -96,7 +95,7 @@ module _ (b : List ℕ) (w : Word) where
       (λ (right, (h, rest, front, at, fails)). (h, front→read b bytes h rest right front, (at, fails))),
     ))
 
-    pub screen_15 : (spot : ℕ) → (screened b w ≡ answers.Refused (refusal word_event_number spot))
+    pub screen_15 : (spot : ℕ) → (screened b w ≡ Err (refusal word_event_number spot))
         ↔ ((leb (length w) max_word_events ≡ true) × ((right_size (length b) ≡ true)
         × ((h : Head) × (rest : List ℕ) × HeadInFront b h rest × (spot ≡ first_bad h.events w) × (all (λ e. ltb e h.events) w ≡ false))))
     screen_15 = lined (λ e. omega (arith, e)) exactly_15

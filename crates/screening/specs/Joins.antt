@@ -1,5 +1,5 @@
 -- Screening with two bundles joined, by what screening with each of them says.
-use Rattle.std.specs.Prelude.{◌≡◌, true, false, cond, ◌↔◌, ℕ, T, leb, length}
+use Rattle.std.specs.Prelude.{◌≡◌, true, false, cond, ◌↔◌, ℕ, T, leb, length, Err, None, Ok}
 use Rattle.std.proofs.Math.Path.{refl, sym, ap}
 use Rattle.std.proofs.Common.{◌∙◌, subst}
 use Rattle.std.proofs.Math.Bool.{Bool}
@@ -20,12 +20,11 @@ use Rattle.bundles.specs.Readers.{read_head, events_in, net_in}
 use Rattle.bundles.specs.HeadReading.{HeadIsRead, read_is}
 use Rattle.screening.specs.Screening.{word_on, screening, joining, replayed, screened_of, screened, screened_joined}
 use Rattle.screening.specs.Screens.{Readable, replayed-never, replay-permits}
-use Rattle.screening.specs.declared.Screened.{Screened}
-use Rattle.screening.specs.declared.Screened.TheVariants as answers
+use Rattle.screening.specs.Screening.{Screened}
 
 -- no refusal meets the call
 abbrev pub JoinReadable : List ℕ → List ℕ → Word → Type 0
-JoinReadable first second w = (r : Refusal) → screened_joined first second w ≡ answers.Refused r → ⊥
+JoinReadable first second w = (r : Refusal) → screened_joined first second w ≡ Err r → ⊥
 
 -- the answer for a word on a net: 14, 15, then the replay
 unfoldable pub answer_on : Word → ℕ → Net → Screened
@@ -45,7 +44,7 @@ read-exactly b = (
   (λ read r e. replayed-never (screen (events_in b) (net_in b) []) r (sym (answer read) ∙ e)),
 )
   where
-    go : (m : Result Head) → read_head b ≡ m → ((r : Refusal) → screened_of (bind m (λ h. value (screen h.events (to_net h) []))) ≡ answers.Refused r → ⊥) → HeadIsRead b
+    go : (m : Result Head) → read_head b ≡ m → ((r : Refusal) → screened_of (bind m (λ h. value (screen h.events (to_net h) []))) ≡ Err r → ⊥) → HeadIsRead b
     go (value h) is readable = read_is b h is
     go (refused number spot) is readable = absurd (readable (refusal number spot) refl)
 
@@ -74,7 +73,7 @@ module _ (w : Word) (n : ℕ) (net : Net) where
   unfolding answer_on word_on require bind screened_of
   answer-replayed (short, below) = rw (short, below)
 
-  pub readable-on : ((r : Refusal) → answer_on w n net ≡ answers.Refused r → ⊥) ↔ Passes w n
+  pub readable-on : ((r : Refusal) → answer_on w n net ≡ Err r → ⊥) ↔ Passes w n
   unfolding answer_on word_on require bind screened_of
   readable-on = (
     (λ readable. to (leb (length w) max_word_events) refl (all (λ e. ltb e n) w) refl readable),
@@ -86,12 +85,12 @@ module _ (w : Word) (n : ℕ) (net : Net) where
           (λ u. bind (cond below (value (tt {0})) (refused word_event_number (first_bad n w))) (λ u. value (screen n net w))))
 
       to : (short : Bool) → leb (length w) max_word_events ≡ short → (below : Bool) → all (λ e. ltb e n) w ≡ below
-          → ((r : Refusal) → answer short below ≡ answers.Refused r → ⊥) → Passes w n
+          → ((r : Refusal) → answer short below ≡ Err r → ⊥) → Passes w n
       to true s true b readable = (s, b)
       to true s false b readable = absurd (readable (refusal word_event_number (first_bad n w)) refl)
       to false s below b readable = absurd (readable (refusal word_length_number max_word_events) refl)
 
-  pub permitted-on : (answer_on w n net ≡ answers.Permitted) ↔ (Passes w n × T (permits n net w))
+  pub permitted-on : (answer_on w n net ≡ Ok None) ↔ (Passes w n × T (permits n net w))
   permitted-on = (
     (λ e. let passes = readable-on.0 (λ r refused. impossible (cc (sym e ∙ refused))) in (passes, (replay-permits n net w (answer-replayed passes)).0 e)),
     (λ (passes, t). (replay-permits n net w (answer-replayed passes)).1 t),
@@ -104,7 +103,7 @@ answer-same w n one two e = rw e
 
 -- nets that permit the word alike get the same yes or no
 pub permitted-alike : (w : Word) (n : ℕ) (one two : Net) → permits n one w ≡ permits n two w
-    → (answer_on w n one ≡ answers.Permitted) ↔ (answer_on w n two ≡ answers.Permitted)
+    → (answer_on w n one ≡ Ok None) ↔ (answer_on w n two ≡ Ok None)
 permitted-alike w n one two same = (
   (λ e. let (passes, t) = (permitted-on w n one).0 e in (permitted-on w n two).1 (passes, subst T same t)),
   (λ e. let (passes, t) = (permitted-on w n two).0 e in (permitted-on w n one).1 (passes, subst T (sym same) t)),

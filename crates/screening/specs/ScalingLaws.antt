@@ -1,5 +1,5 @@
 -- Bundles of which one place, or all, have their numbers multiplied: the calls permit the same words.
-use Rattle.std.specs.Prelude.{◌≡◌, ◌↔◌, ℕ, ◌≤◌}
+use Rattle.std.specs.Prelude.{◌≡◌, ◌↔◌, ℕ, ◌≤◌, None, Ok}
 use Rattle.std.proofs.Math.Path.{sym, ap}
 use Rattle.std.proofs.Common.{◌∙◌}
 use mathlib.Core.List.{List, ◌∷◌, ◌++◌, map, map-append}
@@ -11,7 +11,6 @@ use Rattle.bundles.specs.HeadReading.{HeadIsRead}
 use Rattle.bundles.specs.Scaling.{scaled_fields, one-scaled, all-scaled}
 use Rattle.screening.specs.Screening.{screened}
 use Rattle.screening.specs.Joins.{answer_on, screened-on, permitted-alike}
-use Rattle.screening.specs.declared.Screened.TheVariants as answers
 
 -- two bundles that are read, over the same events
 pub record SameEvents (b b' : List ℕ) : Type 0 where
@@ -35,7 +34,7 @@ pub record ScaledPlaces (k : ℕ) (b b' : List ℕ) : Type 0 where
 
 -- nets that permit a word alike, for the calls
 alike : (b b' : List ℕ) → SameEvents b b' → (w : Word) → permits (events_in b) (net_in b) w ≡ permits (events_in b) (net_in b') w
-    → (screened b w ≡ answers.Permitted) ↔ (screened b' w ≡ answers.Permitted)
+    → (screened b w ≡ Ok None) ↔ (screened b' w ≡ Ok None)
 alike b b' same w e =
     let on = screened-on b same.read w in
     let on' = screened-on b' same.read' w ∙ ap (λ (n : ℕ). answer_on w n (net_in b')) (sym same.events) in
@@ -43,7 +42,7 @@ alike b b' same w e =
     ((λ is. on' ∙ law.0 (sym on ∙ is)), (λ is. on ∙ law.1 (sym on' ∙ is)))
 
 module _ (k : ℕ) (some : 1 ≤ k) (b b' : List ℕ) where
-  pub screened-scaled-place : ScaledPlace k b b' → (w : Word) → (screened b w ≡ answers.Permitted) ↔ (screened b' w ≡ answers.Permitted)
+  pub screened-scaled-place : ScaledPlace k b b' → (w : Word) → (screened b w ≡ Ok None) ↔ (screened b' w ≡ Ok None)
   unfolding to_net
   screened-scaled-place s w =
       let net : net_in b ≡ map to_place s.before ++ to_place s.place ∷ map to_place s.behind = ap (map to_place) s.places ∙ map-append to_place s.before (s.place ∷ s.behind) in
@@ -53,7 +52,7 @@ module _ (k : ℕ) (some : 1 ≤ k) (b b' : List ℕ) where
       ∙ sym (permits-scaled-place (events_in b) k some (map to_place s.before) (to_place s.place) (map to_place s.behind) w)
       ∙ ap (λ (l : Net). permits (events_in b) l w) (sym net'))
 
-  pub screened-scaled : ScaledPlaces k b b' → (w : Word) → (screened b w ≡ answers.Permitted) ↔ (screened b' w ≡ answers.Permitted)
+  pub screened-scaled : ScaledPlaces k b b' → (w : Word) → (screened b w ≡ Ok None) ↔ (screened b' w ≡ Ok None)
   unfolding to_net
   screened-scaled s w =
       alike b b' s.same w

@@ -1,23 +1,29 @@
 -- The exits of screening, with one bundle and with two, each with the answer that the definition gives there.
-use Rattle.std.specs.Prelude.{◌≡◌, true, cond, List, ℕ, ◌≤◌, ◌<◌, eqb, length}
-use Rattle.std.proofs.Common.{sym, ◌∙◌, ⊎_elim}
+use Rattle.std.specs.Prelude.{◌≡◌, Bool, true, false, List, [], ℕ, ◌≤◌, ◌<◌, eqb, leb, length, Err, None, Ok, Option, Some}
+use Rattle.std.proofs.Common.{refl, sym, ◌∙◌, le_of_eq, arith}
 use Rattle.std.proofs.Math.Dec.{ltb}
-use borrow.Author.Tests.{le-leb, lt-leb, lt-ltb, le-ltb, eq-eqb, ne_eqb}
-use Rattle.laws.specs.Booleans.{lt_or_le}
-use Rattle.laws.specs.Scans.{failing-all, failing-some}
-use Rattle.limits.specs.Limits.{max_word_events}
+use borrow.Author.Tests.{le-leb, lt-leb, leb-true, leb-false, eq-eqb, ne_eqb}
+use Rattle.laws.specs.Booleans.{impossible}
+use Rattle.laws.specs.Lists.{all}
+use Rattle.laws.specs.Scans.{failing-all, failing-some, all-failing, some-failing}
+use Rattle.refusals.specs.Answers.{Answer, answered}
+use Rattle.limits.specs.Limits.{max_places, max_word_events}
 use Rattle.refusals.specs.Table.{word_length_number, word_event_number, event_counts_number}
 use Rattle.refusals.specs.Results.{value, refused, bind, require}
 use Rattle.refusals.specs.Answers.{refusal}
 use Rattle.refusals.specs.declared.Refusal.{Refusal}
 use Rattle.nets.specs.Nets.{Word, Net, join, screen}
-use Rattle.nets.specs.Events.{first_bad}
-use Rattle.bundles.specs.Readers.{read_head, head_of, events_in, net_in}
+use Rattle.nets.specs.Events.{first_bad, none_bad}
+use Rattle.std.specs.Borrow.{Bor}
+use Rattle.bundles.specs.Readers.{read_head, head_of, events_in, net_in, bundle_head}
+use Rattle.bundles.specs.HeadReading.{HeadAt, HeadIsRead, head_read, kept_read}
+use Rattle.bundles.specs.declared.net.Net as bundles
+use Rattle.stops.specs.Searching.{Searchable}
+use Rattle.stops.specs.Onward.{Searched}
+use Rattle.stops.specs.declared.Search.{Search}
 use Rattle.screening.specs.Screening.{word_on, screening, joining, replayed, screened_of, screened, screened_joined}
-use Rattle.stops.specs.Positions.{Best, best-stopped, best-permitted}
-use Rattle.screening.specs.declared.Screened.{Screened}
+use Rattle.stops.specs.Positions.{Finds, finds-start, stop_or_end, best-stopped, best-permitted}
 use Rattle.stops.specs.declared.Stop.{Stop}
-use Rattle.screening.specs.declared.Screened.TheVariants as answers
 
 -- ---- on a net
 
@@ -30,31 +36,95 @@ module _ (w : Word) {k n : ℕ} (is : k ≡ n) (net : Net) where
   unfolding word_on require bind first_bad
   events-right l = rw (is, failing-all (λ e. ltb e n) w l)
 
--- what a search found: a stop at a step of a word of so many events, or none
-unfoldable pub found_in : ℕ → Stop → Screened
-found_in events stop = cond (ltb stop.position events) (answers.Stopped stop) answers.Permitted
+-- what a search found is the replay's answer
+pub found_means : (n : ℕ) (net : Net) (w : Word) (found : Option Stop) → Finds n net w found → Ok found ≡ replayed (screen n net w)
+unfolding replayed stop_or_end
+found_means n net w None finds = rw (best-permitted n finds.best (omega arith))
+found_means n net w (Some s) finds = rw (best-stopped n finds.best (finds.inside s refl))
 
-pub found_means : (n : ℕ) (net : Net) (w : Word) (stop : Stop) → Best n net w stop → found_in (length w) stop ≡ replayed (screen n net w)
-unfolding found_in replayed
-found_means n net w stop best = ⊎_elim
-    (λ h. rw (lt-ltb stop.position (length w) h, best-stopped n best h))
-    (λ h. rw (le-ltb stop.position (length w) h, best-permitted n best h))
-    (lt_or_le stop.position (length w))
+-- a net that was read from a bundle is the bundle's
+pub record NetOf (b : List ℕ) (net : bundles.Net) : Type 0 where
+  pub found : HeadAt net
+  pub events : events_in b ≡ net.n
+  pub same : net.bundle.now ≡ b
+  pub read : HeadIsRead b
+
+pub net-of : (bundle : Bor (List ℕ)) (net : bundles.Net) → Ok net ≡ head_read bundle (bundle_head bundle.now 0) → NetOf bundle.now net
+net-of bundle net e =
+    let (found, same, read) = kept_read bundle net (sym e) in
+    record { found = found; events = rw same at found.events; same = same; read = read }
+
+-- the search in its places, or on in those of another net over the same events
+module _ {b : List ℕ} {w : Word} where
+  pub search-asks : {s : Search} → NetOf b s.net → s.word.now ≡ w → length w ≤ max_word_events → length w ≤ first_bad s.net.n w → s.before ≤ max_places → Searchable s
+  search-asks {s} net is short below few = record { found = net.found; word = rw is (record { size = short; events = none_bad s.net.n w below }); few = few }
+
+  pub search-first : (s : Search) {found : Option Stop} → NetOf b s.net → s.word.now ≡ w → s.before ≡ 0 → Searched s None found → Finds (events_in b) (net_in b) w found
+  search-first s net is first searched = rw is at (rw net.same at (searched [] (sym first) (finds-start _ _)))
+
+  pub search-on : (s : Search) {from found : Option Stop} (n : ℕ) (one : Net) → NetOf b s.net → s.word.now ≡ w → length one ≡ s.before → n ≡ events_in b
+      → Finds n one w from → Searched s from found → Finds n (join one (net_in b)) w found
+  search-on s n one net is size events finds searched = rw events (rw is at (rw net.same at (searched one size (rw (net.same, is) (rw events at finds)))))
+
+-- ---- the tests, as the code answers them
+
+-- a test that a chain makes
+module _ (number spot : ℕ) where
+  pub test-passes : {ok : Bool} → ok ≡ true → Ok (tt {0}) ≡ answered (require ok number spot)
+  unfolding answered require
+  test-passes e = rw e
+
+  pub test-fails : {ok : Bool} → ok ≡ false → Err (refusal number spot) ≡ answered (require ok number spot)
+  unfolding answered require
+  test-fails e = rw e
+
+  pub test-passed : (ok : Bool) {u : Unit {0}} → Ok u ≡ answered (require ok number spot) → ok ≡ true
+  unfolding answered require
+  test-passed true e = refl
+  test-passed false e = impossible cc
+
+  pub test-failed : (ok : Bool) {r : Refusal} → Err r ≡ answered (require ok number spot) → (ok ≡ false) × (r ≡ refusal number spot)
+  unfolding answered require
+  test-failed true e = impossible cc
+  test-failed false e = (refl, (cc))
+
+module _ (w : Word) where
+  -- 14
+  abbrev pub length_test : Answer (Unit {0})
+  length_test = answered (require (leb (length w) max_word_events) word_length_number max_word_events)
+
+  pub length-passed : {u : Unit {0}} → Ok u ≡ length_test → length w ≤ max_word_events
+  length-passed e = leb-true (length w) max_word_events (test-passed word_length_number max_word_events _ e)
+
+  pub length-failed : {r : Refusal} → Err r ≡ length_test → (max_word_events < length w) × (r ≡ refusal word_length_number max_word_events)
+  length-failed e = let t = test-failed word_length_number max_word_events _ e in (leb-false (length w) max_word_events t.0, t.1)
+
+  -- 15
+  abbrev pub events_test : ℕ → Answer (Unit {0})
+  events_test n = answered (require (all (λ e. ltb e n) w) word_event_number (first_bad n w))
+
+  pub events-passed : (n : ℕ) {u : Unit {0}} → Ok u ≡ events_test n → length w ≤ first_bad n w
+  unfolding first_bad
+  events-passed n e = le_of_eq (sym (all-failing (λ e. ltb e n) w (test-passed word_event_number _ _ e)))
+
+  pub events-failed : (n : ℕ) {r : Refusal} → Err r ≡ events_test n → (first_bad n w < length w) × (r ≡ refusal word_event_number (first_bad n w))
+  unfolding first_bad
+  events-failed n e = let t = test-failed word_event_number _ _ e in (some-failing (λ e. ltb e n) w t.0, t.1)
 
 -- ---- with one bundle
 
 module _ (b : List ℕ) (w : Word) where
-  pub word-long : max_word_events < length w → screened b w ≡ answers.Refused (refusal word_length_number max_word_events)
+  pub word-long : max_word_events < length w → screened b w ≡ Err (refusal word_length_number max_word_events)
   unfolding screened screening require bind screened_of
   word-long h = rw (lt-leb (length w) max_word_events h)
 
   module _ (short : length w ≤ max_word_events) where
-    pub head_wrong : (r : Refusal) → read_head b ≡ refused r.number r.spot → screened b w ≡ answers.Refused r
+    pub head_wrong : (r : Refusal) → read_head b ≡ refused r.number r.spot → screened b w ≡ Err r
     unfolding screened screening require bind screened_of
     head_wrong r e = rw (le-leb (length w) max_word_events short, e)
 
     module _ {n : ℕ} (events : events_in b ≡ n) (read : read_head b ≡ value (head_of b)) where
-      pub word_wrong : first_bad n w < length w → screened b w ≡ answers.Refused (refusal word_event_number (first_bad n w))
+      pub word_wrong : first_bad n w < length w → screened b w ≡ Err (refusal word_event_number (first_bad n w))
       unfolding screened screening require bind screened_of
       word_wrong l = rw (le-leb (length w) max_word_events short, read, event_wrong w events (net_in b) l)
 
@@ -65,22 +135,22 @@ module _ (b : List ℕ) (w : Word) where
 -- ---- with two
 
 module _ (first second : List ℕ) (w : Word) where
-  pub joined-long : max_word_events < length w → screened_joined first second w ≡ answers.Refused (refusal word_length_number max_word_events)
+  pub joined-long : max_word_events < length w → screened_joined first second w ≡ Err (refusal word_length_number max_word_events)
   unfolding screened_joined joining require bind screened_of
   joined-long h = rw (lt-leb (length w) max_word_events h)
 
   module _ (short : length w ≤ max_word_events) where
-    pub first_wrong : (r : Refusal) → read_head first ≡ refused r.number r.spot → screened_joined first second w ≡ answers.Refused r
+    pub first_wrong : (r : Refusal) → read_head first ≡ refused r.number r.spot → screened_joined first second w ≡ Err r
     unfolding screened_joined joining require bind screened_of
     first_wrong r e = rw (le-leb (length w) max_word_events short, e)
 
     module _ (one : read_head first ≡ value (head_of first)) where
-      pub second_wrong : (r : Refusal) → read_head second ≡ refused r.number r.spot → screened_joined first second w ≡ answers.Refused r
+      pub second_wrong : (r : Refusal) → read_head second ≡ refused r.number r.spot → screened_joined first second w ≡ Err r
       unfolding screened_joined joining require bind screened_of
       second_wrong r e = rw (le-leb (length w) max_word_events short, one, e)
 
       module _ (two : read_head second ≡ value (head_of second)) where
-        pub counts-differ : (events_in first ≡ events_in second → ⊥) → screened_joined first second w ≡ answers.Refused (refusal event_counts_number 0)
+        pub counts-differ : (events_in first ≡ events_in second → ⊥) → screened_joined first second w ≡ Err (refusal event_counts_number 0)
         unfolding screened_joined joining require bind screened_of
         counts-differ e = rw (le-leb (length w) max_word_events short, one, two, ne_eqb (events_in first) (events_in second) e)
 
@@ -93,7 +163,7 @@ module _ (first second : List ℕ) (w : Word) where
           joined-right l =
               rw (le-leb (length w) max_word_events short, one, two, counts_same, events-right w events (join (net_in first) (net_in second)) l)
 
-          pub joined_wrong : first_bad n w < length w → screened_joined first second w ≡ answers.Refused (refusal word_event_number (first_bad n w))
+          pub joined_wrong : first_bad n w < length w → screened_joined first second w ≡ Err (refusal word_event_number (first_bad n w))
           unfolding screened_joined joining require bind screened_of
           joined_wrong l =
               rw (le-leb (length w) max_word_events short, one, two, counts_same, event_wrong w events (join (net_in first) (net_in second)) l)

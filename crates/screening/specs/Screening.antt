@@ -1,17 +1,16 @@
 -- Screening on bytes: which answer a bundle, or two of them joined, gives for a word, with the refusals' numbers and spots.
-use Rattle.std.specs.Prelude.{List, ℕ, leb, ltb, eqb, length}
+use Rattle.std.specs.Prelude.{List, ℕ, leb, ltb, eqb, length, Err, None, Ok, Option, Some}
 use Rattle.laws.specs.Lists.{all}
 use Rattle.limits.specs.Limits.{max_word_events}
 use Rattle.refusals.specs.Table.{word_length_number, word_event_number, event_counts_number}
 use Rattle.refusals.specs.Results.{Result, value, refused, ◌>>=◌, ◌>>◌, require}
-use Rattle.refusals.specs.Answers.{refusal}
+use Rattle.refusals.specs.Answers.{refusal, Answer}
 use Rattle.nets.specs.Nets.{Word, Net, join, screen, permitted, stopped}
 use Rattle.nets.specs.Nets as nets
 use Rattle.nets.specs.Events.{first_bad}
 use Rattle.bundles.specs.Layout.{to_net}
 use Rattle.bundles.specs.Readers.{read_head}
-use Rattle.screening.specs.declared.Screened.{Screened}
-use Rattle.screening.specs.declared.Screened.TheVariants.{Permitted, Stopped, Refused}
+use Rattle.stops.specs.declared.Stop.{Stop}
 
 -- a word on a net over the events below n: 15 over the whole word, then the replay
 unfoldable pub word_on : Word → ℕ → Net → Result nets.Answer
@@ -35,15 +34,19 @@ joining first second w = do
   require (eqb one.events two.events) event_counts_number 0
   word_on w one.events (join (to_net one) (to_net two))
 
+-- the answer: the first refused step, none where the word is permitted; or the refusal
+abbrev pub Screened : Type 0
+Screened = Answer (Option Stop)
+
 -- what the replay found
 unfoldable pub replayed : nets.Answer → Screened
-replayed permitted = Permitted
-replayed (stopped position place shortfall) = Stopped (record { position = position; place = place; shortfall = shortfall })
+replayed permitted = Ok None
+replayed (stopped position place shortfall) = Ok (Some (record { position = position; place = place; shortfall = shortfall }))
 
 -- the answer
 unfoldable pub screened_of : Result nets.Answer → Screened
 screened_of (value x) = replayed x
-screened_of (refused number spot) = Refused (refusal number spot)
+screened_of (refused number spot) = Err (refusal number spot)
 
 -- screening of a word with a bundle
 unfoldable pub screened : List ℕ → Word → Screened
@@ -58,6 +61,6 @@ abbrev pub stopped_number : ℕ
 stopped_number = 256
 
 unfoldable pub screened_number : Screened → ℕ
-screened_number Permitted = 0
-screened_number (Stopped stop) = stopped_number
-screened_number (Refused r) = r.number
+screened_number (Ok None) = 0
+screened_number (Ok (Some stop)) = stopped_number
+screened_number (Err r) = r.number

@@ -1,5 +1,5 @@
 -- Demand 2 for screening: a readable word's first refused step is named, or the word is permitted where there is none.
-use Rattle.std.specs.Prelude.{◌≡◌, true, ◌↔◌, List, ℕ, ◌≤◌, T, leb, length}
+use Rattle.std.specs.Prelude.{◌≡◌, true, ◌↔◌, List, ℕ, ◌≤◌, T, leb, length, Err, None, Ok, Some}
 use Rattle.std.proofs.Math.Path.{refl}
 use Rattle.std.proofs.Common.{sym, ap, ◌∙◌, subst, le-leb, leb-true, ltb→lt, lt→ltb}
 use Rattle.std.proofs.Math.Dec.{ltb}
@@ -21,14 +21,13 @@ use Rattle.bundles.specs.Layout.{Head, to_net, HeadInFront}
 use Rattle.bundles.specs.Readers.{read_head, head_of, events_in, net_in}
 use Rattle.bundles.specs.Limits.{→size}
 use Rattle.bundles.specs.HeadReading.{HeadIsRead, read→front, front→read, read-head-of, read_is}
-use Rattle.screening.specs.Screening.{word_on, screening, replayed, screened_of, screened}
+use Rattle.screening.specs.Screening.{word_on, screening, replayed, screened_of, screened, Screened}
 use Rattle.stops.specs.declared.Stop.{Stop}
-use Rattle.screening.specs.declared.Screened.{Screened}
-use Rattle.screening.specs.declared.Screened.TheVariants as answers
+use Rattle.screening.specs.Screening.{Screened}
 
 -- a word is readable with a bundle when no refusal meets the call
 abbrev pub Readable : List ℕ → Word → Type 0
-Readable b w = (r : Refusal) → screened b w ≡ answers.Refused r → ⊥
+Readable b w = (r : Refusal) → screened b w ≡ Err r → ⊥
 
 -- the bundle begins with the head h, in its limits, and w is a word over its events
 pub record Screenable (b : List ℕ) (w : Word) (h : Head) (rest : List ℕ) : Type 0 where
@@ -57,7 +56,7 @@ module _ (b : List ℕ) (w : Word) where
   unfolding screened screened_of
   readable→ readable = go (screening b w) refl readable
     where
-      go : (m : Result nets.Answer) → screening b w ≡ m → ((r : Refusal) → screened_of m ≡ answers.Refused r → ⊥) → (h : Head) × Passed b w h
+      go : (m : Result nets.Answer) → screening b w ≡ m → ((r : Refusal) → screened_of m ≡ Err r → ⊥) → (h : Head) × Passed b w h
       go (value x) is rest = screening→ x is
       go (refused number spot) is rest = absurd (rest (refusal number spot) refl)
 
@@ -76,33 +75,33 @@ module _ (b : List ℕ) (w : Word) where
       →screened a.0 a.1 ∙ ap (λ (h : Head). replayed (screen h.events (to_net h) w)) (sym (read-head-of b a.0 a.1.head))
 
 -- the replay refuses nothing
-pub replayed-never : (x : nets.Answer) (r : Refusal) → replayed x ≡ answers.Refused r → ⊥
+pub replayed-never : (x : nets.Answer) (r : Refusal) → replayed x ≡ Err r → ⊥
 unfolding replayed
 replayed-never permitted r e = impossible cc
 replayed-never (stopped i j k) r e = impossible cc
 
-pub replayed-permitted : (x : nets.Answer) → (replayed x ≡ answers.Permitted) ↔ (x ≡ permitted)
+pub replayed-permitted : (x : nets.Answer) → (replayed x ≡ Ok None) ↔ (x ≡ permitted)
 unfolding replayed
 replayed-permitted permitted = ((λ e. refl), (λ e. refl))
 replayed-permitted (stopped i j k) = ((λ e. impossible cc), (λ e. impossible cc))
 
-pub replayed-stopped : (x : nets.Answer) (s : Stop) → (replayed x ≡ answers.Stopped s) ↔ (x ≡ stopped s.position s.place s.shortfall)
+pub replayed-stopped : (x : nets.Answer) (s : Stop) → (replayed x ≡ Ok (Some s)) ↔ (x ≡ stopped s.position s.place s.shortfall)
 unfolding replayed
 replayed-stopped permitted s = ((λ e. impossible cc), (λ e. impossible cc))
 replayed-stopped (stopped i j k) s = ((λ e. same e), (λ e. ap replayed e))
   where
-    same : answers.Stopped (record { position = i; place = j; shortfall = k }) ≡ answers.Stopped s → stopped i j k ≡ stopped s.position s.place s.shortfall
+    same : ◌≡◌ {A = Screened} (Ok (Some (record { position = i; place = j; shortfall = k }))) (Ok (Some s)) → stopped i j k ≡ stopped s.position s.place s.shortfall
     same e = let stop : ◌≡◌ {A = Stop} (record { position = i; place = j; shortfall = k }) s = cc in ap (λ (r : Stop). stopped r.position r.place r.shortfall) stop
 
 -- an answer that is a net's replay
 module _ (n : ℕ) (net : Net) (w : Word) {answer : Screened} (is : answer ≡ replayed (screen n net w)) where
-  pub replay-permits : (answer ≡ answers.Permitted) ↔ T (permits n net w)
+  pub replay-permits : (answer ≡ Ok None) ↔ T (permits n net w)
   replay-permits =
       let law = screen-permitted n net w in
       let found = replayed-permitted (screen n net w) in
       ((λ e. law.0 (found.0 (sym is ∙ e))), (λ t. is ∙ found.1 (law.1 t)))
 
-  pub replay-stops : (s : Stop) → (answer ≡ answers.Stopped s)
+  pub replay-stops : (s : Stop) → (answer ≡ Ok (Some s))
       ↔ (FirstRefused n net w s.position s.place × (s.shortfall ≡ shortfall_at n net w s.position s.place))
   replay-stops s =
       let law = screen-stopped-exactly n net w s.position s.place s.shortfall in
@@ -111,11 +110,11 @@ module _ (n : ℕ) (net : Net) (w : Word) {answer : Screened} (is : answer ≡ r
 
 module _ (b : List ℕ) (w : Word) (readable : Readable b w) where
   -- DEMAND 2: it answers permitted exactly when the net permits the word
-  pub permitted-exactly : (screened b w ≡ answers.Permitted) ↔ T (permits (events_in b) (net_in b) w)
+  pub permitted-exactly : (screened b w ≡ Ok None) ↔ T (permits (events_in b) (net_in b) w)
   permitted-exactly = replay-permits (events_in b) (net_in b) w (screened-replayed b w readable)
 
   -- and stopped exactly when position and place are those of the first refused step, and the shortfall is that place's there
-  pub stopped-exactly : (s : Stop) → (screened b w ≡ answers.Stopped s)
+  pub stopped-exactly : (s : Stop) → (screened b w ≡ Ok (Some s))
       ↔ (FirstRefused (events_in b) (net_in b) w s.position s.place × (s.shortfall ≡ shortfall_at (events_in b) (net_in b) w s.position s.place))
   stopped-exactly = replay-stops (events_in b) (net_in b) w (screened-replayed b w readable)
 

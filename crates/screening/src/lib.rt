@@ -1,105 +1,37 @@
 // Screening a word: the first step that a bundle's net refuses, or two nets joined. The contracts cite specs/Screening.antt.
 #![tactic(auto)]
 
-ghost use Rattle.std.specs.Prelude.{◌≡◌, ◌≤◌, length};
-ghost use Rattle.limits.specs.Limits.{max_word_events};
-ghost use Rattle.refusals.specs.Answers.{refusal};
-ghost use Rattle.nets.specs.Nets.{join, screen as screen_of};
-ghost use Rattle.bundles.specs.Readers.{bundle_head, events_in, net_in};
-ghost use Rattle.bundles.specs.HeadReading.{head_read};
-ghost use Rattle.screening.specs.Screening.{replayed, screened, screened_joined};
-ghost use Rattle.stops.specs.Searching.{Searchable};
-ghost use Rattle.screening.specs.ScreenLaws.{found_in};
+ghost use Rattle.std.specs.Prelude.{◌≡◌};
+ghost use Rattle.screening.specs.Screening.{screened, screened_joined};
+ghost use Rattle.screening.specs.ScreenLaws.{length_test, events_test};
 
-use bundles::{Head, HeadRead};
+use bundles::read_head;
 use limits::MAX_WORD_EVENTS;
 use parts::search_places;
 use places::first_bad;
-use refusals::{EVENT_COUNTS, Refusal, WORD_EVENT, WORD_LENGTH};
-use stops::{Stop, stop_at};
+use refusals::{Cause, Refusal};
+use stops::{Search, Stop};
 
 // The answer of screening.
-#[derive(Clone, Copy)]
-pub enum Screened {
-    Permitted,
-    Stopped(Stop),
-    Refused(Refusal),
-}
+pub type Screened = Result<Option<Stop>, Refusal>;
 
-fn refused(number: u8, spot: usize) -> Screened
-    ensures { result ≡ Screened.Refused (refusal number spot) }
+// Refuses a word that is too long with 14.
+fn test_length(word: &[u8]) -> Result<(), Refusal>
+    ensures { result ≡ length_test word.now }
 {
-    Screened::Refused(Refusal { number, spot })
-}
-
-// The answer of a search in a word of so many events.
-fn answer_of(found: Stop, events: usize) -> Screened
-    ensures { result ≡ found_in events found }
-{
-    if found.position < events {
-        return Screened::Stopped(found);
+    if MAX_WORD_EVENTS < word.len() {
+        return Err(Cause::WordLength.at(MAX_WORD_EVENTS));
     }
-    Screened::Permitted
+    Ok(())
 }
 
-// The replay of a word on the places of a bundle.
-fn screen_places(bundle: &[u8], head: Head, word: &[u8]) -> Screened
-    requires { Searchable bundle.now head word.now }
-    ensures { result ≡ replayed (screen_of (events_in bundle.now) (net_in bundle.now) word.now) }
+// Refuses an event of a word that is not below n with 15: the whole word is tested before any step is replayed.
+fn test_events(word: &[u8], n: u8) -> Result<(), Refusal>
+    ensures { result ≡ events_test word.now n }
 {
-    let none = stop_at(word.len(), 0, 0);
-    let found = search_places(bundle, head, word, 0, none);
-    answer_of(found, word.len())
-}
-
-// The replay of a word on the places of two bundles: the search goes on in the second from what it found in the first.
-fn screen_both(first: &[u8], one: Head, second: &[u8], two: Head, word: &[u8]) -> Screened
-    requires searchable { Searchable first.now one word.now }
-    requires searchable_2 { Searchable second.now two word.now × (one.n ≡ two.n) }
-    ensures { result ≡ replayed (screen_of (events_in first.now) (join (net_in first.now) (net_in second.now)) word.now) }
-{
-    let none = stop_at(word.len(), 0, 0);
-    let from = search_places(first, one, word, 0, none);
-    let found = search_places(second, two, word, one.places.count, from);
-    answer_of(found, word.len())
-}
-
-// A word with a head that was read: 15 over the whole word, then the replay.
-fn screen_word(bundle: &[u8], head: Head, word: &[u8]) -> Screened
-    requires { (head_read (bundle_head bundle.now 0) ≡ HeadRead.Read head) × (length word.now ≤ max_word_events) }
-    ensures { result ≡ screened bundle.now word.now }
-{
-    let bad = first_bad(word, head.n);
-    if bad < word.len() {
-        return refused(WORD_EVENT, bad);
-    }
-    screen_places(bundle, head, word)
-}
-
-// A word with two heads that were read: 19, then 15, then the replay.
-fn screen_heads(first: &[u8], one: Head, second: &[u8], two: Head, word: &[u8]) -> Screened
-    requires first_value { (head_read (bundle_head first.now 0) ≡ HeadRead.Read one) × (length word.now ≤ max_word_events) }
-    requires second_value { head_read (bundle_head second.now 0) ≡ HeadRead.Read two }
-    ensures { result ≡ screened_joined first.now second.now word.now }
-{
-    if one.n != two.n {
-        return refused(EVENT_COUNTS, 0);
-    }
-    let bad = first_bad(word, one.n);
-    if bad < word.len() {
-        return refused(WORD_EVENT, bad);
-    }
-    screen_both(first, one, second, two, word)
-}
-
-// A word with the first of two heads: the second bundle's refusals, then what follows them.
-fn screen_second(first: &[u8], one: Head, second: &[u8], word: &[u8]) -> Screened
-    requires { (head_read (bundle_head first.now 0) ≡ HeadRead.Read one) × (length word.now ≤ max_word_events) }
-    ensures { result ≡ screened_joined first.now second.now word.now }
-{
-    match bundles::read_head(second) {
-        HeadRead::Refused(refusal) => Screened::Refused(refusal),
-        HeadRead::Read(two) => screen_heads(first, one, second, two, word),
+    match first_bad(word, usize::from(n)) {
+        Some(bad) => Err(Cause::WordEvent.at(bad)),
+        None => Ok(()),
     }
 }
 
@@ -108,13 +40,15 @@ fn screen_second(first: &[u8], one: Head, second: &[u8], word: &[u8]) -> Screene
 pub fn screen(bundle: &[u8], word: &[u8]) -> Screened
     ensures { result ≡ screened bundle.now word.now }
 {
-    if MAX_WORD_EVENTS < word.len() {
-        return refused(WORD_LENGTH, MAX_WORD_EVENTS);
-    }
-    match bundles::read_head(bundle) {
-        HeadRead::Refused(refusal) => Screened::Refused(refusal),
-        HeadRead::Read(head) => screen_word(bundle, head, word),
-    }
+    test_length(word)?;
+    let net = read_head(bundle)?;
+    test_events(word, net.n)?;
+    let places = Search {
+        net,
+        before: 0,
+        word,
+    };
+    Ok(search_places(&places, None))
 }
 
 // Screens a word with the places of two bundles over the same events, those of the first one first; the places of the second are numbered behind
@@ -122,11 +56,23 @@ pub fn screen(bundle: &[u8], word: &[u8]) -> Screened
 pub fn screen_joined(first: &[u8], second: &[u8], word: &[u8]) -> Screened
     ensures { result ≡ screened_joined first.now second.now word.now }
 {
-    if MAX_WORD_EVENTS < word.len() {
-        return refused(WORD_LENGTH, MAX_WORD_EVENTS);
+    test_length(word)?;
+    let one = read_head(first)?;
+    let two = read_head(second)?;
+    if one.n != two.n {
+        return Err(Cause::EventCounts.at(0));
     }
-    match bundles::read_head(first) {
-        HeadRead::Refused(refusal) => Screened::Refused(refusal),
-        HeadRead::Read(one) => screen_second(first, one, second, word),
-    }
+    test_events(word, one.n)?;
+    let places = Search {
+        net: one,
+        before: 0,
+        word,
+    };
+    let more = Search {
+        net: two,
+        before: one.count,
+        word,
+    };
+    let from = search_places(&places, None);
+    Ok(search_places(&more, from))
 }

@@ -9,7 +9,7 @@ ghost use Rattle.block.specs.File.{sealed};
 
 use building::write_blocks;
 use limits::size_fits;
-use refusals::{BUNDLE_LENGTH, OUTPUT_SHORT, Written, refused};
+use refusals::{Cause, Written};
 
 // Seals a bundle: writes its sealed file to the front of the output and returns the file's length.
 // Refuses with 4 or 3, and then leaves the output as it was.
@@ -19,12 +19,12 @@ pub fn seal(bundle: &[u8], output: &mut [u8]) -> Written
 {
     let size = bundle.len();
     if !size_fits(size) {
-        return refused(BUNDLE_LENGTH, 0);
+        return Err(Cause::BundleLength.at(0));
     }
-    let length = 512 * ((size + 503) / 504);
+    let length = 512 * size.div_ceil(504);
     if output.len() < length {
-        return refused(OUTPUT_SHORT, length);
+        return Err(Cause::OutputShort.at(length));
     }
     write_blocks(bundle, output);
-    Written::Length(length)
+    Ok(length)
 }

@@ -1,31 +1,17 @@
-// Inner functions on slices of bytes that several crates share: reading and writing bytes and numbers of two bytes at an offset. And the smaller of two numbers.
+// Inner functions on slices of bytes that several crates share: reading and writing numbers of two bytes, and bytes, at an offset.
 #![tactic(auto)]
 
-ghost use Rattle.std.specs.Prelude.{◌≡◌, ◌+◌, min, ◌≤◌, ◌<◌, length, get_or, replicate};
+ghost use Rattle.std.specs.Prelude.{◌≡◌, ◌+◌, ◌≤◌, ◌<◌, length};
 ghost use Rattle.laws.specs.Parts.{spliced};
 ghost use Rattle.laws.specs.Numbers.{number_at, le16};
 
-// The byte at `at`.
-pub fn byte_at(bytes: &[u8], at: usize) -> usize
-    requires { at < length bytes.now }
-    ensures { (result ≡ get_or bytes.now at 0) × (result < 256) }
-{
-    bytes[at] as usize
-}
-
 // The number in the two bytes at `at`, the low byte first.
-pub fn number_at(bytes: &[u8], at: usize) -> usize
+#[tactic(auto, unfolding(laws::specs::Numbers::number_at))]
+pub fn number_at(bytes: &[u8], at: usize) -> u16
     requires { at + 1 < length bytes.now }
-    ensures { (result ≡ number_at bytes.now at) × (result < 65536) }
+    ensures { result ≡ number_at bytes.now at }
 {
-    byte_at(bytes, at) + 256 * byte_at(bytes, at + 1)
-}
-
-// The smaller of two numbers.
-pub fn smaller(a: usize, b: usize) -> usize
-    ensures { result ≡ min a b }
-{
-    if a < b { a } else { b }
+    u16::from_le_bytes([bytes[at], bytes[at + 1]])
 }
 
 // Copies `piece` into `output` from `at` on.
@@ -41,18 +27,5 @@ pub fn write_number(output: &mut [u8], at: usize, number: usize)
     requires { at + 2 ≤ length output.old }
     ensures { output.new ≡ spliced at (le16 number) output.old }
 {
-    output[at] = (number % 256) as u8;
-    output[at + 1] = (number / 256 % 256) as u8;
-}
-
-// Writes `count` zeros from `at` on.
-pub fn write_zeros(output: &mut [u8], at: usize, count: usize)
-    requires { at + count ≤ length output.old }
-    ensures { output.new ≡ spliced at (replicate count 0) output.old }
-{
-    let mut i: usize = 0;
-    while i < count {
-        output[at + i] = 0;
-        i += 1;
-    }
+    write_at(output, at, &number.to_le_bytes()[..2]);
 }

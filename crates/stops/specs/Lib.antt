@@ -1,3 +1,5 @@
 pub mod Positions
 pub mod Replay
 pub mod Searching
+pub mod Reached
+pub mod Onward

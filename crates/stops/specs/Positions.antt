@@ -1,18 +1,56 @@
 -- Screening by positions: the answer is the lowest position that some place refuses, then the lowest place that refuses it.
 -- It may be found place by place, each one followed only up to the best position so far.
-use Rattle.std.specs.Prelude.{◌≡◌, Bool, true, false, ◌&&◌, length, take, get_or}
+use Rattle.std.specs.Prelude.{◌≡◌, Bool, true, false, cond, ◌&&◌, length, take, get_or, ltb, Option, Some, None}
 use Rattle.std.proofs.Math.Path.{refl, ap, ap₂}
-use Rattle.std.proofs.Common.{sym, ◌∙◌, subst, not-suc-le-zero, le_of_suc-le-suc, arith, length-take, get_or-append-add, take-take, get_or-take}
+use Rattle.std.proofs.Common.{sym, ◌∙◌, subst, not-suc-le-zero, le_of_suc-le-suc, arith, length-take, get_or-append-add, take-take, get_or-take, ltb-true, ltb-false, lt-ltb, le-ltb}
 use Rattle.std.proofs.Math.Bool.{and-true}
 use mathlib.Core.List.{[], ◌∷◌, ◌++◌, append-nil, append_assoc}
 use Prim.Native.Nat.{ℕ, zero, suc, ◌+◌, ◌≤◌, ◌<◌}
 use Rattle.std.proofs.Math.ListN.{length-append, get_or-append}
 use Rattle.std.proofs.Math.Seq.{get_or-append_seam}
+use Rattle.laws.specs.Booleans.{impossible}
 use Rattle.laws.specs.Lists.{all}
 use Rattle.laws.specs.Scans.{failing-append, failing-found, failing-behind, all-failing, some-failing}
 use Rattle.nets.specs.Nets.{Word, Net, Place, Step, no_place, permitted, stopped, step_after, step_at, place_permits, net_permits, first_refusing, shortfall, shortfall_of, stopped_at, screen_after, screen}
 use Rattle.nets.proofs.Joining.{join_step}
 use Rattle.stops.specs.declared.Stop.{Stop}
+use Rattle.std.specs.Option.{option_or}
+
+-- ---- a stop, or none
+
+-- a stop of a word; none where it is the word's end
+unfoldable pub stop_in : Word → Stop → Option Stop
+stop_in w s = cond (ltb s.position (length w)) (Some s) None
+
+-- the same as a stop: the word's end and no shortfall where there is none
+unfoldable pub stop_or_end : Word → Option Stop → Stop
+stop_or_end w (Some s) = s
+stop_or_end w None = record { position = length w; place = 0; shortfall = 0 }
+
+module _ (w : Word) (s : Stop) where
+  pub stop_in-early : s.position < length w → stop_in w s ≡ Some s
+  unfolding stop_in
+  stop_in-early h = rw (lt-ltb s.position (length w) h)
+
+  pub stop_in-late : length w ≤ s.position → stop_in w s ≡ None
+  unfolding stop_in
+  stop_in-late h = rw (le-ltb s.position (length w) h)
+
+  pub stop_in-some : {f : Stop} → Some f ≡ stop_in w s → (f ≡ s) × (s.position < length w)
+  unfolding stop_in
+  stop_in-some {f} e = go (ltb s.position (length w)) refl e
+    where
+      go : (t : Bool) → ltb s.position (length w) ≡ t → Some f ≡ cond t (Some s) None → (f ≡ s) × (s.position < length w)
+      go true q e = ((cc), ltb-true s.position (length w) q)
+      go false q e = impossible cc
+
+  pub stop_in-none : None ≡ stop_in w s → length w ≤ s.position
+  unfolding stop_in
+  stop_in-none e = go (ltb s.position (length w)) refl e
+    where
+      go : (t : Bool) → ltb s.position (length w) ≡ t → None ≡ cond t (Some s) None → length w ≤ s.position
+      go true q e = impossible cc
+      go false q e = ltb-false s.position (length w) q
 
 module _ (n : ℕ) where
   -- the step of a word at a position, behind the events of u
@@ -212,4 +250,90 @@ module _ (n : ℕ) where
         refused = λ k. ap (net_permits n net) (sym same) ∙ b.refused l;
         first = λ k. ap (first_refusing n net) (sym same) ∙ b.first l;
         short = λ k. ap (shortfall_of n net stop.place) (sym same) ∙ b.short l;
+      }
+
+  module _ {w : Word} {stop : Stop} where
+    -- no step before a stop is refused
+    pub best-front : {net : Net} → Best net w stop → Best net (take stop.position w) (record { position = length (take stop.position w); place = 0; shortfall = 0 })
+    best-front {net} b =
+        let size : length (take stop.position w) ≡ stop.position = length-take stop.position w ∙ omega (arith, b.within) in
+        record {
+          within = omega arith;
+          passed = λ i h. ap (net_permits n net) (step_cut w stop.position i (omega (arith, size))) ∙ b.passed i (omega (arith, size));
+          refused = λ h. absurd (omega arith);
+          first = λ h. absurd (omega arith);
+          short = λ h. absurd (omega arith);
+        }
+
+    -- where more places permit each step before a stop, it stays
+    pub best-late : (one two : Net) → Best one w stop → ((i : ℕ) → i < stop.position → net_permits n (one ++ two) (step_at n w i) ≡ true) → Best (one ++ two) w stop
+    best-late one two b permits =
+        let step = step_at n w stop.position in
+        record {
+          within = b.within;
+          passed = permits;
+          refused = λ h. join_step n one two step ∙ rw (b.refused h);
+          first = λ h. lowest-stays step one two (b.refused h) ∙ b.first h;
+          short = λ h. short-stays step one two stop.place (best-place b h) ∙ b.short h;
+        }
+
+  -- ---- what a search found
+
+  -- with the places of a net, a word is stopped first there, or nowhere
+  pub record Finds (net : Net) (w : Word) (found : Option Stop) : Type 0 where
+    pub best : Best net w (stop_or_end w found)
+    pub inside : (s : Stop) → found ≡ Some s → s.position < length w
+
+  pub finds-start : (w : Word) → Finds [] w None
+  unfolding stop_or_end
+  finds-start w = record { best = best-start w; inside = λ s e. impossible cc }
+
+  -- a search with more places, in the steps before what was found so far
+  pub finds-or : (one two : Net) (w : Word) (best found : Option Stop) → Finds one w best
+      → (Finds one (take (stop_or_end w best).position w) None → Finds (one ++ two) (take (stop_or_end w best).position w) found)
+      → Finds (one ++ two) w (option_or found best)
+  unfolding stop_or_end
+  finds-or one two w best found b search = go found (search (record { best = best-front b.best; inside = λ s e. impossible cc }))
+    where
+      end : ℕ
+      end = (stop_or_end w best).position
+
+      size : length (take end w) ≡ end
+      size = length-take end w ∙ omega (arith, b.best.within)
+
+      go : (found : Option Stop) → Finds (one ++ two) (take end w) found → Finds (one ++ two) w (option_or found best)
+      go None f = record {
+        best = best-late one two b.best (λ i h. ap (net_permits n (one ++ two)) (sym (step_cut w end i h)) ∙ f.best.passed i (omega (arith, size)));
+        inside = b.inside;
+      }
+      go (Some s) f =
+          let h : s.position < end = omega (arith, f.inside s refl, size) in
+          record {
+            best = best-cut b.best.within f.best h;
+            inside = λ k e. let same : s ≡ k = cc in omega (arith, ap (λ (x : Stop). x.position) same, b.best.within);
+          }
+
+  -- a word that is not refused is refused in no part, and a stop in a part is one of the word
+  pub finds-front : {net : Net} {w : Word} → Finds net w None → (end : ℕ) → end ≤ length w → Finds net (take end w) None
+  unfolding stop_or_end
+  finds-front {net} {w} f end inside =
+      let size : length (take end w) ≡ end = length-take end w ∙ omega arith in
+      record {
+        best = record {
+          within = omega arith;
+          passed = λ i h. ap (net_permits n net) (step_cut w end i (omega (arith, size))) ∙ f.best.passed i (omega (arith, size));
+          refused = λ h. absurd (omega arith);
+          first = λ h. absurd (omega arith);
+          short = λ h. absurd (omega arith);
+        };
+        inside = λ s e. impossible cc;
+      }
+
+  pub finds-whole : {net : Net} {w : Word} {s : Stop} (end : ℕ) → end ≤ length w → Finds net (take end w) (Some s) → Finds net w (Some s)
+  unfolding stop_or_end
+  finds-whole {net} {w} {s} end inside f =
+      let h : s.position < end = omega (arith, f.inside s refl, length-take end w) in
+      record {
+        best = best-cut inside f.best h;
+        inside = λ k e. let same : s ≡ k = cc in omega (arith, ap (λ (x : Stop). x.position) same);
       }

@@ -1,5 +1,5 @@
 -- The replay of a word on one place, with its tokens from step to step.
-use Rattle.std.specs.Prelude.{◌≡◌, Bool, true, false, cond, ℕ, zero, suc, ◌+◌, ◌≤◌, ◌<◌, pos, ◌+ℤ◌, length, drop, get_or}
+use Rattle.std.specs.Prelude.{◌≡◌, Bool, true, false, cond, Result, Ok, Err, ℕ, zero, suc, ◌+◌, ◌≤◌, ◌<◌, pos, ◌+ℤ◌, length, drop, get_or}
 use Rattle.std.proofs.Math.Path.{refl, ap}
 use Rattle.std.proofs.Common.{sym, ◌∙◌, subst, not-suc-le-zero, one-add, arith, drop_of_length-le, drop-cons, of_z, to_z}
 use mathlib.Core.List.{[], ◌∷◌, ◌++◌}
@@ -7,6 +7,7 @@ use Rattle.std.proofs.Math.Numerals.{add-one}
 use Rattle.std.proofs.Math.IntN.{ℤ}
 use mir.Syntax.{w64}
 use Rattle.std.proofs.Math.Facts.{to_z_pos}
+use Rattle.laws.specs.Booleans.{impossible}
 use Rattle.limits.specs.Limits.{max_events, max_word_events}
 use Rattle.nets.specs.Nets.{Word, Place, Step, counts, step_after, tokens, place_permits, shortfall}
 use Rattle.nets.specs.Events.{EventsBelow}
@@ -32,6 +33,25 @@ replay p t (e ∷ w) = cond (covered p t e) (later 1 (replay p (moved p t e) w))
 -- the first step of a word that a place refuses
 unfoldable pub stop_of : Place → Word → Stop
 stop_of p w = replay p (pos p.initial) w
+
+-- one step of it: the tokens behind an event, or how many are missing for it
+abbrev pub stepped : Place → ℤ → ℕ → Result ℤ ℕ
+stepped p t e = cond (covered p t e) (Ok (moved p t e)) (Err (missing p t e))
+
+module _ (p : Place) (t : ℤ) (e : ℕ) where
+  pub stepped-on : {z : ℤ} → Ok z ≡ stepped p t e → (covered p t e ≡ true) × (z ≡ moved p t e)
+  stepped-on {z} is = go (covered p t e) refl is
+    where
+      go : (b : Bool) → covered p t e ≡ b → Ok z ≡ cond b (Ok (moved p t e)) (Err (missing p t e)) → (b ≡ true) × (z ≡ moved p t e)
+      go true q is = (refl, (cc))
+      go false q is = impossible cc
+
+  pub stepped-refused : {k : ℕ} → Err k ≡ stepped p t e → (covered p t e ≡ false) × (k ≡ missing p t e)
+  stepped-refused {k} is = go (covered p t e) refl is
+    where
+      go : (b : Bool) → covered p t e ≡ b → Err k ≡ cond b (Ok (moved p t e)) (Err (missing p t e)) → (b ≡ false) × (k ≡ missing p t e)
+      go true q is = impossible cc
+      go false q is = (refl, (cc))
 
 -- a word over the twelve events that is replayed from t tokens on: so many as a place may have behind `earlier` events
 pub record Start (t : ℤ) (w : Word) : Type 0 where
@@ -124,6 +144,17 @@ module _ {p : Place} {w : Word} {s : Stop} {t : ℤ} {i : ℕ} (g : Going p w s 
           let more : g.earlier + i + 1 ≡ g.earlier + (i + 1) = omega arith in
           rw (is, leaves, tokens-bits next (omega (arith, g.size)))
           (record { earlier = g.earlier; tokens = subst (TokensAfter (moved p t (get_or w i 0))) more next; size = g.size; rest = passed })
+
+-- a turn of the loop: what one step says of the replay
+module _ {p : Place} {w : Word} {s : Stop} {t : ℤ} {i : ℕ} (g : Going p w s t i) where
+  pub going_refused : i < length w → {k : ℕ} → Err k ≡ stepped p t (get_or w i 0) → s ≡ stop i k
+  going_refused h is = let refused = stepped-refused p t (get_or w i 0) is in going_stop g h refused.0 ∙ ap (stop i) (sym refused.1)
+
+  pub going_passed : i < length w → {z : ℤ} → Ok z ≡ stepped p t (get_or w i 0) → i < s.position
+  going_passed h is = going_past g h (stepped-on p t (get_or w i 0) is).0
+
+  pub going-on : i < length w → {z : ℤ} → Ok z ≡ stepped p t (get_or w i 0) → p.produced (get_or w i 0) ≤ 65535 → Going p w s (to_z w64 (of_z w64 z)) (i + 1)
+  going-on h is few = let moves = stepped-on p t (get_or w i 0) is in going_next g h moves.0 few refl moves.1
 
 module _ (n : ℕ) (p : Place) where
   -- s is the first step of w behind u that the place refuses, with its shortfall there; its position is the word's length where there is none

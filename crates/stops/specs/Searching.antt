@@ -1,5 +1,5 @@
 -- The search for the first refused step, place by place, as the code goes through the places of a bundle.
-use Rattle.std.specs.Prelude.{◌≡◌, Bool, ℕ, suc, ◌+◌, ◌*◌, ◌/◌, ◌≤◌, ◌<◌, ℤ, pos, length, take}
+use Rattle.std.specs.Prelude.{◌≡◌, Bool, Option, ℕ, suc, ◌+◌, ◌*◌, ◌/◌, ◌≤◌, ◌<◌, ℤ, pos, length, take}
 use Rattle.std.proofs.Math.Path.{refl}
 use Rattle.std.proofs.Common.{sym, ap, ap₂, ◌∙◌, subst, ⊎_elim, suc-mul, mul-le-mul_right, add-one, length-take, length-append, get_or-take}
 use Rattle.std.proofs.Math.Bool.{true, false, cond}
@@ -9,7 +9,7 @@ use borrow.Author.Tests.{le-leb, lt-leb, leb-true, leb-false}
 use Rattle.std.proofs.Math.Dec.{leb}
 use Rattle.std.proofs.lemmas.List.{length-map}
 use Rattle.laws.specs.Booleans.{lt_or_le}
-use Rattle.limits.specs.Limits.{max_word_events}
+use Rattle.limits.specs.Limits.{max_places, max_word_events}
 use Rattle.nets.specs.Nets.{Word, Net, Place, step_at, place_permits, shortfall}
 use Rattle.nets.specs.Events.{EventsBelow}
 use Rattle.nets.specs.Markings.{tokens_none}
@@ -18,12 +18,12 @@ use Rattle.places.specs.declared.Place as declared
 use Rattle.bundles.specs.Layout.{to_place, to_net}
 use Rattle.bundles.specs.Readers.{events_in, net_in}
 use Rattle.bundles.specs.HeadReading.{HeadAt}
-use Rattle.bundles.specs.NumberReading.{items_at, items-length, items_snoc}
+use Rattle.bundles.specs.NumberReading.{items_at, items-length, items-append, items_snoc}
 use Rattle.bundles.specs.PlaceReading.{place_size, fields_at, place_on, machine_place, place_means}
-use Rattle.bundles.specs.declared.Places.{Places}
-use Rattle.bundles.specs.declared.Head.{Head}
-use Rattle.stops.specs.Positions.{step_cut, Best, best-stays, best-earlier}
+use Rattle.bundles.specs.declared.net.Net as bundle
+use Rattle.stops.specs.Positions.{step_cut, Best, best-stays, best-earlier, Finds}
 use Rattle.stops.specs.Replay.{First, stop, replay, stop_of, replay-first}
+use Rattle.stops.specs.declared.Search.{Search}
 use Rattle.stops.specs.declared.Stop.{Stop}
 
 -- a stop, by the place of that number
@@ -59,7 +59,7 @@ module _ (a b : Stop) where
       go false e = (omega arith, omega (arith, leb-false a.position b.position e), omega arith)
 
 -- the place that was read from an offset is the one there: what is replayed on it, and what stops it
-place_is : (n : ℕ) (b : List ℕ) (at : ℕ) (p : declared.Place) → p ≡ machine_place (fields_at n b at) → machine.place_of p ≡ place_on n b at
+pub place_is : (n : ℕ) (b : List ℕ) (at : ℕ) (p : declared.Place) → p ≡ machine_place (fields_at n b at) → machine.place_of p ≡ place_on n b at
 place_is n b at p e = ap machine.place_of e ∙ place_means (fields_at n b at)
 
 pub replay_means : (n : ℕ) (b : List ℕ) (at : ℕ) (t : ℤ) (w : Word) (p : declared.Place) → p ≡ machine_place (fields_at n b at) → replay (machine.place_of p) t w ≡ replay (place_on n b at) t w
@@ -84,26 +84,31 @@ net-start n b first net = append-nil net
 pub net-length : (n : ℕ) (b : List ℕ) (first j : ℕ) → length (net_at n b first j) ≡ j
 net-length n b first j = length-map (items_at (place_size n) (fields_at n) j b first) to_place ∙ items-length (place_size n) (fields_at n) j b first
 
+-- the places behind the first k
+pub net-behind : (n : ℕ) (b : List ℕ) (first k c : ℕ) → net_at n b first (k + c) ≡ net_at n b first k ++ net_at n b (first + 2 * (k * place_size n)) c
+net-behind n b first k c = ap (map to_place) (items-append (place_size n) (fields_at n) k c b first) ∙ map-append to_place (items_at (place_size n) (fields_at n) k b first) (items_at (place_size n) (fields_at n) c b (first + 2 * (k * place_size n)))
+
 -- the net of a bundle whose head was read
-pub net-is : {b : List ℕ} {n : ℕ} {ps : Places} → HeadAt b n ps → net_in b ≡ net_at n b ps.first ps.count
+pub net-is : {at : bundle.Net} → HeadAt at → net_in at.bundle.now ≡ net_at at.n at.bundle.now at.first at.count
 unfolding to_net
 net-is found = ap (map to_place) found.places
 
 -- what a search says of the places of a bundle is said of its net
-pub over-head : {b : List ℕ} {n : ℕ} {ps : Places} → HeadAt b n ps → {before : ℕ} {from to : Stop} {w : Word}
-    → ((net : Net) → length net ≡ before → Best n net w from → Best n (net ++ net_at n b ps.first ps.count) w to)
-    → (net : Net) → length net ≡ before → Best (events_in b) net w from → Best (events_in b) (net ++ net_in b) w to
-over-head found search net size best = rw (net-is found, found.events) (search net size (rw found.events at best))
+pub over-head : {at : bundle.Net} → HeadAt at → {before : ℕ} {from to : Option Stop} {w : Word}
+    → ((net : Net) → length net ≡ before → Finds at.n net w from → Finds at.n (net ++ net_at at.n at.bundle.now at.first at.count) w to)
+    → (net : Net) → length net ≡ before → Finds (events_in at.bundle.now) net w from → Finds (events_in at.bundle.now) (net ++ net_in at.bundle.now) w to
+over-head found search net size finds = rw (net-is found, found.events) (search net size (rw found.events at finds))
 
 -- a word over n events that may be screened
 pub record WordOver (n : ℕ) (w : Word) : Type 0 where
   pub size : length w ≤ max_word_events
   pub events : EventsBelow n w
 
--- a head that was read, and a word over its events: what the search asks
-pub record Searchable (b : List ℕ) (head : Head) (w : Word) : Type 0 where
-  pub found : HeadAt b head.n head.places
-  pub word : WordOver head.n w
+-- a net that was read behind so few places, and a word over its events: what a search asks
+pub record Searchable (s : Search) : Type 0 where
+  pub found : HeadAt s.net
+  pub word : WordOver s.net.n s.word.now
+  pub few : s.before ≤ max_places
 
 -- ---- one place more
 

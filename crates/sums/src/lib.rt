@@ -1,7 +1,7 @@
 // The two sums of a block, by columns: its bytes as rows of 32, each under the one before it. (Inner functions.)
 #![tactic(auto)]
 
-ghost use Rattle.std.specs.Prelude.{◌≡◌, ◌+◌, ◌*◌, ◌<◌, length, take};
+ghost use Rattle.std.specs.Prelude.{◌≡◌, ◌+◌, ◌*◌, ◌%◌, length, take};
 ghost use Rattle.laws.specs.Sums.{weighted};
 ghost use Rattle.laws.specs.Columns.{added};
 ghost use Rattle.sums.specs.Checksums.{plain_sum, position_sum};
@@ -10,95 +10,68 @@ ghost use Rattle.sums.specs.Adding.{Room, Narrow};
 // The two sums of a block's bytes, S and W.
 #[derive(Clone, Copy)]
 pub struct Sums {
-    pub plain: usize,
-    pub position: usize,
+    pub plain: u16,
+    pub position: u16,
 }
 
-// The same before the remainders are taken.
+// Rows that were added: the sums of their columns, and the shifts, which take in what the columns held before each row. Two lists and not one of
+// pairs, and an index for both: the compiler adds each as vectors.
 #[derive(Clone, Copy)]
-struct Totals {
-    plain: u32,
-    position: u32,
+struct Columns {
+    sums: [u16; 32],
+    shifts: [u16; 32],
 }
 
-// A byte as a number of 16 bits.
-fn wide(byte: u8) -> u16
-    ensures { (result ≡ byte) × (result < 256) }
-{
-    byte as u16
-}
+impl Columns {
+    // Adds the sums to the shifts, then the row to the sums.
+    fn add(&mut self, row: &[u8])
+        requires { Room self.old.sums self.old.shifts row.now }
+        ensures sums_after { self.new.sums ≡ added self.old.sums row.now }
+        ensures shifts_after { self.new.shifts ≡ added self.old.shifts (take (length row.now) self.old.sums) }
+    {
+        for (j, byte) in row.iter().enumerate() {
+            self.shifts[j] += self.sums[j];
+            self.sums[j] += u16::from(*byte);
+        }
+    }
 
-// The sum of a column, the twelve bits cut out so that the compiler multiplies narrow numbers; so in `weight`.
-fn narrow(column: u16) -> u32
-    requires { column < 4096 }
-    ensures { result ≡ column }
-{
-    (column & 4095) as u32
-}
-
-// The weight of a column: its position from 1.
-fn weight(position: usize) -> u32
-    requires { position < 64 }
-    ensures { result ≡ position }
-{
-    (position & 63) as u32
-}
-
-// Adds the columns to the shifts, then the row to the columns.
-fn add_row(columns: &mut [u16], shifts: &mut [u16], row: &[u8])
-    requires { Room columns.old shifts.old row.now }
-    ensures columns_after { columns.new ≡ added columns.old row.now }
-    ensures shifts_after { shifts.new ≡ added shifts.old (take (length row.now) columns.old) }
-{
-    let mut j: usize = 0;
-    while j < row.len() {
-        let column = columns[j];
-        let more = column + wide(row[j]);
-        shifts[j] += column;
-        columns[j] = more;
-        j += 1;
+    // S and W of all rows: a shift is a row's width further from the start. The remainders are taken once, at the end.
+    fn totals(self) -> Sums
+        requires { Narrow self.sums self.shifts }
+        ensures plain_value { result.plain ≡ weighted (λ i. 1) self.sums % 65521 }
+        ensures position_value { result.position ≡ (weighted (λ i. i + 1) self.sums + 32 * weighted (λ i. 1) self.shifts) % 65521 }
+    {
+        let mut plain = 0u32;
+        let mut position = 0u32;
+        let mut shifted = 0u32;
+        for (j, column) in self.sums.iter().enumerate() {
+            // Twelve bits are cut out so that the compiler multiplies narrow numbers.
+            let column = u32::from(*column & 4095);
+            plain += column;
+            position += (j as u32 + 1) * column;
+            shifted += u32::from(self.shifts[j]);
+        }
+        // Remainders fit two bytes.
+        Sums {
+            plain: (plain % 65521) as u16,
+            position: ((position + 32 * shifted) % 65521) as u16,
+        }
     }
 }
 
-// The totals of all rows: a shift is a row's width further from the start.
-fn totals_of(columns: &[u16], shifts: &[u16]) -> Totals
-    requires { Narrow columns.now shifts.now }
-    ensures plain_value { result.plain ≡ weighted (λ i. 1) columns.now }
-    ensures position_value { result.position ≡ weighted (λ i. i + 1) columns.now + 32 * weighted (λ i. 1) shifts.now }
-{
-    let mut plain: u32 = 0;
-    let mut position: u32 = 0;
-    let mut shifted: u32 = 0;
-    let mut j: usize = 0;
-    while j < 32 {
-        let column = narrow(columns[j]);
-        plain += column;
-        position += weight(j + 1) * column;
-        shifted += shifts[j] as u32;
-        j += 1;
-    }
-    Totals {
-        plain,
-        position: position + 32 * shifted,
-    }
-}
-
-// S and W of 508 bytes: the last row is short and the rows are added from the last to the first. The remainders are taken once, at the end.
-pub fn sums_of(bytes: &[u8]) -> Sums
-    requires { length bytes.now ≡ 508 }
+// S and W of 508 bytes. The last row is short, and the rows are added from the last to the first. As arrays they have a width that the compiler
+// knows, so that it adds a row without a loop.
+pub fn sums_of(bytes: &[u8; 508]) -> Sums
     ensures { (result.plain ≡ plain_sum bytes.now) × (result.position ≡ position_sum bytes.now) }
 {
-    let mut columns = [0u16; 32];
-    let mut shifts = [0u16; 32];
-    add_row(&mut columns, &mut shifts, &bytes[480..508]);
-    let mut turn: usize = 15;
-    while 0 < turn {
-        turn -= 1;
-        add_row(&mut columns, &mut shifts, &bytes[32 * turn..32 * turn + 32]);
+    let mut columns = Columns {
+        sums: [0; 32],
+        shifts: [0; 32],
+    };
+    let (rows, last) = bytes.as_chunks::<32>();
+    columns.add(last);
+    for row in rows.iter().rev() {
+        columns.add(row);
     }
-    let totals = totals_of(&columns, &shifts);
-    Sums {
-        plain: (totals.plain % 65521) as usize,
-        position: (totals.position % 65521) as usize,
-    }
+    columns.totals()
 }

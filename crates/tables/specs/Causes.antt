@@ -1,5 +1,5 @@
 -- Exactly when a fresh summary and a taken word are refused, and what they give else: one law for each test, in its order.
-use Rattle.std.specs.Prelude.{◌≡◌, true, false, ◌↔◌, ◌⊎◌, List, ℕ, ◌+◌, ◌≤◌, ◌<◌, leb, ltb, length}
+use Rattle.std.specs.Prelude.{◌≡◌, true, false, ◌↔◌, ◌⊎◌, List, ℕ, ◌+◌, ◌≤◌, ◌<◌, leb, ltb, length, Err, Ok}
 use Rattle.std.proofs.Math.Path.{refl}
 use Rattle.std.proofs.Common.{ap, inl, inr, ⊎_elim, arith, leb-true, leb-false, le-leb}
 use mathlib.Core.Logic.Iff
@@ -14,10 +14,9 @@ use Rattle.refusals.specs.Exactly.{Exactly, Gives, exactly-here, exactly-later, 
 use Rattle.refusals.specs.declared.Refusal.{Refusal}
 use Rattle.nets.specs.Events.{first_bad}
 use Rattle.nets.specs.Nets.{Word}
-use Rattle.logs.specs.Answers.{table_size, right_event_count, right_summary, taken_of, fresh_summary, log_started, fresh_answer, rows_after, summary_after, word_taken, taken_answer}
+use Rattle.logs.specs.Answers.{table_size, right_event_count, right_summary, taken_of, fresh_summary, log_started, fresh_answer, rows_after, summary_after, word_taken, taken_answer, Taken}
 use Rattle.logs.specs.AnswerLaws.{right_summary-bounds}
 use Rattle.logs.specs.declared.Summary.{Summary}
-use Rattle.logs.specs.declared.Taken.TheVariants.{Next, Refused}
 
 -- ---- The tests
 
@@ -58,15 +57,15 @@ summary-right s = (
 
 -- ---- The answer is the chain's
 
-taken-refused-exactly : (m : Result Summary) (number spot : ℕ) → (taken_of m ≡ Refused (refusal number spot)) ↔ (m ≡ refused number spot)
+taken-refused-exactly : (m : Result Summary) (number spot : ℕ) → (taken_of m ≡ Err (refusal number spot)) ↔ (m ≡ refused number spot)
 unfolding taken_of
 taken-refused-exactly (value s) number spot = ((λ e. impossible cc), (λ e. impossible cc))
 taken-refused-exactly (refused n at) number spot = (to, (λ e. ap taken_of e))
   where
-    to : Refused (refusal n at) ≡ Refused (refusal number spot) → ◌≡◌ {A = Result Summary} (refused n at) (refused number spot)
+    to : ◌≡◌ {A = Taken} (Err (refusal n at)) (Err (refusal number spot)) → ◌≡◌ {A = Result Summary} (refused n at) (refused number spot)
     to e = let same : refusal n at ≡ refusal number spot = cc in ap (λ (r : Refusal). refused r.number r.spot) same
 
-taken-next-exactly : (m : Result Summary) (s : Summary) → (taken_of m ≡ Next s) ↔ (m ≡ value s)
+taken-next-exactly : (m : Result Summary) (s : Summary) → (taken_of m ≡ Ok s) ↔ (m ≡ value s)
 unfolding taken_of
 taken-next-exactly (value s') s = ((λ e. cc), (λ e. ap taken_of e))
 taken-next-exactly (refused n at) s = ((λ e. impossible cc), (λ e. impossible cc))
@@ -76,11 +75,11 @@ taken-next-exactly (refused n at) s = ((λ e. impossible cc), (λ e. impossible 
 module _ (n : ℕ) (t : List ℕ) where
   -- a line of the chain, for the answer
   pub fresh-refused : {number : ℕ} {C : ℕ → Type 0} → Exactly (log_started n t) number C → (spot : ℕ)
-      → (fresh_answer n t ≡ Refused (refusal number spot)) ↔ C spot
+      → (fresh_answer n t ≡ Err (refusal number spot)) ↔ C spot
   unfolding fresh_answer
   fresh-refused {number} e spot = Iff.trans (taken-refused-exactly (log_started n t) number spot) (e.line spot)
 
-  pub fresh-next : {When : Summary → Type 0} → Gives (log_started n t) When → (s : Summary) → (fresh_answer n t ≡ Next s) ↔ When s
+  pub fresh-next : {When : Summary → Type 0} → Gives (log_started n t) When → (s : Summary) → (fresh_answer n t ≡ Ok s) ↔ When s
   unfolding fresh_answer
   fresh-next e s = Iff.trans (taken-next-exactly (log_started n t) s) (e.line s)
 
@@ -100,11 +99,11 @@ module _ (n : ℕ) (t : List ℕ) where
 
 module _ (s : Summary) (t : List ℕ) (w : Word) where
   pub take-refused : {number : ℕ} {C : ℕ → Type 0} → Exactly (word_taken s t w) number C → (spot : ℕ)
-      → (taken_answer s t w ≡ Refused (refusal number spot)) ↔ C spot
+      → (taken_answer s t w ≡ Err (refusal number spot)) ↔ C spot
   unfolding taken_answer
   take-refused {number} e spot = Iff.trans (taken-refused-exactly (word_taken s t w) number spot) (e.line spot)
 
-  pub take_next : {When : Summary → Type 0} → Gives (word_taken s t w) When → (s' : Summary) → (taken_answer s t w ≡ Next s') ↔ When s'
+  pub take_next : {When : Summary → Type 0} → Gives (word_taken s t w) When → (s' : Summary) → (taken_answer s t w ≡ Ok s') ↔ When s'
   unfolding taken_answer
   take_next e s' = Iff.trans (taken-next-exactly (word_taken s t w) s') (e.line s')
 

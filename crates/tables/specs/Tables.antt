@@ -1,5 +1,5 @@
 -- What stands in a table, number by number: after a word is taken into any table, and after the words of a log from a fresh one.
-use Rattle.std.specs.Prelude.{◌≡◌, refl, Bool, true, false, ◌↔◌, ◌⊎◌, T, take, drop}
+use Rattle.std.specs.Prelude.{◌≡◌, refl, Bool, true, false, ◌↔◌, ◌⊎◌, T, take, drop, Ok}
 use Rattle.std.proofs.Math.Path.{sym, ap, ap₂}
 use Rattle.std.proofs.Common.{◌∙◌, subst, true≢false, inl, inr, ⊎_elim, lt_of_lt_of_le, arith, drop-drop}
 use Rattle.std.proofs.Math.Bool.{not}
@@ -27,7 +27,6 @@ use Rattle.tables.specs.Leaving.{missing, take-counts, on_row, mask_on, take-bit
 use Rattle.tables.specs.Passing.{traffic_on, Passed, take-passed}
 use Rattle.logs.specs.LogTable.{Twelve, rows-twelve, take-twelve, read_with, rest_with, length_with, Took, took}
 use Rattle.logs.specs.declared.Summary.{Summary}
-use Rattle.logs.specs.declared.Taken.TheVariants.{Next}
 
 -- ---- Rows as numbers of a table
 
@@ -135,7 +134,7 @@ module _ (s : Summary) (t : List ℕ) (w : Word) where
       ∙ ap₂ ◌+◌ (length-map rs (λ (r : Row). r.counts) ∙ length-rows s.rows t)
       (ap (λ (l : List Counts). length (keep (λ v. not (member v l)) (map (counts max_events) (beginnings w)))) (rows-counts s.rows t))
 
-  module _ (s' : Summary) (taken : taken_answer s t w ≡ Next s') where
+  module _ (s' : Summary) (taken : taken_answer s t w ≡ Ok s') where
     abbrev t' : List ℕ
     t' = taken_table (taken_answer s t w) s t w
 

@@ -7,7 +7,7 @@ use Rattle.std.proofs.Math.Nat.{add_assoc}
 use Rattle.std.proofs.Math.Numerals.{add-one}
 use Rattle.std.proofs.Math.ListN.{set, drop_of_length-le}
 use Rattle.std.proofs.Math.Dec.{eqb}
-use Rattle.std.proofs.Math.Seq.{drop-cons}
+use Rattle.std.proofs.Math.Seq.{drop-cons, get_or-set_other}
 use Rattle.std.proofs.lemmas.List.{set-get_or}
 use borrow.Author.Tests.{eqb-true, eqb-false, lt-ltb, le-ltb}
 use Rattle.laws.specs.Booleans.{true_or_false, lt_or_le}
@@ -56,6 +56,14 @@ module _ (v : List ℕ) (e : ℕ) where
 
   pub adding-end : e < max_events → (i : ℕ) → max_events ≤ i → adding v e i ≡ add_event v e
   adding-end h i end = after i (omega arith)
+
+  -- count i is as it was
+  pub adding-at : (i : ℕ) → get_or (adding v e i) i 0 ≡ get_or v i 0
+  unfolding add_event
+  adding-at i = ⊎_elim
+      (λ l. rw (after i l) (get_or-set_other v e i _ 0 (λ p. omega arith)))
+      (λ l. rw (before i l))
+      (lt_or_le e i)
 
   -- x is what count i grows by
   module _ (i x : ℕ) (is : x ≡ cond (eqb i e) 1 0) where

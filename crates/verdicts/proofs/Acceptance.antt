@@ -1,6 +1,6 @@
 -- Demand 2 for judging: a bundle is accepted exactly when it keeps the layout and the limits and passes the definitions' test, and then
 -- the verdict has the definitions' four counts.
-use Rattle.std.specs.Prelude.{◌≡◌, true, ◌↔◌, ℕ, ◌≤◌, T, leb}
+use Rattle.std.specs.Prelude.{◌≡◌, true, ◌↔◌, ℕ, ◌≤◌, T, leb, Ok}
 use Rattle.std.proofs.Math.Path.{refl, sym, ap, ap₂, subst}
 use Rattle.std.proofs.Common.{◌∙◌, le_trans, arith, le→leb, drop_of_length-le}
 use mathlib.Core.List.{List, [], ◌∷◌, ◌++◌, flat_map, append-nil}
@@ -30,7 +30,6 @@ use Rattle.bundles.specs.LayoutLaws.{HeadValid, law-head, law-certificate}
 use Rattle.bundles.specs.Limits.{→size, log-below, head→limits, limits→head}
 use Rattle.verdicts.specs.Judging.{solved, at_end, after_head, contents, judging, judged, verdict_of, verdict, table_on, table_after}
 use Rattle.verdicts.specs.declared.Tally.{Tally}
-use Rattle.verdicts.specs.declared.Verdict.TheVariants as verdicts
 use Rattle.verdicts.specs.Acceptance.{permitted, fitting, Solving, Acceptable, AcceptedAs}
 
 pub few-rows : (n : ℕ) (log more : Log) → T (rows_in_limit n (log ++ more)) → T (rows_in_limit n log)
@@ -150,11 +149,11 @@ module _ (table_length : ℕ) (b : List ℕ) where
   judged-right long right = rw (right, le-leb table_size table_length long)
 
 module _ (table_length : ℕ) (long : table_size ≤ table_length) (b : List ℕ) (bytes : Bytes b) (c : Tally) where
-  verdict→ : verdict table_length b ≡ verdicts.Accepted c → (d : Contents) × AcceptedAs b c d
+  verdict→ : verdict table_length b ≡ Ok c → (d : Contents) × AcceptedAs b c d
   unfolding verdict verdict_of
   verdict→ e = go (judged table_length b 0) refl e
     where
-      go : (r : Read Contents) → judged table_length b 0 ≡ r → verdict_of r ≡ verdicts.Accepted c → (d : Contents) × AcceptedAs b c d
+      go : (r : Read Contents) → judged table_length b 0 ≡ r → verdict_of r ≡ Ok c → (d : Contents) × AcceptedAs b c d
       go (value (item d next)) q e =
           let s = judged→ table_length b d next q in
           let j = judging→ b bytes d next s.2 in (
@@ -168,12 +167,12 @@ module _ (table_length : ℕ) (long : table_size ≤ table_length) (b : List ℕ
           )
       go (refused number spot) q e = impossible cc
 
-  →verdict : (d : Contents) → AcceptedAs b c d → verdict table_length b ≡ verdicts.Accepted c
+  →verdict : (d : Contents) → AcceptedAs b c d → verdict table_length b ≡ Ok c
   unfolding verdict verdict_of
-  →verdict d a = ap verdict_of (judged-right table_length b long (accepted-size a) ∙ →judging b bytes d (acceptable a) a.layout) ∙ ap verdicts.Accepted (sym a.counts)
+  →verdict d a = ap verdict_of (judged-right table_length b long (accepted-size a) ∙ →judging b bytes d (acceptable a) a.layout) ∙ ap Ok (sym a.counts)
 
   -- DEMAND 2: accepted with counts c exactly when there are contents with these very bytes that are so
-  pub accepted-exactly : (verdict table_length b ≡ verdicts.Accepted c) ↔ ((d : Contents) × AcceptedAs b c d)
+  pub accepted-exactly : (verdict table_length b ≡ Ok c) ↔ ((d : Contents) × AcceptedAs b c d)
   accepted-exactly = (verdict→, λ r. →verdict r.0 r.1)
 
 -- an accepted bundle leaves its log's rows in the table, zeros up to number 3,583, and the rest as it was

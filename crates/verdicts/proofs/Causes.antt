@@ -1,7 +1,7 @@
 -- Exactly when judging refuses with each number, and at which spot, by what the bundle holds up to there.
 use Rattle.std.proofs.Math.Path.{◌≡◌, refl, ap}
 use Rattle.std.proofs.Common.{sym, ◌∙◌, arith, length-append, drop-cons}
-use Rattle.std.specs.Prelude.{true, ◌↔◌, ◌⊎◌, ℕ, suc, ◌<◌, leb}
+use Rattle.std.specs.Prelude.{true, ◌↔◌, ◌⊎◌, ℕ, suc, ◌<◌, leb, Err}
 use Rattle.std.proofs.Math.Bool.{false, false≢true}
 use mathlib.Core.Logic.Iff
 use Rattle.std.proofs.Math.Logic.{inl, inr, ⊎_elim}
@@ -25,14 +25,13 @@ use Rattle.bundles.specs.Layout.{CertificateFields, kind0, kind1, Head, Contents
 use Rattle.bundles.specs.Readers.{bundle_size}
 use Rattle.bundles.specs.ReadingLaws.{part-front}
 use Rattle.bundles.specs.Causes.{require-chain}
-use Rattle.verdicts.specs.Judging.{unsolved, contents, judging, judged, verdict_of, verdict}
+use Rattle.verdicts.specs.Judging.{unsolved, contents, judging, judged, verdict_of, verdict, Verdict}
 use Rattle.verdicts.proofs.Acceptance.{law-contents}
 use Rattle.verdicts.specs.RefusalNumbers.{judging-refuses}
 use Rattle.verdicts.specs.Reached.{HeadThere, JudgedTo, Misread, NotSolved}
 use Rattle.verdicts.proofs.Reached.{acceptable-judged, judged-acceptable, not-unsolved, head-there, there-head, in_certificate, not-head, not-misread}
 use Rattle.verdicts.specs.Stopping.{InHead, head_numbers}
 use Rattle.verdicts.proofs.Stopping.{judging-refused}
-use Rattle.verdicts.specs.declared.Verdict.TheVariants as verdicts
 
 -- ---- Each number, in bundle order
 
@@ -134,15 +133,15 @@ module _ (b : List ℕ) (bytes : Bytes b) where
 
 module _ (table_length : ℕ) (b : List ℕ) where
   -- the answer is the chain's
-  verdict-refused : (number spot : ℕ) → (verdict table_length b ≡ verdicts.Refused (refusal number spot)) ↔ (judged table_length b 0 ≡ refused number spot)
+  verdict-refused : (number spot : ℕ) → (verdict table_length b ≡ Err (refusal number spot)) ↔ (judged table_length b 0 ≡ refused number spot)
   unfolding verdict verdict_of
   verdict-refused number spot = go (judged table_length b 0)
     where
-      same : (n s : ℕ) → verdicts.Refused (refusal n s) ≡ verdicts.Refused (refusal number spot)
+      same : (n s : ℕ) → ◌≡◌ {A = Verdict} (Err (refusal n s)) (Err (refusal number spot))
           → ◌≡◌ {A = Read Contents} (refused n s) (refused number spot)
       same n s e = let r : refusal n s ≡ refusal number spot = cc in ap (λ (r : Refusal). refused r.number r.spot) r
 
-      go : (m : Read Contents) → (verdict_of m ≡ verdicts.Refused (refusal number spot)) ↔ (m ≡ refused number spot)
+      go : (m : Read Contents) → (verdict_of m ≡ Err (refusal number spot)) ↔ (m ≡ refused number spot)
       go (value (item d next)) = ((λ e. impossible cc), (λ e. impossible cc))
       go (refused n s) = (same n s, (λ e. ap verdict_of e))
 
@@ -158,22 +157,22 @@ module _ (table_length : ℕ) (b : List ℕ) where
   lined : {number : ℕ} {C : ℕ → Type 0}
       → Exactly (bind (results.require (right_size (length b)) bundle_length_number 0)
       (λ u. bind (results.require (leb table_size table_length) numbers_short_number table_size) (λ u. judging b 0))) number C
-      → (spot : ℕ) → (verdict table_length b ≡ verdicts.Refused (refusal number spot)) ↔ C spot
+      → (spot : ℕ) → (verdict table_length b ≡ Err (refusal number spot)) ↔ C spot
   lined {number} e spot = (
     (λ h. (e.line spot).0 (sym judged-chain ∙ (verdict-refused number spot).0 h)),
     (λ c. (verdict-refused number spot).1 (judged-chain ∙ (e.line spot).1 c)),
   )
 
-  pub judge_4 : (spot : ℕ) → (verdict table_length b ≡ verdicts.Refused (refusal bundle_length_number spot)) ↔ ((spot ≡ 0) × (right_size (length b) ≡ false))
+  pub judge_4 : (spot : ℕ) → (verdict table_length b ≡ Err (refusal bundle_length_number spot)) ↔ ((spot ≡ 0) × (right_size (length b) ≡ false))
   unfolding any
   judge_4 = lined (exactly-here _ _ _ _ (refuses-test _ _ _ (judging-refuses.only b 0)) refl)
 
-  pub judge_5 : (spot : ℕ) → (verdict table_length b ≡ verdicts.Refused (refusal numbers_short_number spot))
+  pub judge_5 : (spot : ℕ) → (verdict table_length b ≡ Err (refusal numbers_short_number spot))
       ↔ ((right_size (length b) ≡ true) × ((spot ≡ table_size) × (leb table_size table_length ≡ false)))
   unfolding any
   judge_5 = lined (exactly-later _ _ _ _ (λ e. omega (arith, e)) (exactly-here _ _ _ _ (judging-refuses.only b 0) refl))
 
   pub judge_later : (number : ℕ) → (bundle_length_number ≡ number → ⊥) → (numbers_short_number ≡ number → ⊥)
-      → (spot : ℕ) → (verdict table_length b ≡ verdicts.Refused (refusal number spot))
+      → (spot : ℕ) → (verdict table_length b ≡ Err (refusal number spot))
       ↔ ((right_size (length b) ≡ true) × ((leb table_size table_length ≡ true) × (judging b 0 ≡ refused number spot)))
   judge_later number not-4 not-5 = lined (exactly-later _ _ _ _ not-4 (exactly-later _ _ _ _ not-5 (record { line = λ spot. Iff.rfl })))

@@ -1,10 +1,10 @@
 -- Judging on bytes: which verdict a bundle gets, with the refusals' numbers and spots, and what it leaves in the table.
-use Rattle.std.specs.Prelude.{cond, ◌&&◌, List, [], ℕ, leb, length}
+use Rattle.std.specs.Prelude.{cond, ◌&&◌, List, [], ℕ, leb, length, Err, Ok}
 use Rattle.laws.specs.Lists.{all}
 use Rattle.laws.specs.Scans.{first_failing}
 use Rattle.limits.specs.Limits.{right_size}
 use Rattle.refusals.specs.Table.{numbers_short_number, place_misfit_number, place_permits_number, weights_number, bytes_follow_number}
-use Rattle.refusals.specs.Answers.{refusal}
+use Rattle.refusals.specs.Answers.{refusal, Answer}
 use Rattle.refusals.specs.Results.{value, refused}
 use Rattle.nets.specs.Nets.{Step, tally}
 use Rattle.nets.specs.Nets as nets
@@ -15,8 +15,6 @@ use Rattle.bundles.specs.Reading.{Read, item, Reader, ◌>>=◌, ◌>>◌, give,
 use Rattle.bundles.specs.Layout.{CertificateFields, kind0, kind1, Head, Contents, wrong_in, fits_in, solves_in, to_net, to_bundle, words_in}
 use Rattle.bundles.specs.Readers.{head, certificate, rows_in_limit, bundle_size}
 use Rattle.verdicts.specs.declared.Tally.{Tally}
-use Rattle.verdicts.specs.declared.Verdict.{Verdict}
-use Rattle.verdicts.specs.declared.Verdict.TheVariants.{Accepted, Refused}
 
 -- ---- Reading a bundle to its end
 
@@ -67,10 +65,14 @@ judged table_length = do
 abbrev pub tally_of : nets.Tally → Tally
 tally_of t = record { rows = t.row_count; allowed = t.allowed_count; by_place = t.by_place_count; by_weights = t.by_weights_count }
 
+-- the verdict: the four counts, or the refusal
+abbrev pub Verdict : Type 0
+Verdict = Answer Tally
+
 -- the verdict on what was read
 unfoldable pub verdict_of : Read Contents → Verdict
-verdict_of (value (item c next)) = Accepted (tally_of (tally (to_bundle c)))
-verdict_of (refused number spot) = Refused (refusal number spot)
+verdict_of (value (item c next)) = Ok (tally_of (tally (to_bundle c)))
+verdict_of (refused number spot) = Err (refusal number spot)
 
 -- the verdict on a bundle
 unfoldable pub verdict : ℕ → List ℕ → Verdict
@@ -78,8 +80,8 @@ verdict table_length b = verdict_of (judged table_length b 0)
 
 -- 0, or the refusal's number
 unfoldable pub verdict_number : Verdict → ℕ
-verdict_number (Accepted c) = 0
-verdict_number (Refused r) = r.number
+verdict_number (Ok c) = 0
+verdict_number (Err r) = r.number
 
 -- ---- The table afterwards
 

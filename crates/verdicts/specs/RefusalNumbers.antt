@@ -1,5 +1,5 @@
 -- The refusal numbers of judging are those of its line in the order of refusals: 4, 5, then 6 to 13 in bundle order; and what a refusal leaves.
-use Rattle.std.specs.Prelude.{◌≡◌, refl, Bool, true, false, not, cond, ◌&&◌, List, [], ◌∷◌, ℕ, T, leb, length}
+use Rattle.std.specs.Prelude.{◌≡◌, refl, Bool, true, false, not, cond, ◌&&◌, List, [], ◌∷◌, ℕ, T, leb, length, Err}
 use Rattle.std.proofs.Common.{sym, ◌∙◌, subst, inr}
 use Rattle.std.proofs.lemmas.Bool.{false≢true}
 use Rattle.laws.specs.Booleans.{impossible, yes_true}
@@ -15,8 +15,7 @@ use Rattle.bundles.specs.Reading.{Read, got, item, and_then, ◌>>◌, require, 
 use Rattle.bundles.specs.Readers.{rows_in_limit, bundle_size}
 use Rattle.bundles.specs.Layout.{CertificateFields, kind0, kind1, Contents}
 use Rattle.bundles.specs.Refusing.{ReaderRefuses, Among, reader_give, reader_require, reader_then, reader_each, reader_head, reader_certificate}
-use Rattle.verdicts.specs.Judging.{unsolved, solved, at_end, after_head, contents, judging, judged, verdict_of, verdict, verdict_number, table_on, table_after}
-use Rattle.verdicts.specs.declared.Verdict.TheVariants.{Refused}
+use Rattle.verdicts.specs.Judging.{unsolved, solved, at_end, after_head, contents, judging, judged, verdict_of, verdict, verdict_number, table_on, table_after, Verdict}
 
 -- in bundle order
 abbrev pub field_numbers : List ℕ
@@ -76,7 +75,7 @@ early number = among number (bundle_length_number ∷ numbers_short_number ∷ [
 abbrev Left : List ℕ → List ℕ → ℕ → Type 0
 Left before after number = (early number ≡ true → after ≡ before) × (early number ≡ false → after ≡ cleared table_size before)
 
-read_left : (b t : List ℕ) (r : Refusal) (m : Read Contents) → judging b 0 ≡ m → verdict_of m ≡ Refused r → Left t (table_on m t) r.number
+read_left : (b t : List ℕ) (r : Refusal) (m : Read Contents) → judging b 0 ≡ m → verdict_of m ≡ Err r → Left t (table_on m t) r.number
 unfolding verdict_of table_on any all
 read_left b t r (value (item c next)) is e = impossible cc
 read_left b t r (refused number spot) is e =
@@ -88,16 +87,16 @@ read_left b t r (refused number spot) is e =
     clash true n h = false≢true n
     clash false n h = false≢true h
 
-pub refused_judge : (table b : List ℕ) (r : Refusal) → verdict (length table) b ≡ Refused r → Left table (table_after b table) r.number
+pub refused_judge : (table b : List ℕ) (r : Refusal) → verdict (length table) b ≡ Err r → Left table (table_after b table) r.number
 unfolding verdict verdict_of judged bundle_size require bind onward table_after any
 refused_judge table b r e = go (right_size (length b)) (leb table_size (length table)) e
   where
-    first : (number spot : ℕ) → early number ≡ true → Refused (refusal number spot) ≡ Refused r → Left table table r.number
+    first : (number spot : ℕ) → early number ≡ true → ◌≡◌ {A = Verdict} (Err (refusal number spot)) (Err r) → Left table table r.number
     first number spot listed e =
         let same : refusal number spot ≡ r = cc in
         subst (λ (x : Refusal). Left table table x.number) same ((λ h. refl), (λ h. absurd (false≢true (sym h ∙ listed))))
 
-    go : (p q : Bool) → verdict_of (and_then (cond p (got (tt {0}) 0) (refused bundle_length_number 0)) (λ u. require q numbers_short_number table_size >> judging) b) ≡ Refused r
+    go : (p q : Bool) → verdict_of (and_then (cond p (got (tt {0}) 0) (refused bundle_length_number 0)) (λ u. require q numbers_short_number table_size >> judging) b) ≡ Err r
         → Left table (cond (p && q) (table_on (judging b 0) table) table) r.number
     go true true e = read_left b table r (judging b 0) refl e
     go true false e = first numbers_short_number table_size refl e

@@ -4,7 +4,7 @@
 use refusals::Refusal;
 
 // The four counts of an accepted bundle: rows, allowed steps, kind 0 and kind 1 certificates.
-#[derive(Clone, Copy)]
+#[derive(Clone, Copy, Debug, PartialEq, Eq)]
 pub struct Tally {
     pub rows: usize,
     pub allowed: usize,
@@ -13,8 +13,4 @@ pub struct Tally {
 }
 
 // The verdict on a bundle.
-#[derive(Clone, Copy)]
-pub enum Verdict {
-    Accepted(Tally),
-    Refused(Refusal),
-}
+pub type Verdict = Result<Tally, Refusal>;

@@ -1,4 +1,5 @@
 pub mod Terms
+pub mod Steps
 pub mod Totals
 pub mod TermSums
 pub mod TermLaws

@@ -1,16 +1,13 @@
 -- Whether the weights of a certificate hold, from the rows of a table.
-use Rattle.std.specs.Prelude.{Bool, ◌&&◌, cond, List, ℕ, ◌+◌, ◌*◌, leb, get_or}
+use Rattle.std.specs.Prelude.{Bool, false, ◌&&◌, List, ℕ, ◌+◌, ◌*◌, leb, get_or}
 use Rattle.laws.specs.Lists.{all, tabulate}
 use Rattle.laws.specs.Bits.{bit}
 use Rattle.limits.specs.Limits.{max_events}
-use Rattle.refusals.specs.Answers.{refusal}
-use Rattle.refusals.specs.Results.{value, refused}
 use Rattle.nets.specs.Nets.{Counts, at, same, weighed}
 use Rattle.rows.specs.Rows.{Row, new_row, none}
-use Rattle.bundles.specs.Reading.{Read, item}
+use Rattle.bundles.specs.Reading.{Reader}
 use Rattle.bundles.specs.Layout.{TermFields, CertificateFields, kind0, kind1}
-use Rattle.weights.specs.declared.Weighed.{Weighed}
-use Rattle.weights.specs.declared.Weighed.TheVariants.{Holds, Fails, Refused}
+use Rattle.bundles.specs.Chains.{mapped}
 
 -- row number r
 abbrev pub row_of : List Row → ℕ → Row
@@ -36,8 +33,15 @@ holds_rows rs v e k ts =
     && all (λ i. leb (weighed_rows rs (λ u f. at u i) ts) (k * at v i)) (tabulate max_events (λ i. i))
     && all (λ i. leb (k * (at v i + same e i)) (weighed_rows rs (λ u f. at u i + same f i) ts)) (tabulate max_events (λ i. i))
 
--- weights that were read: they hold or fail, with the offset behind them; or a refusal
-unfoldable pub weighed_by : (ℕ → List TermFields → Bool) → Read CertificateFields → Weighed
-weighed_by test (value (item (kind0 j) next)) = Fails next
-weighed_by test (value (item (kind1 w) next)) = cond (test w.k w.terms) (Holds next) (Fails next)
-weighed_by test (refused number spot) = Refused (refusal number spot)
+-- whether the weights of a certificate hold, by a test of k and the terms; a place's number is no weights
+unfoldable pub holds_by : (ℕ → List TermFields → Bool) → CertificateFields → Bool
+holds_by test (kind0 j) = false
+holds_by test (kind1 w) = test w.k w.terms
+
+-- weights that are read: whether they hold, with the offset behind them; or a refusal
+abbrev pub weighed_by : (ℕ → List TermFields → Bool) → Reader CertificateFields → Reader Bool
+weighed_by test r = mapped (holds_by test) r
+
+-- the same of terms
+abbrev pub weighed_terms : (List TermFields → Bool) → Reader (List TermFields) → Reader Bool
+weighed_terms test r = mapped test r

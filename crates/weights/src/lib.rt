@@ -1,194 +1,161 @@
 // Whether the weights of a certificate hold, from the rows of the log table.
 #![tactic(auto)]
 
-ghost use Rattle.std.specs.Prelude.{◌≡◌, cond, ℕ, ◌+◌, ◌*◌, ◌≤◌, ◌<◌, length};
+ghost use Rattle.std.specs.Prelude.{◌≡◌, ℕ, ◌+◌, ◌*◌, ◌≤◌, ◌<◌, length};
 ghost use Rattle.limits.specs.Limits.{max_events, max_terms};
-ghost use Rattle.nets.specs.Nets.{at, same};
-ghost use Rattle.rows.specs.Rows.{rows_of};
+ghost use Rattle.nets.specs.Nets.{at};
+ghost use Rattle.bundles.specs.Chains.{ReadAs, ReadBy};
 ghost use Rattle.bundles.specs.Reading.{times};
 ghost use Rattle.bundles.specs.Readers.{head_of, term, weights};
-ghost use Rattle.bundles.specs.TermReading.{term_read_of};
-ghost use Rattle.heads.specs.Heads.{HeadHeld};
-ghost use Rattle.weights.specs.Terms.{row_of, holds_rows, weighed_by};
-ghost use Rattle.weights.specs.TermSums.{weighed_terms};
+ghost use Rattle.bundles.specs.TermReading.{term_fields};
+ghost use Rattle.weights.specs.Terms.{weighed_terms, weighed_by};
+ghost use Rattle.weights.specs.TermSums.{HasRoom, with_term};
 ghost use Rattle.weights.specs.Totals.{max_number, added_weight, added, sums_hold};
 
-use bundles::fields::{byte_up_to, number_from};
-use bundles::terms::read_term;
-use bundles::{Field, Term, TermRead};
+use bundles::Reader;
+use bundles::terms::Term;
 use heads::TakenHead;
 use limits::{MAX_EVENTS, MAX_TERMS};
 use places::has_bit;
 use refusals::Refusal;
-use rows::{ROW, counts_of};
-use slices::{byte_at, number_at};
+use rows::{Counts, ROW, counts_of};
+use slices::number_at;
 
 // The largest two-byte number.
 const NUMBER: u32 = 65535;
-
-// Weights that were read: they hold or fail, with the offset behind them; or a refusal.
-#[derive(Clone, Copy)]
-pub enum Weighed {
-    Holds(usize),
-    Fails(usize),
-    Refused(Refusal),
-}
-
-// A two-byte number, widened.
-fn wide(number: u16) -> u32
-    ensures { (result ≡ number) × (result ≤ max_number) }
-{
-    number as u32
-}
-
-// [a = b]: 1 if true, else 0.
-fn one_if_same(a: usize, b: usize) -> u32
-    ensures { (result ≡ same a b) × (result ≤ 1) }
-{
-    if a == b {
-        return 1;
-    }
-    0
-}
 
 // A weight as it is added to the sums: 0 once all weights sum up to more than two bytes. The certificate fails then, and the sums stay in 32 bits.
 fn added_weight(total: u32, weight: u32) -> u32
     ensures { result ≡ added_weight total weight }
 {
-    if total <= NUMBER {
-        return weight;
-    }
-    0
+    if total <= NUMBER { weight } else { 0 }
 }
 
-// Adds weight × count at each event.
-fn add_counts(sums: &mut [u32], counts: &[u16], weight: u32)
-    requires { (length sums.old ≡ max_events)
-        × (max_events ≤ length counts.now)
-        × ((i : ℕ) → at sums.old i + weight * at counts.now i ≤ max_number * max_number) }
+// Adds weight × count at each event. An index into the sums: nothing is known of a list behind a `zip` over its `iter_mut`.
+fn add_counts(sums: &mut [u32; MAX_EVENTS], counts: &Counts, weight: u32)
+    requires { (i : ℕ) → at sums.old i + weight * at counts.now i ≤ max_number * max_number }
     ensures { sums.new ≡ added weight (at counts.now) sums.old }
 {
-    let mut i = 0;
-    while i < MAX_EVENTS {
-        sums[i] = sums[i] + weight * wide(counts[i]);
-        i += 1;
+    for (i, count) in counts.iter().enumerate() {
+        sums[i] += weight * u32::from(*count);
     }
 }
 
-// Whether the last two inequalities hold for the event after the counts. At each event i, `before` sums g × u(i), and `of_event` g where f = i.
-// One chain of tests for both: then the compiler keeps the sums in vectors, also while terms are added.
-fn sums_hold(
-    before: &[u32; MAX_EVENTS],
-    of_event: &[u32; MAX_EVENTS],
-    k: u32,
-    counts: &[u16],
-    event: usize,
-) -> bool
-    requires { (max_events ≤ length counts.now)
-        × (k ≤ max_number)
-        × ((i : ℕ) → at before.now i ≤ max_number * max_number)
-        × ((i : ℕ) → at of_event.now i ≤ max_number) }
-    ensures { result ≡ sums_hold before.now of_event.now counts.now event k }
-{
-    let mut hold = true;
-    let mut i = 0;
-    while i < MAX_EVENTS {
-        let count = wide(counts[i]);
-        let sum = before[i];
-        hold = hold
-            & ((sum <= k * count) & (k * (count + one_if_same(event, i)) <= sum + of_event[i]));
-        i += 1;
-    }
-    hold
+// The sums of a certificate's terms: of the weights g; at each event i, `before` sums g × u(i), and `of_event` g where f = i; and whether the steps
+// of all terms are allowed.
+#[derive(Drop)]
+struct Sums {
+    total: u32,
+    before: [u32; MAX_EVENTS],
+    of_event: [u32; MAX_EVENTS],
+    allowed: bool,
 }
 
-// The term at an offset, as `read_term` reads it, but faster where it is there and in range: its five bytes are tested for at once.
-fn next_term(bundle: &[u8], at: usize, n: usize, rows: usize) -> TermRead
-    ensures { term_read_of result ≡ term n rows bundle.now at }
+impl Sums {
+    // Adds a term, whose row is in the table.
+    #[inline(always)]
+    fn add(&mut self, table: &[u16], term: &Term)
+        requires { HasRoom table.now self.old (term_fields term.now) }
+        ensures { self.new ≡ with_term table.now self.old (term_fields term.now) }
+    {
+        let row = usize::from(term.row);
+        let event = usize::from(term.event);
+        self.total += u32::from(term.weight);
+        let weight = added_weight(self.total, u32::from(term.weight));
+        add_counts(&mut self.before, counts_of(table, row), weight);
+        self.of_event[event] += weight;
+        self.allowed &= has_bit(table[ROW * row + MAX_EVENTS], event);
+    }
+
+    // Whether the last two inequalities hold with k for the event after the counts. One chain of tests for both: then the compiler keeps the sums in
+    // vectors, also while terms are added.
+    #[inline(always)]
+    fn hold(&self, k: u32, counts: &Counts, event: usize) -> bool
+        requires { (k ≤ max_number)
+            × ((i : ℕ) → at self.now.before i ≤ max_number * max_number)
+            × ((i : ℕ) → at self.now.of_event i ≤ max_number) }
+        ensures { result ≡ sums_hold self.now.before self.now.of_event counts.now event k }
+    {
+        let mut hold = true;
+        for (i, count) in counts.iter().enumerate() {
+            let count = u32::from(*count);
+            let sum = self.before[i];
+            hold &= (sum <= k * count)
+                & (k * (count + u32::from(event == i)) <= sum + self.of_event[i]);
+        }
+        hold
+    }
+}
+
+// The next term, as `Reader::term` reads it, but faster where it is there and in range: its five bytes are tested for at once.
+#[inline(always)]
+fn next_term(reader: &mut Reader, n: usize, rows: usize) -> Result<Term, Refusal>
+    ensures { ReadAs term_fields reader.old reader.new result (term n rows) }
 {
-    if 5 <= bundle.len() && at <= bundle.len() - 5 {
-        let row = number_at(bundle, at);
-        let event = byte_at(bundle, at + 2);
-        let weight = number_at(bundle, at + 3);
-        if row < rows && event < n {
-            return TermRead::Read(Term { row, event, weight }, at + 5);
+    let bytes = reader.bytes;
+    let at = reader.at;
+    if 5 <= bytes.len().saturating_sub(at) {
+        let row = number_at(bytes, at);
+        let event = bytes[at + 2];
+        if usize::from(row) < rows && usize::from(event) < n {
+            reader.at = at + 5;
+            let weight = number_at(bytes, at + 3);
+            return Ok(Term { row, event, weight });
         }
     }
-    read_term(bundle, at, n, rows)
+    reader.term(n, rows)
 }
 
-// Weights that were read up to an offset, by whether they hold.
-fn judged(holds: bool, next: usize) -> Weighed
-    ensures { result ≡ cond holds (Weighed.Holds next) (Weighed.Fails next) }
-{
-    if holds {
-        return Weighed::Holds(next);
+// A step that is to be certified: the event after the counts of a row, of a bundle whose head is taken.
+#[derive(Clone, Copy)]
+pub struct Step<'a> {
+    pub head: &'a TakenHead<'a>,
+    pub row: usize,
+    pub event: u8,
+    pub ghost row_there: { row < head.now.rows },
+    pub ghost event_there: { event < head.now.net.n },
+}
+
+impl Step<'_> {
+    ghost use Rattle.weights.specs.Steps.{counts_before, holds_for};
+
+    // The counts before the event.
+    #[inline(always)]
+    pub fn counts(&self) -> &Counts
+        ensures { (result.now ≡ counts_before self.now) × (length result.now ≡ max_events) }
+    {
+        counts_of(self.head.table, self.row)
     }
-    Weighed::Fails(next)
-}
 
-// Reads so many terms at an offset, adds them up, and says whether they hold with k for the event after the counts of a row.
-fn weigh_terms(
-    bundle: &[u8],
-    at: usize,
-    count: usize,
-    head: TakenHead,
-    table: &[u16],
-    row: usize,
-    event: usize,
-    k: u32,
-) -> Weighed
-    requires head_held { HeadHeld bundle.now table.now head }
-    requires count_bound { (count ≤ max_terms) × (row < head.rows) × (k ≤ max_number) }
-    ensures { result ≡ weighed_terms (holds_rows (rows_of head.rows table.now) (row_of (rows_of head.rows table.now) row).counts event k) (times count (term head.n head.rows) bundle.now at) }
-{
-    let mut before = [0u32; MAX_EVENTS];
-    let mut of_event = [0u32; MAX_EVENTS];
-    let mut total = 0u32;
-    let mut allowed = true;
-    let mut next = at;
-    let mut left = count;
-    while 0 < left {
-        match next_term(bundle, next, head.n, head.rows) {
-            TermRead::Refused(refusal) => return Weighed::Refused(refusal),
-            TermRead::Read(term, after) => {
-                let from = term.row;
-                let by = term.event;
-                total += term.weight as u32;
-                let weight = added_weight(total, term.weight as u32);
-                add_counts(&mut before, counts_of(table, from), weight);
-                of_event[by] = of_event[by] + weight;
-                allowed = allowed & has_bit(table[ROW * from + MAX_EVENTS], by);
-                next = after;
-                left -= 1;
-            }
+    // Reads so many terms, and says whether they hold with k for the step.
+    fn weigh_terms(&self, reader: &mut Reader, count: u8, k: u16) -> Result<bool, Refusal>
+        requires { count ≤ max_terms }
+        ensures { ReadBy reader.old reader.new result (weighed_terms (holds_for self.now k) (times count (term self.now.head.now.net.n self.now.head.now.rows))) }
+    {
+        let TakenHead { net, rows, table } = *self.head;
+        let mut sums = Sums {
+            total: 0,
+            before: [0; MAX_EVENTS],
+            of_event: [0; MAX_EVENTS],
+            allowed: true,
+        };
+        let n = usize::from(net.n);
+        for _term in 0..count {
+            let term = next_term(reader, n, rows)?;
+            sums.add(table, &term);
         }
+        let k = u32::from(k);
+        let holds = sums.hold(k, self.counts(), usize::from(self.event));
+        Ok(sums.allowed & (sums.total <= k) & holds)
     }
-    let holds = sums_hold(&before, &of_event, k, counts_of(table, row), event);
-    judged(allowed & (total <= k) & holds, next)
-}
 
-// Reads k, the term count and the terms of a certificate, and says whether its weights hold for the event after the counts of a row.
-// All of it is read before the answer. (Inner function.)
-pub fn read_weights(
-    bundle: &[u8],
-    at: usize,
-    head: TakenHead,
-    table: &[u16],
-    row: usize,
-    event: usize,
-) -> Weighed
-    requires head_held { HeadHeld bundle.now table.now head }
-    requires row_lt_rows { (row < head.rows) × (event < head.n) }
-    ensures { result ≡ weighed_by (holds_rows (rows_of head.rows table.now) (row_of (rows_of head.rows table.now) row).counts event) (weights (head_of bundle.now) bundle.now at) }
-{
-    match number_from(bundle, at, 1) {
-        Field::Refused(refusal) => Weighed::Refused(refusal),
-        Field::Value(k, second) => match byte_up_to(bundle, second, MAX_TERMS) {
-            Field::Refused(refusal) => Weighed::Refused(refusal),
-            Field::Value(count, third) => {
-                weigh_terms(bundle, third, count, head, table, row, event, k as u32)
-            }
-        },
+    // Reads k, the term count and the terms of a certificate, and says whether its weights hold for the step. All of it is read before the answer.
+    // (Inner function.)
+    pub fn read_weights(&self, reader: &mut Reader) -> Result<bool, Refusal>
+        ensures { ReadBy reader.old reader.new result (weighed_by (holds_for self.now) (weights (head_of self.now.head.now.net.bundle.now))) }
+    {
+        let k = reader.number(|k| 1 <= k)?;
+        let count = reader.byte(|count| usize::from(count) <= MAX_TERMS)?;
+        self.weigh_terms(reader, count, k)
     }
 }

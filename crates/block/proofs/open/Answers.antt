@@ -1,60 +1,50 @@
 -- `block::open` meets its contract: at each return the tests that led there say which case of `opened` holds.
-use mathlib.Core.Path.{◌≡◌, sym, ap, ◌∙◌}
-use mathlib.Core.Bool.{true}
-use native.Mathlib.Omega.{arith}
-use lib.ListN.{length}
-use Rattle.refusals.specs.Results.{refused}
+use Rattle.std.proofs.lemmas.Result.{err_from_is_err_and}
+use Rattle.std.proofs.Common.{◌≡◌, true, sym, ◌∙◌, arith, length}
+use Rattle.refusals.specs.Results.{value}
 use Rattle.refusals.proofs.Laws.{ends-refused, ends-short, ends-written}
-use Rattle.refusals.specs.declared.Refusal.{Refusal}
-use Rattle.block.specs.File.{block_count, first_fault, Sound, right_length}
-use Rattle.block.specs.OpenLaws.{right_length-whole, opened-length, opened-fault, opened-bundle, opened-sound}
+use Rattle.block.specs.Faults.{none-as_result, some-as_result}
+use Rattle.block.specs.File.{first_fault, right_length, bundle_of, opened}
+use Rattle.block.specs.OpenLaws.{opened-length, opened-fault, opened-bundle, opened-sound}
 use Rattle.laws.specs.Clauses.{value-output_after}
 use Rattle.block.proofs.open.Goals as goal
-use Rattle.block.proofs.open.Goals.{Else-fault-ne0, Else-not-length_fits}
+use Rattle.block.proofs.open.Goals.{Else-not-length_fits, In_ok-first_fault}
 
 -- past the first test the file's length is right
 fits : (c : Else-not-length_fits) → right_length (length c.args.file.now) ≡ true
 fits c = sym c.length_fits.ensures ∙ c.if-not-length_fits.false
 
 -- past the second no block has a fault
-none : (c : Else-fault-ne0) → (first_fault c.args.file.now).number ≡ 0
-none c = ap (λ (r : Refusal). r.number) (sym c.first_fault-fault.ensures) ∙ c.if-fault-ne0.false
+none : (c : In_ok-first_fault) → (first_fault c.args.file.now).number ≡ 0
+none c = none-as_result _ _ (sym c.first_fault.ensures ∙ c.in_ok-first_fault.was)
 
-sound : (c : Else-fault-ne0) → Sound c.args.file.now
-sound c = opened-sound _ (fits (goal.at.Else-fault-ne0 c).Else-not-length_fits) (none c)
+-- so opening gives the bundle
+gives : (c : In_ok-first_fault) → opened c.args.file.now ≡ value (bundle_of c.args.file.now)
+gives c = opened-bundle _ (fits (goal.at.In_ok-first_fault c).Else-not-length_fits) (none c)
 
 pub returns-then-not-length_fits : goal.returns-then-not-length_fits
 returns-then-not-length_fits c =
-    let t = c in
-    rw c.refused.ensures (value-output_after (ends-refused _ _ _ _ (opened-length _ (sym t.length_fits.ensures ∙ t.if-not-length_fits.true))))
+    rw c.at.ensures (value-output_after (ends-refused _ _ _ _ (opened-length _ (sym c.length_fits.ensures ∙ c.if-not-length_fits.true))))
 
-pub first_fault-fault-requires : goal.first_fault-fault-requires
-unfolding block_count
-first_fault-fault-requires c = (right_length-whole _ (fits c)).1
+pub returns-in_err-first_fault : goal.returns-in_err-first_fault
+returns-in_err-first_fault c =
+    let p = err_from_is_err_and c.from_residual.result c.from_residual.ensures.1 in
+    let fault = some-as_result _ _ (sym c.first_fault.ensures ∙ c.in_err-first_fault.was) in
+    let refused = opened-fault _ (fits (goal.at.returns-in_err-first_fault c).Else-not-length_fits) fault.0 in
+    rw (p.1, p.2, ← fault.1) (value-output_after (ends-refused _ _ _ _ refused))
 
-pub returns-then-fault-ne0 : goal.returns-then-fault-ne0
-returns-then-fault-ne0 c =
-    let call = c in
-    let e = call.first_fault-fault.ensures in
-    value-output_after (ends-refused _ _ _ _ (opened-fault _ (fits (goal.at.returns-then-fault-ne0 c).Else-not-length_fits) (λ z. c.if-fault-ne0.true (ap (λ (r : Refusal). r.number) e ∙ z)) ∙ ap (λ (r : Refusal). refused r.number r.spot) (sym e)))
+pub invariant_of-sound : goal.invariant_of-sound
+invariant_of-sound c =
+    let at = goal.at.invariant_of-sound c in
+    record { sound = opened-sound _ (fits at.Else-not-length_fits) (none at.In_ok-first_fault) }
 
 pub returns-then-output-length : goal.returns-then-output-length
 returns-then-output-length c =
-    let call = c in
-    let d = call in
-    rw (c.refused-then-output-length.ensures, call.bundle_length-length.ensures)
-    (value-output_after (ends-short _ _ _ (opened-bundle _ (fits (goal.at.returns-then-output-length c).Else-not-length_fits) (none (goal.at.returns-then-output-length c).Else-fault-ne0)) (omega (arith, call.bundle_length-length.ensures))))
-
-pub write_bundle-requires : goal.write_bundle-requires
-write_bundle-requires c = record { sound = sound (goal.at.write_bundle-requires c).Else-fault-ne0; file_in_bounds = omega (arith, c.bundle_length-length.ensures) }
+    let size = c.bundle_length-length.ensures in
+    rw (c.at-then-output-length.ensures, size)
+    (value-output_after (ends-short _ _ _ (gives (goal.at.returns-then-output-length c).In_ok-first_fault) (omega (arith, size))))
 
 pub returns : goal.returns
 returns c =
-    let after = c in
-    let call = after in
-    let d = call in
-    rw (after.write_bundle.ensures, call.bundle_length-length.ensures)
-    (value-output_after (ends-written _ _ _ (opened-bundle _ (fits (goal.at.returns c).Else-not-length_fits) (none (goal.at.returns c).Else-fault-ne0)) (omega (arith, call.bundle_length-length.ensures))))
-
-pub bundle_length-length-requires : goal.bundle_length-length-requires
-bundle_length-length-requires c = sound c
+    let size = c.bundle_length-length.ensures in
+    rw (c.write_bundle.ensures, size) (value-output_after (ends-written _ _ _ (gives (goal.at.returns c).In_ok-first_fault) (omega (arith, size))))

@@ -1,57 +1,47 @@
--- `certificates::check_place` meets its contract: the place is read from its bytes and tested with the counts of the row.
-use mathlib.Core.Path.{◌≡◌, sym, ap, ◌∙◌}
-use Prim.Native.Nat.{◌+◌, ◌*◌, ◌≤◌}
-use native.Mathlib.Omega.{arith}
-use borrow.Author.Tests.{ltb-true}
-use lib.ListN.{length, drop}
-use Rattle.rows.specs.Rows.{row_size, row_at}
-use Rattle.bundles.specs.Reading.{got, byte}
-use Rattle.bundles.specs.FieldReading.{read_of, below, byte-got}
-use Rattle.bundles.specs.PlaceReading.{place_size, place_inside}
-use Rattle.certificates.specs.Certifying.{permits_at}
-use Rattle.certificates.specs.CheckLaws.{place-permitted, place-refused, place_unread}
+-- `certificates::check_place` meets its contract: the place is tested with the counts of the row.
+use Rattle.std.proofs.Common.{◌≡◌, ◌∙◌, ℕ, Ok, not, sym, ap, rules, arith, ltb-true}
+use Rattle.std.proofs.lemmas.Result.{err_from_is_err_and}
+use Rattle.refusals.specs.Table.{place_permits_number}
+use Rattle.bundles.specs.Reading.{require, byte}
+use Rattle.bundles.specs.FieldReading.{below, byte-got}
+use Rattle.bundles.specs.Chains.{ReadBy, read_got, then-refused}
+use Rattle.certificates.specs.Certifying.{permits_for}
+use Rattle.certificates.specs.CheckLaws.{tested_passed, tested-refused}
 use Rattle.certificates.proofs.check_place.Goals as goal
-use Rattle.certificates.proofs.check_place.Goals.{After-place_permits, In-Value}
+use Rattle.certificates.proofs.check_place.Goals.{In_ok-place, After-permits}
 
 -- the place's number
-number : (c : In-Value) → let a = c.args in byte (below a.head.places.count) a.bundle.now a.at ≡ got c.in-Value.j c.in-Value.next
-unfolding read_of
-number c = sym c.byte_below.ensures ∙ ap read_of c.in-Value.is
+read : (c : In_ok-place) → ReadBy c.args.reader.now c.byte.new.self (Ok c.in_ok-place.place) (byte (below c.args.step.now.head.now.net.count))
+read c = c.in_ok-place.ensures (below c.args.step.now.head.now.net.count) (λ x small b answer. search rules)
 
--- the place lies in the bundle
-inside : (c : In-Value) → let a = c.args in a.head.places.first + 2 * (c.in-Value.j * place_size a.head.n) + 2 * place_size a.head.n ≤ length a.bundle.now
-inside c =
-    let start = c in
-    place_inside start.args.head.n start.args.head.places.first start.args.head.places.count c.in-Value.j (length start.args.bundle.now) (ltb-true _ _ (byte-got _ _ _ _ _ (number c)).0) start.requires.head_held.found.inside
+pub returns-in_err-place : goal.returns-in_err-place
+returns-in_err-place c =
+    let q = err_from_is_err_and c.from_residual.result c.from_residual.ensures.1 in
+    let s = c.args.step.now in
+    let place = c.in_err-place.ensures (below s.head.now.net.count) (λ x small b answer. search rules) in
+    rw (q.1, q.2) (then-refused (λ (j : ℕ). require (not (permits_for s j)) place_permits_number c.args.number) place)
 
-pub overflow_mul-place-in-Value : goal.overflow_mul-place-in-Value
-overflow_mul-place-in-Value c = omega (arith, inside c)
+pub permits-requires : goal.permits-requires
+permits-requires c =
+    let s = c.args.step.now in
+    let held = s.head.now.held in
+    let place = read (goal.at.permits-requires c).In_ok-place in
+    let listed = ltb-true _ _ (byte-got (below s.head.now.net.count) _ _ _ _ (read_got place)).0 in
+    (held.found, omega (arith, c.from.ensures, listed), omega (arith, held.found.limits, c.counts.ensures.1), omega (arith, c.from-2.ensures, s.event_there))
 
-pub overflow_mul-place-in-Value-2 : goal.overflow_mul-place-in-Value-2
-overflow_mul-place-in-Value-2 c = omega (arith, inside c)
+-- the test of the place
+tested : (c : After-permits) → permits_for c.args.step.now c.in_ok-place.place ≡ c.permits.result
+tested c = sym (c.permits.ensures ∙ rw (c.from.ensures, c.counts.ensures.0, c.from-2.ensures))
 
-pub overflow_add-place-in-Value : goal.overflow_add-place-in-Value
-overflow_add-place-in-Value c = omega (arith, inside (goal.at.overflow_add-place-in-Value c).In-Value)
+pub returns-then-permits : goal.returns-then-permits
+returns-then-permits c =
+    let s = c.args.step.now in
+    let here = goal.at.returns-then-permits c in
+    rw c.at.ensures
+    (tested-refused (λ (j : ℕ). not (permits_for s j)) place_permits_number c.args.number (read here.In_ok-place) (ap not (tested here.After-permits ∙ c.if-permits.true)))
 
-pub place_permits-requires : goal.place_permits-requires
-place_permits-requires c =
-    let known = c in
-    let start = known in
-    (start.requires.head_held.found.limits.1, start.requires.row_lt_rows.1, inside (goal.at.place_permits-requires c).In-Value, omega (arith, c.counts_of.ensures.1, start.requires.head_held.found.limits))
-
--- the place is tested with the counts of the row
-tested : (c : After-place_permits) → let known = c in let a = known.args in
-    permits_at a.head.n a.bundle.now a.head.places.first (row_at (drop (row_size * a.row) a.table.now)).counts a.event known.in-Value.j ≡ c.place_permits.result
-tested c = sym (c.place_permits.ensures ∙ rw c.counts_of.ensures.0)
-
-pub returns-then-place_permits : goal.returns-then-place_permits
-returns-then-place_permits c = place-permitted _ _ (number (goal.at.returns-then-place_permits c).In-Value) (tested (goal.at.returns-then-place_permits c).After-place_permits ∙ c.if-place_permits.true)
-
-pub returns-in-Refused : goal.returns-in-Refused
-unfolding read_of
-returns-in-Refused c =
-    let call = c in
-    place_unread _ _ (sym call.byte_below.ensures ∙ ap read_of c.in-Refused.is)
-
-pub returns-else-place_permits : goal.returns-else-place_permits
-returns-else-place_permits c = place-refused _ _ (number (goal.at.returns-else-place_permits c).In-Value) (tested (goal.at.returns-else-place_permits c).After-place_permits ∙ c.if-place_permits.false)
+pub returns : goal.returns
+returns c =
+    let s = c.args.step.now in
+    let here = goal.at.returns c in
+    tested_passed (λ (j : ℕ). not (permits_for s j)) place_permits_number c.args.number (read here.In_ok-place) (ap not (tested here.After-permits ∙ c.if-permits.false))

@@ -1,43 +1,35 @@
-use native.Mathlib.Omega.{arith}
-use borrow.Author.Rules.{rules}
-use Rattle.rows.specs.IndexLaws.{index_none}
-use Rattle.heads.specs.Taken.{taken_start, taken_next, taken-failed, taken-done, reindexed}
+use Rattle.std.proofs.Common.{◌≡◌, ◌+◌, ◌-◌, ◌<◌, refl, ◌∙◌, rules, arith}
+use Rattle.std.proofs.lemmas.Result.{err_from_is_err_and}
+use Rattle.heads.specs.Taken.{taken_start, taken_next, taken-failed, taken-done}
 use Rattle.heads.proofs.take_words.Goals as goal
 
-pub index_rows-requires : goal.index_rows-requires
-index_rows-requires c = (omega arith, omega arith, omega arith, omega (arith, c.requires.1.long), index_none _)
+pub loop-word-init : goal.loop-word-init
+loop-word-init c =
+    let all : c.args.count - 0 ≡ c.args.count = omega arith in
+    let new = c.new-log.ensures in
+    (refl, rw (all, new.0, new.1) (taken_start _ _ _ _ _ c.requires.0 c.requires.1.first), rw new.0 new.2)
 
-pub loop-left-init : goal.loop-left-init
-loop-left-init c =
-    let call = c in
-    let start = call in
-    let a = start.args in
-    (taken_start a.n a.bundle.now a.at a.count a.table.now start.requires.0 start.requires.1.first, search rules, search rules, call.index_rows.ensures)
+pub take_word-requires-clause-bounds : goal.take_word-requires-clause-bounds
+take_word-requires-clause-bounds c =
+    let i = c.loop-word.invariant in
+    let s = i.1.held in
+    (c.requires.0, s.few, s.limit, omega (arith, c.requires.1.long, s.same), rw i.0 c.requires.2)
 
-pub take_word-taken-requires : goal.take_word-taken-requires
-take_word-taken-requires c =
-    let l = c in
-    let p = l.requires in
-    let i = l.loop-left.invariant in
-    let s = i.0.held in
-    record { n_bound = (p.0, s.few, s.limit, omega (arith, p.1.long, s.same)); index = (i.3, omega (arith, i.1), omega (arith, i.2)) }
+pub returns-in_err-take_word : goal.returns-in_err-take_word
+returns-in_err-take_word c =
+    let q = err_from_is_err_and c.from_residual.result c.from_residual.ensures.1 in
+    let i = c.loop-word.invariant in
+    let more : 0 < c.args.count - c.loop-word._word = omega arith in
+    let one = rw (i.0, c.in_err-take_word.was) at (c.take_word.ensures.one_more _ _ i.1.held) in
+    rw (q.1, q.2) (taken-failed _ _ _ _ _ i.1 more one.0 one.1)
 
-pub returns-in_default : goal.returns-in_default
-returns-in_default c =
-    let call = c in
-    let l = call.loop-left in
-    taken-failed _ _ _ _ _ l.invariant.0 call.loop-left-test.true _ _ (call.take_word-taken.ensures.one_more _ _ l.invariant.0.held) c.in_default.is
-
-pub loop-left-preserved : goal.loop-left-preserved
-loop-left-preserved c =
-    let call = c in
-    let l = call.loop-left in
-    let told = c.in-Taken.is in (
-      taken_next _ _ _ _ _ l.invariant.0 call.loop-left-test.true _ _ (call.take_word-taken.ensures.one_more _ _ l.invariant.0.held) told,
-      search rules,
-      search rules,
-      reindexed _ _ _ told call.take_word-taken.ensures.reindexed,
-    )
+pub loop-word-preserved : goal.loop-word-preserved
+loop-word-preserved c =
+    let i = c.loop-word.invariant in
+    let more : 0 < c.args.count - c.loop-word._word = omega arith in
+    let less : c.args.count - (c.loop-word._word + 1) ≡ c.args.count - c.loop-word._word - 1 = omega arith in
+    let one = rw (c.in_ok-take_word.was) at (c.take_word.ensures.one_more _ _ i.1.held) in
+    (one.0 ∙ i.0, rw less (taken_next _ _ _ _ _ i.1 more {w = one.1.0} (rw i.0 at one.1.1) one.1.2), search rules)
 
 pub returns : goal.returns
-returns c = taken-done _ _ _ _ _ c.loop-left.invariant.0 c.loop-left-test.false
+returns c = (c.loop-word.invariant.0, taken-done _ _ _ _ _ c.loop-word.invariant.1 (omega arith))

@@ -1,34 +1,31 @@
 -- `judging::judge_fields` meets its contract: the head, then what follows it.
-use mathlib.Core.Path.{sym, ap, ◌∙◌, subst}
+use Rattle.std.proofs.Common.{◌∙◌, List, ℕ, sym, ap}
+use Rattle.std.specs.Borrow.{Bor}
+use Rattle.std.proofs.lemmas.Result.{err_from_is_err_and}
+use Rattle.bundles.specs.Readers.{head_of}
+use Rattle.bundles.specs.PlaceReading.{behind}
 use Rattle.verdicts.specs.Judging.{verdict_of}
-use Rattle.heads.specs.Heads.{HeadIs}
-use Rattle.heads.specs.declared.HeadTaken.TheVariants as heads-taken
-use Rattle.judging.specs.JudgeLaws.{judging-failed, judging-got, table-left, table-refused}
+use Rattle.judging.specs.JudgeLaws.{afterwards, judging-failed, judging-got, table-left, table-refused}
 use Rattle.judging.proofs.judge_fields.Goals as goal
-use Rattle.judging.proofs.judge_fields.Goals.{In-Taken}
 
--- the head that was taken
-taken : (c : In-Taken) → let start = c in
-    HeadIs start.args.bundle.now start.args.table.now c.take_head.new.table (heads-taken.Taken c.in-Taken.head)
-taken c =
-    let start = c in
-    subst (HeadIs start.args.bundle.now start.args.table.now c.take_head.new.table) c.in-Taken.is c.take_head.ensures
-
-pub judge_net-requires : goal.judge_net-requires
-judge_net-requires c = (taken c).1
-
-pub returns-in-Refused : goal.returns-in-Refused
+pub returns-in_err-net-clause-value : goal.returns-in_err-net-clause-value
 unfolding verdict_of
-returns-in-Refused c =
-    let call = c in
-    let start = call in
-    let b = start.args.bundle.now in
-    let a = subst (HeadIs b start.args.table.now call.take_head.new.table) c.in-Refused.is call.take_head.ensures in
-    record { value = sym (ap verdict_of (judging-failed b a.0)); table_left = table-refused b a.0 start.args.table.now call.take_head.new.table a.1 }
+returns-in_err-net-clause-value c =
+    let q = err_from_is_err_and c.from_residual.result c.from_residual.ensures.1 in
+    rw (q.1, q.2) (sym (ap verdict_of (judging-failed c.args.bundle.now c.in_err-net.ensures.0)))
 
-pub returns-in-Taken : goal.returns-in-Taken
-returns-in-Taken c =
-    let d = c in
-    let b = d.args.bundle.now in
-    let t = taken (goal.at.returns-in-Taken c).In-Taken in
-    record { value = c.judge_net.ensures ∙ ap verdict_of (sym (judging-got b t.0)); table_left = table-left b t.0 t.2 t.1.few t.1.room }
+pub returns-in_err-net-clause-table_left : goal.returns-in_err-net-clause-table_left
+returns-in_err-net-clause-table_left c =
+    table-refused c.args.bundle.now c.in_err-net.ensures.0 c.args.table.now c.take_head.new.table c.in_err-net.ensures.1
+
+pub returns-clause-value : goal.returns-clause-value
+returns-clause-value c =
+    let taken = c.in_ok-net.ensures in
+    c.judge_net.ensures
+    ∙ ap (λ (b : Bor (List ℕ)). verdict_of (afterwards (head_of b.now) b.now (behind c.in_ok-net.net))) taken.0
+    ∙ ap verdict_of (sym (judging-got c.args.bundle.now taken.1))
+
+pub returns-clause-table_left : goal.returns-clause-table_left
+returns-clause-table_left c =
+    let taken = c.in_ok-net.ensures in
+    table-left c.args.bundle.now taken.1 taken.3 taken.2.few taken.2.room

@@ -1,21 +1,14 @@
-use borrow.Author.Rules.{rules}
-use mathlib.Core.Path.{◌≡◌}
+-- `logs::clear` meets its contract: the front is filled with zeros.
+use Rattle.std.specs.Prelude.{◌≡◌, ℕ, List, ◌++◌, ◌≤◌, length, take, drop, replicate}
 use native.Mathlib.Omega.{arith}
-use lib.ListN.{length-set}
+use lib.ListN.{length-take}
+use Rattle.rows.specs.Rows.{cleared}
 use Rattle.logs.specs.Answers.{table_size}
-use Rattle.rows.specs.Searching.{clear_none, clear-more}
 use Rattle.logs.proofs.clear.Goals as goal
 
-pub loop-i-init : goal.loop-i-init
-loop-i-init c = (search rules, search rules, clear_none _)
-
-pub loop-i-preserved : goal.loop-i-preserved
-loop-i-preserved c =
-    let l = c.loop-i in
-    (omega arith, simp length-set l.invariant.1, rw l.invariant.2 (clear-more l.i _ (omega arith)))
+front_filled : (k : ℕ) (t front : List ℕ) → k ≤ length t → front ≡ replicate (length (take k t)) 0 → front ++ drop k t ≡ cleared k t
+unfolding cleared
+front_filled k t front h e = let size : length (take k t) ≡ k = simp length-take (omega (arith, h)) in rw (e, size)
 
 pub returns : goal.returns
-returns c =
-    let l = c.loop-i in
-    let end : l.i ≡ table_size = omega arith in
-    cc l.invariant.2
+returns c = front_filled table_size c.args.table.now c.fill.new.self c.requires (c.fill.ensures.after (λ y e. e))

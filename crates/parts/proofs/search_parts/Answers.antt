@@ -1,39 +1,31 @@
--- `parts::search_parts` meets its contract.
-use mathlib.Core.Path.{◌≡◌, ◌∙◌}
-use mathlib.Core.List.{[]}
-use native.Mathlib.Omega.{arith}
-use borrow.Author.Rules.{rules}
-use lib.IntN.{pos}
-use lib.ListN.{length, take, length-take}
-use Rattle.laws.specs.Parts.{get_d_padded}
-use Rattle.stops.specs.Positions.{best-cut}
+use Rattle.std.proofs.Common.{arith, rules, ◌≡◌, ◌∙◌, refl, length, take, length-take}
+use borrow.Rule.Slice.Prefix.{sl_ptr_pˢ}
+use Rattle.stops.specs.Positions.{stop_or_end}
+use Rattle.stops.specs.Onward.{onward-front, searchable-front}
 use Rattle.parts.specs.Parts.{long_word, marked_start, marked-cut, marked-whole}
 use Rattle.parts.proofs.search_parts.Goals as goal
 
-pub search_part-found-requires : goal.search_part-found-requires
-search_part-found-requires c =
-    let written = c in
-    let start = written in
-    let found = start.requires.0.found in
-    marked-cut start.requires.1 (omega arith)
-    (marked_start found.limits.1 found.inside start.requires.0.word found.few (search rules) written.write_initial.ensures (λ j. get_d_padded [] 64 j (pos 0)))
+pub search_part-requires : goal.search_part-requires
+search_part-requires c =
+    let s = c.args.search.now in
+    let found = c.requires.0.found in (
+      searchable-front s (sl_ptr_pˢ s.word long_word) long_word refl c.requires.0,
+      marked-cut c.requires.1 (omega arith) (marked_start found.limits.1 found.inside c.requires.0.word found.few (search rules) c.initial_tokens-marking.ensures (λ j. refl)),
+    )
 
-pub returns-then-found-lt-LONG : goal.returns-then-found-lt-LONG
-returns-then-found-lt-LONG c =
-    let call = c in
-    let start = call in
-    best-cut _ start.requires.1 call.search_part-found.ensures.best c.if-found-lt-LONG.true
+pub returns-in-Some-clause-late : goal.returns-in-Some-clause-late
+unfolding stop_or_end
+returns-in-Some-clause-late c =
+    let late = rw c.in-Some.is at c.search_part.ensures.late in
+    (omega arith, omega (arith, late.1, c.requires.1, length-take long_word c.args.search.now.word.now))
+
+pub returns-in-Some-clause-onward : goal.returns-in-Some-clause-onward
+returns-in-Some-clause-onward c =
+    let s = c.args.search.now in
+    onward-front s (sl_ptr_pˢ s.word long_word) long_word refl 0 s.net.count c.requires.1 (rw c.in-Some.is at c.search_part.ensures.onward)
 
 pub search_rest-requires : goal.search_rest-requires
 search_rest-requires c =
-    let call = c in
-    let start = call in
-    let word = start.args.word.now in
-    let size : length (take long_word word) ≡ long_word = length-take long_word word ∙ omega (arith, start.requires.1) in
-    marked-whole start.requires.1 start.requires.0.word (rw size at (call.search_part-found.ensures.marked (omega (arith, size, c.if-found-lt-LONG.false))))
-
-pub slice_bounds-search_part-end : goal.slice_bounds-search_part-end
-slice_bounds-search_part-end c = let start = c in omega (arith, length-take long_word start.args.word.now, start.requires.1)
-
-pub returns : goal.returns
-returns c = c.search_rest.ensures
+    let s = c.args.search.now in
+    let size : length (take long_word s.word.now) ≡ long_word = length-take long_word s.word.now ∙ omega (arith, c.requires.1) in
+    (c.requires.0, c.requires.1, marked-whole c.requires.1 c.requires.0.word (rw size at (c.search_part.ensures.marked c.in_default.is)))

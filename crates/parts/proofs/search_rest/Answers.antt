@@ -1,51 +1,49 @@
-use mathlib.Core.Path.{◌≡◌, ◌∙◌}
-use Prim.Native.Nat.{◌≤◌, ◌<◌}
-use native.Mathlib.Omega.{arith}
-use borrow.Author.Rules.{rules}
-use lib.ListN.{length, take, length-take}
-use Rattle.stops.specs.Positions.{best-cut}
-use Rattle.parts.specs.Parts.{marked-cut, marked-whole, best-all}
+use Rattle.std.proofs.Common.{arith, ◌≡◌, ◌∙◌, refl, None, min, ◌+◌, ◌<◌, ◌≤◌, length, take, length-take}
+use borrow.Rule.Slice.Prefix.{sl_ptr_pˢ}
+use Rattle.stops.specs.Positions.{stop_or_end}
+use Rattle.stops.specs.Onward.{onward-all, onward-front, searchable-front}
+use Rattle.parts.specs.Parts.{marked-cut, marked-whole}
 use Rattle.parts.proofs.search_rest.Goals as goal
-use Rattle.parts.proofs.search_rest.Goals.{After-smaller-end}
+use Rattle.parts.proofs.search_rest.Goals.{After-min-end}
 
 -- the end of a turn's part
-within : (c : After-smaller-end)
-    → let loop = c.loop-done in
-    let size = length c.args.word.now in
-    (c.smaller-end.result ≤ size) × (loop.done < c.smaller-end.result)
-within c = (omega (arith, c.smaller-end.ensures), omega (arith, c.smaller-end.ensures, c.loop-done-test.true))
+within : (c : After-min-end) → let size = length c.args.search.now.word.now in (c.min-end.result ≤ size) × (c.loop-done.done < c.min-end.result) × (min size c.loop-done.done ≡ c.loop-done.done)
+within c = (omega (arith, c.min-end.ensures), omega (arith, c.min-end.ensures), omega arith)
 
-pub search_part-found-requires : goal.search_part-found-requires
-search_part-found-requires c =
-    let smaller = c in
-    marked-cut (within (goal.at.search_part-found-requires c).After-smaller-end).0 (omega (arith, (within (goal.at.search_part-found-requires c).After-smaller-end).1)) smaller.loop-done.invariant.1
+pub search_part-requires : goal.search_part-requires
+search_part-requires c =
+    let s = c.args.search.now in
+    let part = within (goal.at.search_part-requires c).After-min-end in
+    let so_far = rw part.2 at c.loop-done.invariant in
+    (searchable-front s (sl_ptr_pˢ s.word c.min-end.result) c.min-end.result refl c.requires.0, marked-cut part.0 (omega (arith, part.1)) so_far)
 
-pub returns-then-found-end : goal.returns-then-found-end
-returns-then-found-end c =
-    let call = c in
-    best-cut _ (within (goal.at.returns-then-found-end c).After-smaller-end).0 call.search_part-found.ensures.best c.if-found-end.true
+pub returns-in-Some-clause-late : goal.returns-in-Some-clause-late
+unfolding stop_or_end
+returns-in-Some-clause-late c =
+    let part = within (goal.at.returns-in-Some-clause-late c).After-min-end in
+    let late = rw c.in-Some.is at c.search_part.ensures.late in
+    (omega arith, omega (arith, late.1, part.0, length-take c.min-end.result c.args.search.now.word.now))
+
+pub returns-in-Some-clause-onward : goal.returns-in-Some-clause-onward
+returns-in-Some-clause-onward c =
+    let s = c.args.search.now in
+    let part = within (goal.at.returns-in-Some-clause-onward c).After-min-end in
+    onward-front s (sl_ptr_pˢ s.word c.min-end.result) c.min-end.result refl 0 s.net.count part.0 (rw c.in-Some.is at c.search_part.ensures.onward)
 
 pub loop-done-preserved : goal.loop-done-preserved
 loop-done-preserved c =
-    let call = c in
-    let smaller = call in
-    let loop = smaller.loop-done in
-    let args = smaller.args in
-    let end = smaller.smaller-end.result in
-    let size : length (take end args.word.now) ≡ end = length-take end args.word.now ∙ omega (arith, (within (goal.at.loop-done-preserved c).After-smaller-end).0) in
-    let left = call.search_part-found.ensures.marked (omega (arith, size, c.if-found-end.false)) in (
-      search rules,
-      marked-whole (within (goal.at.loop-done-preserved c).After-smaller-end).0 loop.invariant.1.places.word (rw size at left),
-    )
+    let s = c.args.search.now in
+    let part = within (goal.at.loop-done-preserved c).After-min-end in
+    let size : length (take c.min-end.result s.word.now) ≡ min (length s.word.now) (c.loop-done.done + 4096) = length-take c.min-end.result s.word.now ∙ omega (arith, c.min-end.ensures, part.0) in
+    rw (← size) (marked-whole part.0 c.requires.0.word (c.search_part.ensures.marked c.in_default.is))
 
-pub returns : goal.returns
-returns c =
-    let loop = c.loop-done in
-    let args = c.args in
-    let m = loop.invariant.1 in
-    let end : length args.word.now ≡ loop.done = omega (arith, m.places.early, c.loop-done-test.false) in
-    rw (c.stop_at.ensures, ← end)
-    (best-all args.n args.bundle.now args.first args.count args.word.now (λ j h i l. (m.places.reached j h).permits i (omega (arith, end))))
+pub returns-clause-late : goal.returns-clause-late
+unfolding stop_or_end
+returns-clause-late c = (omega arith, omega arith)
 
-pub slice_bounds-search_part-end : goal.slice_bounds-search_part-end
-slice_bounds-search_part-end c = omega (arith, length-take c.smaller-end.result c.args.word.now, (within c).0)
+pub returns-clause-onward : goal.returns-clause-onward
+unfolding stop_or_end
+returns-clause-onward c =
+    let s = c.args.search.now in
+    let m = c.loop-done.invariant in
+    onward-all s 0 s.net.count None (λ j low high i h. (m.places.reached j (omega arith)).permits i (omega arith))

@@ -1,26 +1,21 @@
-use mathlib.Core.Path.{sym, ap, ◌∙◌}
-use mathlib.Core.Bool.{Bool, ◌&&◌}
-use Prim.Native.Nat.{ℕ}
-use native.Mathlib.Omega.{arith}
-use borrow.Author.Rules.{rules}
-use lib.Dec.{ltb}
-use lib.ListN.{get_or}
-use lib.Seq.{take_all}
-use Rattle.laws.specs.Lists.{all, all-taken}
+-- `places::all_below` meets its contract.
+use Rattle.std.proofs.Common.{◌≡◌, sym, ◌∙◌, Bool, true, ◌&&◌, List, [], ◌∷◌, ℕ, ltb, rules, tests}
+use Rattle.std.proofs.Math.Bool.{and-true, and_assoc}
+use Rattle.std.specs.List.{fold}
+use Rattle.laws.specs.Lists.{all}
+use Rattle.std.proofs.lemmas.Iterator.{YieldsList-from_slice}
+use Rattle.std.proofs.lemmas.Iterator.Consumers.{fold_from_yields_List}
 use Rattle.places.proofs.all_below.Goals as goal
 
-pub loop-i-init : goal.loop-i-init
+-- each event adds its test to the tests of those before it
+folded : (test : ℕ → Bool) (fit : Bool) (w : List ℕ) → fold (λ b e. b && test e) fit w ≡ fit && all test w
 unfolding all
-loop-i-init c = search rules
-
-pub loop-i-preserved : goal.loop-i-preserved
-loop-i-preserved c =
-    let loop = c.loop-i in
-    let args = c.args in
-    let test : ℕ → Bool = λ e. ltb e args.n in
-    (omega arith, ap (λ (b : Bool). b && test (get_or args.word.now loop.i 0)) loop.invariant.1 ∙ sym (all-taken test args.word.now loop.i 0 (omega arith)))
+folded test fit [] = sym (and-true fit)
+folded test fit (e ∷ w) = folded test (fit && test e) w ∙ and_assoc fit (test e) (all test w)
 
 pub returns : goal.returns
 returns c =
-    let at = c in
-    at.loop-i.invariant.1 ∙ ap (all (λ e. ltb e at.args.n)) (take_all at.loop-i.i at.args.word.now c.loop-i-test.false)
+    let test : ℕ → Bool = λ e. ltb e c.args.n in
+    let road = YieldsList-from_slice c.args.word.now cc in
+    fold_from_yields_List _ (λ fit e. fit && test e) true _ c.fold.ensures.ran road (λ a x b q k. search (rules, tests))
+    ∙ folded test true c.args.word.now

@@ -1,12 +1,15 @@
--- `places::first_bad` meets its contract.
-use mathlib.Core.Path.{sym, ◌∙◌}
-use Rattle.laws.specs.Scans.{all-failing}
-use Rattle.nets.specs.Events.{first_bad}
+-- `places::first_bad` meets its contract: all bytes are below a number that is none.
+use Rattle.std.specs.Prelude.{◌≡◌, true, List, [], ◌∷◌, ℕ, suc, ◌≤◌, ◌<◌, ltb, get_or}
+use Rattle.std.proofs.Common.{refl, lt-ltb, arith}
+use Rattle.laws.specs.Lists.{all}
+use Rattle.places.specs.Words.{bad_event}
 use Rattle.places.proofs.first_bad.Goals as goal
 
-pub returns-then-all_below : goal.returns-then-all_below
-unfolding first_bad
-returns-then-all_below c = sym (all-failing _ _ (sym c.all_below.ensures ∙ c.if-all_below.true))
+wide : (n : ℕ) → 256 ≤ n → (w : List ℕ) → ((i : ℕ) → get_or w i 0 < 256) → all (λ e. ltb e n) w ≡ true
+unfolding all
+wide n h [] bytes = refl
+wide n h (e ∷ w) bytes = let first = bytes 0 in rw (lt-ltb e n (omega (arith, first, h)), wide n h w (λ i. bytes (suc i))) refl
 
-pub returns : goal.returns
-returns c = c.search_bad.ensures
+pub returns-in-Err : goal.returns-in-Err
+unfolding bad_event
+returns-in-Err c = rw (wide c.args.n (omega (arith, c.in-Err.ensures)) c.args.word.now (λ i. omega (arith, c.type_inv.word i))) refl

@@ -1,20 +1,79 @@
 -- `screening::screen_joined` meets its contract: its tests are those of `screened_joined`, in the same order.
-use mathlib.Core.Path.{sym, ◌∙◌}
-use Rattle.bundles.specs.HeadReading.{kept-refused}
-use Rattle.screening.specs.ScreenLaws.{joined-long, first_wrong}
+use Rattle.std.specs.Prelude.{Err}
+use Rattle.std.proofs.Common.{refl, ap, sym, ◌∙◌, arith, ℕ, ◌≤◌}
+use Rattle.std.proofs.lemmas.Result.{err_from_is_err_and}
+use Rattle.limits.specs.Limits.{max_places}
+use Rattle.bundles.specs.Readers.{events_in, net_in}
+use Rattle.bundles.specs.HeadReading.{kept-refused, net-size}
+use Rattle.stops.specs.Positions.{Finds, stop_or_end}
+use Rattle.stops.specs.Searching.{Searchable}
+use Rattle.stops.specs.declared.Search.{Search}
+use Rattle.screening.specs.ScreenLaws.{length-failed, length-passed, events-failed, events-passed, joined-long, first_wrong, second_wrong, counts-differ, joined_wrong, joined-right, found_means, net-of, search-asks, search-first, search-on}
 use Rattle.screening.proofs.screen_joined.Goals as goal
+use Rattle.screening.proofs.screen_joined.Goals.{After-search_places-from}
 
-pub returns-then-word-gt-MAX_WORD_EVENTS : goal.returns-then-word-gt-MAX_WORD_EVENTS
-returns-then-word-gt-MAX_WORD_EVENTS c = c.refused.ensures ∙ sym (joined-long _ _ _ c.if-word-gt-MAX_WORD_EVENTS.true)
+pub returns-in_err-test_length : goal.returns-in_err-test_length
+returns-in_err-test_length c =
+    let q = err_from_is_err_and c.from_residual.result c.from_residual.ensures.1 in
+    let fails = length-failed _ c.in_err-test_length.ensures in
+    rw (q.1, q.2) (ap Err fails.1 ∙ sym (joined-long _ _ _ fails.0))
 
-pub screen_second-requires : goal.screen_second-requires
-screen_second-requires c =
-    let told = c in
-    let call = told in
-    (sym call.read_head.ensures ∙ told.in-Read.is, call.if-word-gt-MAX_WORD_EVENTS.false)
+pub returns-in_err-one : goal.returns-in_err-one
+returns-in_err-one c =
+    let q = err_from_is_err_and c.from_residual-in_err-one.result c.from_residual-in_err-one.ensures.1 in
+    rw (q.1, q.2) (sym (first_wrong _ _ _ (length-passed _ c.in_ok-test_length.ensures) _ (kept-refused _ _ (sym c.in_err-one.ensures))))
 
-pub returns-in-Refused : goal.returns-in-Refused
-returns-in-Refused c =
-    let told = c in
-    let call = told in
-    sym (first_wrong _ _ _ call.if-word-gt-MAX_WORD_EVENTS.false told.in-Refused.refusal (kept-refused _ _ (sym call.read_head.ensures ∙ told.in-Refused.is)))
+pub returns-in_err-two : goal.returns-in_err-two
+returns-in_err-two c =
+    let q = err_from_is_err_and c.from_residual-in_err-two.result c.from_residual-in_err-two.ensures.1 in
+    let one = net-of c.args.first c.in_ok-one.one c.in_ok-one.ensures in
+    rw (q.1, q.2) (sym (second_wrong _ _ _ (length-passed _ c.in_ok-test_length.ensures) one.read _ (kept-refused _ _ (sym c.in_err-two.ensures))))
+
+pub returns-then-one-two : goal.returns-then-one-two
+returns-then-one-two c =
+    let one = net-of c.args.first c.in_ok-one.one c.in_ok-one.ensures in
+    let two = net-of c.args.second c.in_ok-two.two c.in_ok-two.ensures in
+    ap Err c.at.ensures ∙ sym (counts-differ _ _ _ (length-passed _ c.in_ok-test_length.ensures) one.read two.read (λ e. c.if-one-two.true (sym one.events ∙ e ∙ two.events)))
+
+pub returns-in_err-test_events : goal.returns-in_err-test_events
+returns-in_err-test_events c =
+    let q = err_from_is_err_and c.from_residual-in_err-test_events.result c.from_residual-in_err-test_events.ensures.1 in
+    let one = net-of c.args.first c.in_ok-one.one c.in_ok-one.ensures in
+    let two = net-of c.args.second c.in_ok-two.two c.in_ok-two.ensures in
+    let fails = events-failed _ _ c.in_err-test_events.ensures in
+    rw (q.1, q.2) (ap Err fails.1 ∙ sym (joined_wrong _ _ _ (length-passed _ c.in_ok-test_length.ensures) one.read two.read one.events (two.events ∙ sym c.if-one-two.false) fails.0))
+
+pub search_places-from-requires : goal.search_places-from-requires
+unfolding stop_or_end
+search_places-from-requires c =
+    let one = net-of c.args.first c.in_ok-one.one c.in_ok-one.ensures in
+    (search-asks one refl (length-passed _ c.in_ok-test_length.ensures) (events-passed _ _ c.in_ok-test_events.ensures) (omega arith), (omega arith, omega arith))
+
+-- what is found with the places of the first bundle, then with all
+from : (c : After-search_places-from) → Finds (events_in c.args.first.now) (net_in c.args.first.now) c.args.word.now c.search_places-from.result
+from c =
+    let one = net-of c.args.first c.in_ok-one.one c.in_ok-one.ensures in
+    search-first (record { net = c.in_ok-one.one; before = 0; word = c.args.word }) one refl refl c.search_places-from.ensures
+
+pub search_places-requires : goal.search_places-requires
+unfolding stop_or_end
+search_places-requires c =
+    let one = net-of c.args.first c.in_ok-one.one c.in_ok-one.ensures in
+    let two = net-of c.args.second c.in_ok-two.two c.in_ok-two.ensures in
+    let short = length-passed _ c.in_ok-test_length.ensures in
+    let below = events-passed _ _ c.in_ok-test_events.ensures in
+    -- what the first net asks serves only a call that is given it
+    let asked : (k : ℕ) → k ≤ max_places → Searchable (record { net = c.in_ok-one.one; before = k; word = c.args.word }) = λ k few. search-asks one refl short below few in
+    let asks : (k : ℕ) → k ≤ max_places → Searchable (record { net = c.in_ok-two.two; before = k; word = c.args.word }) = λ k few. search-asks two refl short (rw c.if-one-two.false at below) few in
+    let few : c.in_ok-one.one.count ≤ max_places = one.found.few in
+    (search (arith, asks, asked, few), (omega arith, omega (arith, (from (goal.at.search_places-requires c).After-search_places-from).best.within)))
+
+pub returns : goal.returns
+returns c =
+    let one = net-of c.args.first c.in_ok-one.one c.in_ok-one.ensures in
+    let two = net-of c.args.second c.in_ok-two.two c.in_ok-two.ensures in
+    let same = two.events ∙ sym c.if-one-two.false in
+    let more : Search = record { net = c.in_ok-two.two; before = c.in_ok-one.one.count; word = c.args.word } in
+    let size = rw one.same at (net-size one.found) in
+    found_means _ _ _ _ (search-on more _ _ two refl size (one.events ∙ sym same) (from (goal.at.returns c).After-search_places-from) c.search_places.ensures)
+    ∙ sym (joined-right _ _ _ (length-passed _ c.in_ok-test_length.ensures) one.read two.read one.events same (events-passed _ _ c.in_ok-test_events.ensures))

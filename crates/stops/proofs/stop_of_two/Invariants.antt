@@ -1,12 +1,7 @@
--- `stops::stop_of_two` meets its contract. The loop's invariant: each replay goes on behind the first i steps, with its tokens.
-use Prim.Native.Nat.{◌-◌, ◌≤◌}
-use lib.ListN.{length}
+-- `stops::stop_of_two` meets its contract. The loop's invariant: each replay goes on behind the steps so far, with its tokens.
 use Rattle.places.specs.Machine.{place_of}
 use Rattle.stops.specs.Replay.{stop_of, Going}
 use Rattle.stops.proofs.stop_of_two.Given as goal
 
-abbrev pub invariant-loop-i : goal.invariant-loop-i
-invariant-loop-i l = (l.i ≤ length l.word) × Going (place_of l.one) l.word (stop_of (place_of l.one) l.word) l.first l.i × Going (place_of l.two) l.word (stop_of (place_of l.two) l.word) l.second l.i
-
-abbrev pub decreases-loop-i : goal.decreases-loop-i
-decreases-loop-i l = length l.word - l.i
+abbrev pub invariant-loop-position : goal.invariant-loop-position
+invariant-loop-position l = Going (place_of l.fn.one) l.word (stop_of (place_of l.fn.one) l.word) l.first l.position × Going (place_of l.fn.two) l.word (stop_of (place_of l.fn.two) l.word) l.second l.position

@@ -1,73 +1,90 @@
-use mathlib.Core.Path.{◌≡◌, refl, sym, ap, subst, ◌∙◌}
-use Prim.Native.Nat.{ℕ, ◌+◌, ◌-◌, ◌*◌, ◌%◌}
-use native.Mathlib.Nat.{add-sub_cancel_left}
-use native.Mathlib.Omega.{arith}
-use lib.ListN.{take, drop}
-use Rattle.laws.specs.Numbers.{Bytes}
+use Rattle.std.proofs.Common.{◌≡◌, refl, sym, ap, subst, ◌∙◌, List, ℕ, zero, suc, ◌+◌, ◌-◌, ◌*◌, ◌/◌, ◌%◌, ◌<◌, length, take, drop, get_or, reverse, mul-zero, length-append, length-drop, take_all, rules, arith}
+use Rattle.std.proofs.Math.Seq.{drop-drop}
+use Rattle.std.specs.Simd.{first_chunks}
+use Rattle.std.proofs.lemmas.List.{get_or-reverse, length-reverse}
+use Rattle.std.proofs.lemmas.Iterator.Adapters.{YieldsList-from_rev_slice}
+use Rattle.std.proofs.lemmas.Iterator.Consumers.{YieldsList-turn, YieldsList-end}
 use Rattle.sums.specs.Checksums.{plain_sum, position_sum}
-use Rattle.sums.specs.Adding.{RowsAdded, columns-size, shifts_size, last-room, last-added, row_room, row-added, all_narrow, all_plain, all-position}
+use Rattle.sums.specs.Adding.{RowsAdded, last-room, last-added, row_room, row-added, all_narrow, all_plain, all-position}
 use Rattle.sums.proofs.sums_of.Goals as goal
-use Rattle.sums.proofs.sums_of.Goals.{After-loop-turn, At-loop-turn}
+use Rattle.sums.proofs.sums_of.Goals.{In-Some, In-None}
 
-small : (s : At-loop-turn) → Bytes s.args.bytes.now
-small s i = omega (arith, s.type_inv.bytes i)
+-- a chunk among the first ones
+chunk : (n k : ℕ) (l : List ℕ) (i : ℕ) (d : List ℕ) → i < k → get_or (first_chunks n k l) i d ≡ take n (drop (n * i) l)
+chunk n zero l i d h = absurd (omega arith)
+chunk n (suc k) l zero d h = rw mul-zero refl
+chunk n (suc k) l (suc i) d h =
+    let next : n + n * i ≡ n * suc i = omega arith in
+    chunk n k (drop n l) i d (omega arith) ∙ ap (take n) (drop-drop (n * i) n l ∙ ap (λ (m : ℕ). drop m l) next)
 
-pub loop-turn-init : goal.loop-turn-init
-loop-turn-init c =
-    let call = c in
-    let start = call in
-    (omega arith, last-added start.args.bytes.now start.requires call.add_row.ensures.columns_after call.add_row.ensures.shifts_after)
+chunks-size : (n k : ℕ) (l : List ℕ) → length (first_chunks n k l) ≡ k
+chunks-size n zero l = refl
+chunks-size n (suc k) l = ap suc (chunks-size n k (drop n l))
 
--- the row as the code takes it
-row : (s : At-loop-turn) → let bytes = s.args.bytes.now in let from = 32 * (s.loop-turn.turn - 1) in take (from + 32 - from) (drop from bytes) ≡ take 32 (drop from bytes)
-row s = rw add-sub_cancel_left
+module _ (bytes : List ℕ) (size : length bytes ≡ 508) where
+  -- the bytes behind the rows
+  last_is : (rest : List ℕ) → rest ≡ drop (length bytes / 32 * 32) bytes → rest ≡ take 28 (drop 480 bytes)
+  last_is rest e = e ∙ rw size (sym (take_all 28 (drop 480 bytes) (omega (arith, size, length-drop 480 bytes))))
 
-pub add_row-requires-in-loop-turn : goal.add_row-requires-in-loop-turn
-add_row-requires-in-loop-turn c =
-    let s = c in
-    rw (row (goal.at.add_row-requires-in-loop-turn c).At-loop-turn) (row_room s.loop-turn.invariant.1 s.requires (omega arith) s.loop-turn.invariant.0 (small (goal.at.add_row-requires-in-loop-turn c).At-loop-turn))
+  -- the rows, the last one first
+  row_is : (rows : List (List ℕ)) (k : ℕ) (row : List ℕ) → rows ≡ first_chunks 32 (length bytes / 32) bytes → k < length (reverse rows)
+      → row ≡ get_or (reverse rows) k row → (k < 15) × (row ≡ take 32 (drop (32 * (15 - k - 1)) bytes))
+  row_is rows k row are inside e =
+      let all : rows ≡ first_chunks 32 15 bytes = are ∙ rw size refl in
+      let count : length rows ≡ 15 = ap length all ∙ chunks-size 32 15 bytes in
+      let within : k < 15 = omega (arith, inside, length-reverse rows, count) in
+      let place : length rows - 1 - k ≡ 15 - k - 1 = omega (arith, count) in (
+        within,
+        e ∙ get_or-reverse rows k row (omega (arith, count, within)) ∙ rw (place, all) (chunk 32 15 bytes (15 - k - 1) row (omega arith)),
+      )
 
-pub loop-turn-preserved : goal.loop-turn-preserved
-loop-turn-preserved c =
-    let call = c.add_row-in-loop-turn in
-    let s = c in
-    (omega arith, row-added s.loop-turn.invariant.1 s.requires (omega arith) s.loop-turn.invariant.0 (call.ensures.columns_after ∙ rw (row (goal.at.loop-turn-preserved c).At-loop-turn)) (call.ensures.shifts_after ∙ rw (row (goal.at.loop-turn-preserved c).At-loop-turn)))
+pub add-requires : goal.add-requires
+add-requires c =
+    let bytes = c.args.bytes.now in
+    rw (last_is bytes c.told-bytes _ c.as_chunks.ensures.back) (last-room bytes c.told-bytes)
 
--- after the loop all rows are
-done : (c : After-loop-turn) → RowsAdded c.args.bytes.now c.loop-turn.columns c.loop-turn.shifts 0
+pub loop-row-init : goal.loop-row-init
+loop-row-init c =
+    let bytes = c.args.bytes.now in
+    let last = last_is bytes c.told-bytes _ c.as_chunks.ensures.back in
+    last-added bytes c.told-bytes (rw last at c.add.ensures.sums_after) (rw last at c.add.ensures.shifts_after)
+
+-- the row of a turn
+row : (c : In-Some) → let k = length c.loop-row.yielded in (k < 15) × (c.in-Some.row.now ≡ take 32 (drop (32 * (15 - k - 1)) c.args.bytes.now))
+row c =
+    let road = YieldsList-from_rev_slice c.as_chunks.result.0.now (search rules) in
+    let turn = YieldsList-turn road c.loop-row.yielded _ c.loop-row.yielded_by _ c.next.new.self c.in-Some.row c.in-Some.is c.next.ensures.steps in
+    row_is c.args.bytes.now c.told-bytes _ _ _ c.as_chunks.ensures.front turn.0 turn.1
+
+pub add-requires-in-loop-row : goal.add-requires-in-loop-row
+add-requires-in-loop-row c =
+    let here = row (goal.at.add-requires-in-loop-row c).In-Some in
+    rw here.1 (row_room c.loop-row.invariant c.told-bytes (omega (arith, here.0)) (omega arith) c.fits-bytes)
+
+pub loop-row-preserved : goal.loop-row-preserved
+loop-row-preserved c =
+    let here = row (goal.at.loop-row-preserved c).In-Some in
+    let next : 15 - length c.loop-row.yielded - 1 ≡ 15 - (length c.loop-row.yielded + 1) = omega arith in
+    let sums = rw here.1 at c.add-in-loop-row.ensures.sums_after in
+    let shifts = rw here.1 at c.add-in-loop-row.ensures.shifts_after in
+    rw (length-append, ← next) (row-added c.loop-row.invariant c.told-bytes (omega (arith, here.0)) (omega arith) sums shifts)
+
+-- after the loop all rows are added
+done : (c : In-None) → RowsAdded c.args.bytes.now c.loop-row.columns.sums c.loop-row.columns.shifts 0
 done c =
-    let s = c in
-    let end : s.loop-turn.turn ≡ 0 = omega arith in
-    subst (RowsAdded s.args.bytes.now s.loop-turn.columns s.loop-turn.shifts) end s.loop-turn.invariant.1
+    let road = YieldsList-from_rev_slice c.as_chunks.result.0.now (search rules) in
+    let end = YieldsList-end road c.loop-row.yielded _ c.loop-row.yielded_by _ c.next.new.self c.in-None.is c.next.ensures.steps in
+    let size = length-reverse c.as_chunks.result.0.now in
+    let all : 15 - length c.loop-row.yielded ≡ 0 = omega (arith, end.1, size, c.as_chunks.ensures.front_len, c.told-bytes) in
+    subst (RowsAdded c.args.bytes.now c.loop-row.columns.sums c.loop-row.columns.shifts) all c.loop-row.invariant
+
+pub totals-requires : goal.totals-requires
+totals-requires c = all_narrow (done c) c.fits-bytes
 
 pub returns : goal.returns
 unfolding plain_sum position_sum
 returns c =
-    let totals = c.totals_of-totals.ensures in
-    let end = c in
-    let size = end.requires in
-    (ap (λ (n : ℕ). n % 65521) (totals.plain_value ∙ all_plain (done (goal.at.returns c).After-loop-turn) size), ap (λ (n : ℕ). n % 65521) (totals.position_value ∙ all-position (done (goal.at.returns c).After-loop-turn) size))
-
-pub slice_bounds-add_row-end : goal.slice_bounds-add_row-end
-slice_bounds-add_row-end c = refl
-
-pub slice_bounds-add_row-end-2 : goal.slice_bounds-add_row-end-2
-slice_bounds-add_row-end-2 c = refl
-
-pub add_row-requires : goal.add_row-requires
-add_row-requires c = last-room c.args.bytes.now c.requires
-
-pub slice_bounds-add_row-end-in-loop-turn : goal.slice_bounds-add_row-end-in-loop-turn
-slice_bounds-add_row-end-in-loop-turn c = sym (columns-size c.loop-turn.invariant.1)
-
-pub slice_bounds-add_row-end-in-loop-turn-2 : goal.slice_bounds-add_row-end-in-loop-turn-2
-slice_bounds-add_row-end-in-loop-turn-2 c = sym (shifts_size c.loop-turn.invariant.1)
-
-pub slice_bounds-totals_of-end : goal.slice_bounds-totals_of-end
-slice_bounds-totals_of-end c = sym (columns-size c.loop-turn.invariant.1)
-
-pub slice_bounds-totals_of-end-2 : goal.slice_bounds-totals_of-end-2
-slice_bounds-totals_of-end-2 c = sym (shifts_size c.loop-turn.invariant.1)
-
-pub totals_of-totals-requires : goal.totals_of-totals-requires
-totals_of-totals-requires c = all_narrow (done (goal.at.totals_of-totals-requires c).After-loop-turn) (small (goal.at.totals_of-totals-requires c).At-loop-turn)
+    let all = done (goal.at.returns c).In-None in (
+      c.totals.ensures.plain_value ∙ ap (λ (n : ℕ). n % 65521) (all_plain all c.told-bytes),
+      c.totals.ensures.position_value ∙ ap (λ (n : ℕ). n % 65521) (all-position all c.told-bytes),
+    )

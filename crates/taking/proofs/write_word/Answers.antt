@@ -1,62 +1,43 @@
-use Prim.Native.Nat.{◌+◌, ◌<◌}
-use mathlib.Core.Path.{◌≡◌, sym, ◌∙◌}
-use native.Mathlib.Omega.{arith}
-use lib.ListN.{length, get_or}
-use lib.Seq.{get_or-take}
-use Rattle.limits.specs.Limits.{max_events}
+use Rattle.std.proofs.Common.{arith, ◌≡◌, sym, ◌∙◌, ◌+◌, length, get_or, get_or-take}
 use Rattle.rows.specs.Rows.{rows_of, find_row}
 use Rattle.taking.specs.Takable.{takable-room}
 use Rattle.taking.specs.Taking.{taking_none, taking_row, taking_room, taking_again, taking_end}
 use Rattle.taking.proofs.write_word.Goals as goal
-use Rattle.taking.proofs.write_word.Goals.{After-slice_known-in-loop-i-1, At-loop-i}
+use Rattle.taking.proofs.write_word.Goals.{At-loop-i}
 
 pub loop-i-init : goal.loop-i-init
-loop-i-init c = let p = c.requires in taking_none _ _ _ _ (takable-room p.takable) p.word_in_bounds_2.1
+loop-i-init c = taking_none _ _ _ _ (takable-room c.requires.takable) c.requires.word_in_bounds_2.1
 
 -- the number noted for the prefix at hand is that of its row
-row : (c : At-loop-i) → let a = c.args in let l = c.loop-i in
-    get_or a.numbers.now l.i 0 ≡ find_row l.counts (rows_of l.k l.table)
+row : (c : At-loop-i) → get_or c.args.numbers.now c.loop-i.i 0 ≡ find_row c.loop-i.counts (rows_of c.loop-i.k c.loop-i.table)
 row c =
     let a = c.args in
     let l = c.loop-i in
     sym (get_or-take (length a.word.now + 1) a.numbers.now l.i 0 (omega (arith, l.invariant.passed))) ∙ taking_row _ _ _ _ _ _ _ _ l.invariant
 
-pub step-k-requires : goal.step-k-requires
-step-k-requires c =
-    let here = c in
-    let l = here.loop-i in
-    let s = here in
-    record { r_value = (row (goal.at.step-k-requires c).At-loop-i, s.requires.takable.below l.i (omega arith)); rows_in_bounds = (l.invariant.room, taking_room _ _ _ _ _ _ _ _ l.invariant _ (omega arith)) }
+pub step-k-requires-clause-r_value : goal.step-k-requires-clause-r_value
+step-k-requires-clause-r_value c =
+    (c.from.ensures ∙ row (goal.at.step-k-requires-clause-r_value c).At-loop-i, rw c.from-e.ensures (c.requires.takable.below c.loop-i.i (omega arith)))
 
--- the event at hand
-event : (c : After-slice_known-in-loop-i-1) → let here = c in
-    get_or here.args.word.now here.loop-i.i 0 < max_events
-event c =
-    let here = c in
-    here.requires.takable.below here.loop-i.i (omega arith)
-
-pub add_event-requires : goal.add_event-requires
-add_event-requires c =
-    let known = c in
-    let here = known in
-    let s = here.loop-i.invariant in
-    (s.counted.twelve, event (goal.at.add_event-requires c).After-slice_known-in-loop-i-1, omega (arith, s.counted.few (get_or here.args.word.now here.loop-i.i 0)))
+pub step-k-requires-clause-rows_in_bounds : goal.step-k-requires-clause-rows_in_bounds
+step-k-requires-clause-rows_in_bounds c =
+    (c.loop-i.invariant.room, taking_room _ _ _ _ _ _ _ _ c.loop-i.invariant _ (omega (arith, c.requires.word_in_bounds, c.loop-i.auto.table)))
 
 pub loop-i-preserved : goal.loop-i-preserved
 loop-i-preserved c =
-    let known = c in
-    let call = known in
-    let l = call.loop-i in
-    taking_again _ _ _ _ _ _ _ _ l.invariant _ _ _ (omega arith) (event (goal.at.loop-i-preserved c).After-slice_known-in-loop-i-1) call.step-k.auto.table (omega arith) call.step-k.ensures c.add_event.ensures
+    let l = c.loop-i in
+    let below = c.requires.takable.below l.i (omega arith) in
+    taking_again _ _ _ _ _ _ _ _ l.invariant _ _ _ (omega arith) below c.step-k.auto.table (omega (arith, c.requires.word_in_bounds, l.auto.table))
+    (rw c.from-e.ensures at c.step-k.ensures) (rw c.from-e.ensures at c.add_event.ensures)
 
-pub visit_row-requires : goal.visit_row-requires
-visit_row-requires c =
-    let here = c in
-    let l = here.loop-i in
-    record { r_value = row (goal.at.visit_row-requires c).At-loop-i; rows_in_bounds = (l.invariant.room, taking_room _ _ _ _ _ _ _ _ l.invariant _ (omega arith)) }
+pub visit_row-requires-clause-r_value : goal.visit_row-requires-clause-r_value
+visit_row-requires-clause-r_value c =
+    let end : c.loop-i.i ≡ length c.args.word.now = omega arith in
+    c.from-2.ensures ∙ rw (← end) (row (goal.at.visit_row-requires-clause-r_value c).At-loop-i)
+
+pub visit_row-requires-clause-rows_in_bounds : goal.visit_row-requires-clause-rows_in_bounds
+visit_row-requires-clause-rows_in_bounds c =
+    (c.loop-i.invariant.room, taking_room _ _ _ _ _ _ _ _ c.loop-i.invariant _ (omega (arith, c.requires.word_in_bounds, c.loop-i.auto.table)))
 
 pub returns : goal.returns
-returns c =
-    let call = c in
-    let l = call.loop-i in
-    taking_end _ _ _ _ _ _ _ _ l.invariant _ _ (omega arith) call.visit_row.ensures
+returns c = taking_end _ _ _ _ _ _ _ _ c.loop-i.invariant _ _ (omega arith) c.visit_row.ensures

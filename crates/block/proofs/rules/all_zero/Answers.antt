@@ -1,22 +1,18 @@
-use borrow.Author.Rules.{rules}
-use mathlib.Core.Path.{refl, sym, ◌∙◌}
-use borrow.Author.Tests.{ne_eqb}
-use lib.ListN.{drop_of_length-le}
-use Rattle.laws.specs.Lists.{all, all-next}
+-- `block::rules::all_zero` meets its contract: the library's test of all is the definition's.
+use Rattle.std.proofs.Common.{◌≡◌, refl, ap, ◌∙◌, Bool, ◌&&◌, List, [], ◌∷◌, ℕ, rules, tests}
+use Rattle.std.specs.List.{list_all}
+use Rattle.std.proofs.lemmas.Iterator.{YieldsList-from_slice}
+use Rattle.std.proofs.lemmas.Iterator.Search.{all_from_yields_List}
+use Rattle.laws.specs.Lists.{all}
 use Rattle.block.specs.Block.{is_zero}
 use Rattle.block.proofs.rules.all_zero.Goals as goal
 
-pub loop-i-init : goal.loop-i-init
-loop-i-init c = (search rules, refl)
-
-pub returns-then-bytes-i-ne0 : goal.returns-then-bytes-i-ne0
-returns-then-bytes-i-ne0 c = let s = c in
-    sym (sym s.loop-i.invariant.1 ∙ all-next is_zero _ _ 0 c.loop-i-test.true ∙ rw (ne_eqb _ _ c.if-bytes-i-ne0.true))
-
-pub loop-i-preserved : goal.loop-i-preserved
-loop-i-preserved c = let s = c in
-    (search rules, sym (all-next is_zero _ _ 0 c.loop-i-test.true ∙ rw c.if-bytes-i-ne0.false) ∙ s.loop-i.invariant.1)
+same : (test : ℕ → Bool) (l : List ℕ) → list_all test l ≡ all test l
+unfolding all
+same test [] = refl
+same test (x ∷ l) = ap (λ (b : Bool). test x && b) (same test l)
 
 pub returns : goal.returns
-unfolding all
-returns c = rw (← c.loop-i.invariant.1, drop_of_length-le _ c.loop-i-test.false)
+returns c =
+    all_from_yields_List is_zero _ _ _ c.all.ensures.ran (YieldsList-from_slice c.args.bytes.now cc) (λ x b q k. search (rules, tests))
+    ∙ same is_zero c.args.bytes.now

@@ -1,72 +1,54 @@
-use mathlib.Core.Path.{◌≡◌, sym, ap, ◌∙◌}
-use Prim.Native.Nat.{◌+◌, ◌<◌}
-use native.Mathlib.Omega.{arith}
-use lib.ListN.{length, take, get_or, set}
+-- `pruning::marking::mark_places` meets its contract.
+use Rattle.std.proofs.Common.{◌≡◌, sym, ap, ◌∙◌, arith, ◌<◌, length, get_or, length-append}
+use Rattle.std.proofs.Math.Seq.{take_all}
+use mathlib.Core.List.{flat_map}
+use Rattle.bundles.specs.Layout.{certificate_bytes}
 use Rattle.contents.specs.Contents.{contents_of}
-use Rattle.contents.specs.Walking.{CertificateAt, walk_start, walk_end, walk_more, walk_here, walk_next, certificate-long, certificate-inside, end_is}
-use Rattle.pruning.specs.Marking.{marks_of, marks-none, walk_place, walk_weights}
+use Rattle.contents.specs.Certificates.{piece_of, no_certificate}
+use Rattle.contents.specs.Shown.{shown}
+use Rattle.contents.specs.Walks.{walk-turn, walk-end}
+use Rattle.contents.specs.declared.certificates.Certificates.{Certificates}
+use Rattle.pruning.specs.Marking.{marks_of, marks-none, walk_place, walk_weights, place-below}
 use Rattle.pruning.proofs.marking.mark_places.Goals as goal
-use Rattle.pruning.proofs.marking.mark_places.Goals.{In-loop-at, Then-byte_at-eq0, then-byte_at-eq0, else-byte_at-eq0}
+use Rattle.pruning.proofs.marking.mark_places.Goals.{After-into_iter-certificate-iterator, In-Some, In-None}
 
-pub loop-at-init : goal.loop-at-init
-loop-at-init c = (0, walk_start c.requires.0 c.requires.1, sym marks-none)
+pub loop-certificate-init : goal.loop-certificate-init
+loop-certificate-init c = sym marks-none
 
--- the certificate of a turn is there
-more : (c : In-loop-at) → c.loop-at.invariant.0 < length (contents_of c.args.bundle.now).certificates
-more c = let start = c in walk_more start.requires.0 start.requires.1 c.loop-at.invariant.1 c.loop-at-test.true
+-- the loop goes over the certificates
+all : (c : After-into_iter-certificate-iterator) → c.into_iter-certificate-iterator.result.rest.now ≡ flat_map certificate_bytes (contents_of c.args.parts.now.bundle.now).certificates
+all c =
+    ap (λ (s : Certificates). s.rest.now) c.into_iter-certificate-iterator.ensures.into_iter_gives
+    ∙ rw c.each_certificate-certificate-items.ensures c.args.parts.now.certificates_are
 
-here : (c : In-loop-at) → CertificateAt c.args.bundle.now c.loop-at.at
-here c = let start = c in walk_here start.requires.0 start.requires.1 c.loop-at.invariant.1 (more c)
+-- the certificate of a turn
+turn : (c : In-Some) → let cs = (contents_of c.args.parts.now.bundle.now).certificates in
+    let k = length c.loop-certificate.yielded in
+    (k < length cs) × (shown c.in-Some.certificate ≡ piece_of (get_or cs k no_certificate))
+turn c =
+    walk-turn (contents_of c.args.parts.now.bundle.now).certificates _ (all (goal.at.In-Some c).After-into_iter-certificate-iterator) c.loop-certificate.yielded _ c.loop-certificate.yielded_by _
+    c.next.new.self c.in-Some.certificate c.in-Some.is c.next.ensures.steps
 
-pub byte_at-requires : goal.byte_at-requires
-byte_at-requires c = omega (arith, certificate-long (here c), certificate-inside (here c))
+pub bounds-marks-from : goal.bounds-marks-from
+bounds-marks-from c =
+    let (more, is) = turn (goal.at.bounds-marks-from c).In-Some in
+    let contents = contents_of c.args.parts.now.bundle.now in
+    omega (arith, c.from.ensures, place-below contents c.args.parts.now.judged.limits _ more c.in-Place.place (ap shown (sym c.in-Place.is) ∙ is))
 
--- the place that it names
-place : (c : Then-byte_at-eq0) → let b = c.args.bundle.now in
-    let at = c.loop-at.at in
-    let k = c.loop-at.invariant.0 in
-    let cs = (contents_of b).certificates in
-    (get_or b (at + 1) 0 < length (contents_of b).head.places) × (at + 1 < length b) × (set (marks_of (take k cs)) (get_or b (at + 1) 0) 1 ≡ marks_of (take (k + 1) cs))
-place c =
-    let turn = c in
-    let start = turn in
-    walk_place start.requires.0 start.requires.1 turn.loop-at.invariant.1 (more (goal.at.Then-byte_at-eq0 c).In-loop-at) (sym c.byte_at.ensures.0 ∙ c.if-byte_at-eq0.true)
+pub loop-certificate-preserved-in-Place : goal.loop-certificate-preserved-in-Place
+loop-certificate-preserved-in-Place c =
+    let (more, is) = turn (goal.at.loop-certificate-preserved-in-Place c).In-Some in
+    rw (c.from.ensures, c.loop-certificate.invariant, length-append)
+    (walk_place (contents_of c.args.parts.now.bundle.now).certificates _ more c.in-Place.place (ap shown (sym c.in-Place.is) ∙ is))
 
-pub bounds-marks-byte_at : goal.bounds-marks-byte_at
-bounds-marks-byte_at c =
-    let start = c in
-    omega (arith, (place (goal.at.bounds-marks-byte_at c).Then-byte_at-eq0).0, c.byte_at-then-byte_at-eq0.ensures.0, start.requires.0.limits.head.places_size)
-
-pub end_of-at-requires : goal.end_of-at-requires
-end_of-at-requires c = here (goal.at.end_of-at-requires c).In-loop-at
-
-pub loop-at-smaller : goal.loop-at-smaller
-loop-at-smaller c =
-    let turn = c in
-    omega (arith, certificate-long (here (goal.at.loop-at-smaller c).In-loop-at), certificate-inside (here (goal.at.loop-at-smaller c).In-loop-at), c.end_of-at.ensures, end_is (here (goal.at.loop-at-smaller c).In-loop-at))
-
-pub loop-at-preserved : goal.loop-at-preserved
-loop-at-preserved c =
-    let turn = c in
-    let start = turn in
-    let loop = turn.loop-at in
-    let tested = c.byte_at.ensures.0 in (
-      loop.invariant.0 + 1,
-      rw c.end_of-at.ensures (walk_next start.requires.0 start.requires.1 loop.invariant.1 (more (goal.at.loop-at-preserved c).In-loop-at)),
-      elim c.if-byte_at-eq0.branch [
-        | then-byte_at-eq0 w ↦ w.marks-is ∙ rw (w.byte_at-then-byte_at-eq0.ensures.0, loop.invariant.2) (walk_place start.requires.0 start.requires.1 loop.invariant.1 (more (goal.at.loop-at-preserved c).In-loop-at) (sym tested ∙ w.if-byte_at-eq0.true)).2
-        | else-byte_at-eq0 w ↦ w.marks-is ∙ loop.invariant.2 ∙ walk_weights start.requires.0 start.requires.1 loop.invariant.1 (more (goal.at.loop-at-preserved c).In-loop-at) (λ e. w.if-byte_at-eq0.false (tested ∙ e))
-      ],
-    )
+pub loop-certificate-preserved : goal.loop-certificate-preserved
+loop-certificate-preserved c =
+    let (more, is) = turn (goal.at.loop-certificate-preserved c).In-Some in
+    rw (c.loop-certificate.invariant, length-append)
+    (walk_weights (contents_of c.args.parts.now.bundle.now).certificates _ more c.in_default.field-0.now (ap shown (sym c.in_default.is) ∙ is))
 
 pub returns : goal.returns
 returns c =
-    let loop = c.loop-at in
-    let start = c in
-    loop.invariant.2 ∙ ap marks_of (walk_end start.requires.0 start.requires.1 loop.invariant.1 c.loop-at-test.false)
-
-pub overflow_add-at : goal.overflow_add-at
-overflow_add-at c = omega (arith, (place c).1)
-
-pub byte_at-requires-then-byte_at-eq0 : goal.byte_at-requires-then-byte_at-eq0
-byte_at-requires-then-byte_at-eq0 c = omega (arith, (place c).1)
+    let cs = (contents_of c.args.parts.now.bundle.now).certificates in
+    let count = walk-end cs _ (all (goal.at.returns c).After-into_iter-certificate-iterator) c.loop-certificate.yielded _ c.loop-certificate.yielded_by _ c.next.new.self c.in-None.is c.next.ensures.steps in
+    c.loop-certificate.invariant ∙ ap marks_of (take_all (length c.loop-certificate.yielded) cs (omega (arith, count)))

@@ -1,2 +1,0 @@
--- Laws that several proofs of `judge` cite.
-pub mod Written

@@ -1,0 +1,124 @@
+-- `pruning::marking::Marked::write_places` meets its contract.
+use Rattle.std.proofs.Common.{rules, ◌≡◌, refl, sym, ap, ◌∙◌, ⊎_elim, subst, arith, zero-mul, Bool, cond, List, [], ◌+◌, ◌*◌, ◌≤◌, ◌<◌, length, drop, get_or, length-append, length-drop}
+use Rattle.std.proofs.Math.Seq.{take_all}
+use Rattle.std.specs.Iterator.Adapters.{zip_first, zip_second}
+use Rattle.std.specs.Slice.Iter.{chunks_exact_rest, iter_rest}
+use Rattle.laws.specs.Rewriting.{rewritten}
+use Rattle.limits.specs.Limits.{max_places}
+use Rattle.bundles.specs.Layout.{place_bytes}
+use Rattle.contents.specs.Contents.{contents_of}
+use Rattle.contents.specs.Walking.{no_place, place-there, place-cut, place-behind, places-end}
+use Rattle.pruning.specs.Pruning.{named}
+use Rattle.pruning.specs.Marking.{marked, length-marks, marks-named, mark-cut}
+use Rattle.pruning.specs.Pushing.{HasRoom, Pushed, pushed-none, piece-room, piece-pushed}
+use Rattle.pruning.specs.Writing.{place_piece, places-all}
+use Rattle.pruning.proofs.marking.Marked.write_places.Goals as goal
+use Rattle.pruning.proofs.marking.Marked.write_places.Goals.{Start, In-Some}
+
+pub loop-place-init : goal.loop-place-init
+unfolding rewritten
+loop-place-init c =
+    rw (c.into_iter-place-iterator.ensures.into_iter_gives, c.zip-place-items.ensures.first)
+    record {
+      most = omega arith;
+      size = c.chunks_exact-places.ensures.size;
+      rest = c.chunks_exact-places.ensures.rest ∙ rw (zero-mul c.args.self.now.parts.place_size);
+      marks = search rules;
+      pushed = pushed-none c.args.writer.now;
+    }
+
+-- there is room for all of them
+room : (c : Start) → let contents = contents_of c.args.self.now.parts.bundle.now in HasRoom c.args.writer.now (rewritten (place_piece contents) contents.head.places)
+room c = rw (places-all (contents_of c.args.self.now.parts.bundle.now)) c.requires
+
+-- the place of a turn, and its mark
+there : (c : In-Some) → length c.loop-place.yielded < length (contents_of c.args.self.now.parts.bundle.now).head.places
+there c =
+    let inv = c.loop-place.invariant in
+    let parts = c.args.self.now.parts in
+    let cut = c.in-Some.ensures.steps.0.1 in
+    place-there parts.judged parts.places_are parts.size_is _ _ inv.rest _ _ cut.0 (cut.1 ∙ inv.size)
+
+bytes : (c : In-Some) → c.in-Some.place.now ≡ place_bytes (get_or (contents_of c.args.self.now.parts.bundle.now).head.places (length c.loop-place.yielded) no_place)
+bytes c =
+    let inv = c.loop-place.invariant in
+    let parts = c.args.self.now.parts in
+    let cut = c.in-Some.ensures.steps.0.1 in
+    place-cut parts.judged parts.places_are parts.size_is _ _ inv.rest _ _ cut.0 (cut.1 ∙ inv.size)
+
+mark : (c : In-Some) → named (contents_of c.args.self.now.parts.bundle.now).certificates (length c.loop-place.yielded) ≡ c.in-Some.mark.now
+mark c =
+    let self = c.args.self.now in
+    let k = length c.loop-place.yielded in
+    let few : k < max_places = omega (arith, there c, self.parts.judged.limits.head.places_size) in
+    sym (marks-named (contents_of self.parts.bundle.now).certificates k few)
+    ∙ sym (ap (λ (l : List Bool). marked l k) self.marks_are)
+    ∙ (mark-cut self.marks k _ _ (sym c.loop-place.invariant.marks ∙ c.in-Some.ensures.steps.1)).0
+
+-- what is written for it
+piece : (c : In-Some) → let contents = contents_of c.args.self.now.parts.bundle.now in
+    let k = length c.loop-place.yielded in
+    place_piece contents k (get_or contents.head.places k no_place) ≡ cond c.in-Some.mark.now c.in-Some.place.now []
+piece c = rw (mark c, bytes c) refl
+
+pub push-requires : goal.push-requires
+push-requires c =
+    let at = goal.at.push-requires c in
+    let contents = contents_of c.args.self.now.parts.bundle.now in
+    piece-room (place_piece contents) contents.head.places _ c.loop-place.invariant.pushed no_place (there at.In-Some) (room at.Start) c.in-Some.place.now
+    (piece at.In-Some ∙ rw c.if-mark.true)
+
+-- what is left behind it
+left : (c : In-Some) → let self = c.args.self.now in
+    let next = length c.loop-place.yielded + 1 in
+    (chunks_exact_rest (zip_first c.next.new.self) ≡ drop (next * self.parts.place_size) self.parts.places.now) × (iter_rest (zip_second c.next.new.self) ≡ drop next self.marks)
+left c =
+    let inv = c.loop-place.invariant in
+    let parts = c.args.self.now.parts in
+    let cut = c.in-Some.ensures.steps.0.1 in (
+      place-behind parts.judged parts.places_are parts.size_is _ _ inv.rest _ _ cut.0 (cut.1 ∙ inv.size),
+      (mark-cut c.args.self.now.marks (length c.loop-place.yielded) _ _ (sym inv.marks ∙ c.in-Some.ensures.steps.1)).1,
+    )
+
+pub loop-place-preserved-then-mark : goal.loop-place-preserved-then-mark
+loop-place-preserved-then-mark c =
+    let at = goal.at.loop-place-preserved-then-mark c in
+    let contents = contents_of c.args.self.now.parts.bundle.now in
+    let rest = left at.In-Some in
+    rw length-append
+    record {
+      most = omega (arith, there at.In-Some);
+      size = c.in-Some.ensures.steps.0.0 ∙ c.loop-place.invariant.size;
+      rest = rest.0;
+      marks = rest.1;
+      pushed = piece-pushed (place_piece contents) contents.head.places _ c.loop-place.invariant.pushed no_place (there at.In-Some) (room at.Start) c.in-Some.place.now
+          (piece at.In-Some ∙ rw c.if-mark.true) c.push.ensures;
+    }
+
+pub loop-place-preserved : goal.loop-place-preserved
+loop-place-preserved c =
+    let at = goal.at.loop-place-preserved c in
+    let contents = contents_of c.args.self.now.parts.bundle.now in
+    let rest = left at.In-Some in
+    rw length-append
+    record {
+      most = omega (arith, there at.In-Some);
+      size = c.in-Some.ensures.steps.0.0 ∙ c.loop-place.invariant.size;
+      rest = rest.0;
+      marks = rest.1;
+      pushed = piece-pushed (place_piece contents) contents.head.places _ c.loop-place.invariant.pushed no_place (there at.In-Some) (room at.Start) []
+          (piece at.In-Some ∙ rw c.if-mark.false) (pushed-none c.loop-place.writer);
+    }
+
+pub returns : goal.returns
+returns c =
+    let self = c.args.self.now in
+    let parts = self.parts in
+    let inv = c.loop-place.invariant in
+    let contents = contents_of self.parts.bundle.now in
+    let k = length c.loop-place.yielded in
+    let all : length contents.head.places ≤ k = ⊎_elim
+    (λ (end, stops). places-end parts.judged parts.places_are parts.size_is k _ inv.rest (omega (arith, stops.1.0, inv.size)))
+    (λ (end, stops). omega (arith, stops.0, ap length inv.marks, length-drop k self.marks, parts.judged.limits.head.places_size, ap length self.marks_are, length-marks contents.certificates))
+    c.in-None.ensures.steps in
+    subst (Pushed c.args.writer.now c.loop-place.writer) (ap (rewritten (place_piece contents)) (take_all k contents.head.places all) ∙ places-all contents) inv.pushed

@@ -1,0 +1,39 @@
+use Rattle.std.proofs.Common.{arith, ◌≡◌, ◌+◌, ◌*◌, sym, ◌∙◌, take}
+use Rattle.stops.specs.Positions.{stop_in}
+use Rattle.stops.specs.Replay.{stop_of}
+use Rattle.stops.specs.Searching.{place_is, first_of}
+use Rattle.stops.specs.Onward.{end_of, onward-none, onward_then, pair-onward-stays, pair-onward-earlier, pair-late}
+use Rattle.stops.specs.Onward.{place_of as place_in}
+use Rattle.stops.proofs.Search.search_pairs.Goals as goal
+use Rattle.stops.proofs.Search.search_pairs.Goals.{in-Some, in_default}
+use Rattle.stops.proofs.Search.search_pairs.Goals.{After-stop_of_two}
+
+pub loop-pair-init : goal.loop-pair-init
+loop-pair-init c = (c.requires.1, onward-none c.args.self.now 0 c.args.from)
+
+-- what a turn finds
+found : (c : After-stop_of_two) → let s = c.args.self.now in let front = take (end_of s c.loop-pair.best) s.word.now in
+    c.stop_of_two.result ≡ stop_in front (first_of (stop_of (place_in s (2 * c.loop-pair.pair)) front) (stop_of (place_in s (2 * c.loop-pair.pair + 1)) front))
+found c = rw (c.end.ensures, place_is _ _ _ _ c.place-one.ensures, place_is _ _ _ _ c.place-two.ensures) at c.stop_of_two.ensures
+
+pub overflow_add-best-in-Some : goal.overflow_add-best-in-Some
+overflow_add-best-in-Some c =
+    let late = pair-late c.args.self.now c.requires.0.word.events (2 * c.loop-pair.pair) c.loop-pair.best c.loop-pair.invariant.0 (sym c.in-Some.is ∙ found (goal.at.overflow_add-best-in-Some c).After-stop_of_two) in
+    omega (arith, late.0, c.requires.0.few, c.requires.0.found.few)
+
+pub loop-pair-preserved : goal.loop-pair-preserved
+loop-pair-preserved c =
+    let s = c.args.self.now in
+    let below = c.requires.0.word.events in
+    let best = c.loop-pair.best in
+    let j = 2 * c.loop-pair.pair in
+    let late = c.loop-pair.invariant.0 in
+    let here = found (goal.at.loop-pair-preserved c).After-stop_of_two in
+    let two : j + 2 ≡ 2 * (c.loop-pair.pair + 1) = omega arith in
+    elim c.match-stop_of_two.branch [
+      | in-Some w ↦ rw w.best-is (
+        (pair-late s below j best late (sym w.in-Some.is ∙ here)).1,
+        onward_then s 0 j 2 _ _ _ (omega arith) two c.loop-pair.invariant.1 (pair-onward-earlier s below j best late (sym w.in-Some.is ∙ here)),
+      )
+      | in_default w ↦ rw w.best-is (late, onward_then s 0 j 2 _ _ _ (omega arith) two c.loop-pair.invariant.1 (pair-onward-stays s below j best late (sym w.in_default.is ∙ here)))
+    ]
