@@ -16,7 +16,7 @@ pub extern "C" fn hov_fresh(n: usize, table: &mut [u16], answer: &mut [u64; 4]) 
     handed(logs::fresh(n, table), answer)
 }
 
-// Takes a word into the log with this summary. answer[0], [1], [2]: n, rows and events of the next summary.
+// Takes a word into the log with this summary, whose numbers C hands over one by one. answer[0], [1], [2]: n, rows and events of the next summary.
 #[unsafe(no_mangle)]
 pub extern "C" fn hov_take(
     n: usize,

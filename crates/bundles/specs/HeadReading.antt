@@ -1,6 +1,7 @@
 -- A bundle up to its last place: its head as the code reads it, and the answer of a call that reads it and does not judge.
 use Rattle.std.specs.Prelude.{◌≡◌, Bool, cond, List, [], ◌∷◌, ℕ, ◌+◌, ◌-◌, ◌*◌, ◌≤◌, ◌<◌, length, drop, Ok, Err}
 use Rattle.std.proofs.Math.Path.{refl, ap, ap₂}
+use Rattle.std.proofs.Props.{props}
 use Rattle.std.proofs.Common.{sym, ◌∙◌, subst, arith}
 use Rattle.std.proofs.Math.Bool.{true, false}
 use Rattle.std.proofs.Math.Logic.{inl}
@@ -22,7 +23,7 @@ use Rattle.bundles.specs.FieldReading.{between, between_true, byte-got}
 use Rattle.bundles.specs.ReadingLaws.{and_then-got, require-got}
 use Rattle.bundles.specs.NumberReading.{items_at, items-length}
 use Rattle.bundles.specs.WordReading.{words_unlimited}
-use Rattle.bundles.specs.PlaceReading.{place_size, place_spot, behind, fields_at, kept_places, places_read, placed, place_inside, PlacesAt, places-got}
+use Rattle.bundles.specs.PlaceReading.{Kept, place_size, spot_of, end_of, fields_at, kept_places, places_read, placed, place_inside, PlacesAt, places-got}
 use Rattle.bundles.specs.Limits.{got→front, front→got}
 use Rattle.bundles.specs.Refusing.{reader_head}
 use Rattle.std.specs.Borrow.{Bor}
@@ -30,23 +31,22 @@ use Rattle.nets.specs.Nets.{event_count}
 use Rattle.refusals.specs.Answers.{Answer}
 use Rattle.bundles.specs.Reading as reading
 use Rattle.bundles.specs.Chains.{answer_in, mapped, map_read}
-use Rattle.bundles.specs.declared.net.Net.{Net}
 
 -- a first byte that was read is 1 to 12
 pub first-limits : (b : List ℕ) (at n next : ℕ) → first_byte b at ≡ got n next → (1 ≤ n) × (n ≤ max_events)
 first-limits b at n next e = between_true 1 max_events n (byte-got (between 1 max_events) b at n next e).0
 
 -- what the code keeps of a head: the event count, and where the places are
-unfoldable pub net_read : Bor (List ℕ) → Read Head → Read Net
+unfoldable pub net_read : Bor (List ℕ) → Read Head → Read Kept
 net_read bundle (value (item h next)) = got (kept_places bundle h.events h.places next) next
 net_read bundle (refused number spot) = refused number spot
 
 -- a reader of a head, as the code keeps it
-abbrev pub headed : Bor (List ℕ) → reading.Reader Head → reading.Reader Net
+abbrev pub headed : Bor (List ℕ) → reading.Reader Head → reading.Reader Kept
 headed bundle r b at = net_read bundle (r b at)
 
 -- without the offset behind it
-abbrev pub head_read : Bor (List ℕ) → Read Head → Answer Net
+abbrev pub head_read : Bor (List ℕ) → Read Head → Answer Kept
 head_read bundle m = answer_in (net_read bundle m)
 
 -- ---- the laws
@@ -72,13 +72,13 @@ module _ (rows_fit : ℕ → Log → Bool) (b : List ℕ) where
 
 -- what the code keeps of a head, by the reads that it makes: behind the words, the word count and the event count
 module _ (bundle : Bor (List ℕ)) (rows_fit : ℕ → Log → Bool) (n : ℕ) where
-  abbrev pub behind_words : ℕ → reading.Reader Net
+  abbrev pub behind_words : ℕ → reading.Reader Kept
   behind_words events = placed bundle n (places n)
 
-  abbrev pub behind_count : ℕ → reading.Reader Net
+  abbrev pub behind_count : ℕ → reading.Reader Kept
   behind_count count = mapped event_count (following count (word (rows_fit n) n)) >>= behind_words
 
-  abbrev pub behind_n : reading.Reader Net
+  abbrev pub behind_n : reading.Reader Kept
   behind_n = byte anything >>= behind_count
 
 pub head_chain : (bundle : Bor (List ℕ)) (rows_fit : ℕ → Log → Bool) (b : List ℕ) (at : ℕ)
@@ -123,15 +123,19 @@ module _ (b : List ℕ) where
 -- ---- a head that was read
 
 -- the net is what the code keeps of the head of its bundle, which is read up to the last place
-pub record HeadAt (net : Net) : Type 0 where
-  pub read : head any_rows net.bundle.now 0 ≡ got (head_of net.bundle.now) (behind net)
+pub record HeadAt (net : Kept) : Type 0 where
+  pub read : head any_rows net.bundle.now 0 ≡ got (head_of net.bundle.now) (end_of net)
   pub events : (head_of net.bundle.now).events ≡ net.n
   pub limits : (1 ≤ net.n) × (net.n ≤ max_events)
   pub few : net.count ≤ max_places
   pub places : (head_of net.bundle.now).places ≡ items_at (place_size net.n) (fields_at net.n) net.count net.bundle.now net.first
-  pub inside : behind net ≤ length net.bundle.now
+  pub inside : end_of net ≤ length net.bundle.now
 
-module _ {net : Net} (found : HeadAt net) where
+-- it has one proof at most
+pub HeadAt-prop : (net : Kept) → IsProp (HeadAt net)
+HeadAt-prop net = hlevel props
+
+module _ {net : Kept} (found : HeadAt net) where
   -- so many places are there
   pub place-count : length (head_of net.bundle.now).places ≡ net.count
   place-count = ap length found.places ∙ items-length (place_size net.n) (fields_at net.n) net.count net.bundle.now net.first
@@ -141,7 +145,7 @@ module _ {net : Net} (found : HeadAt net) where
   net-size = length-map (head_of net.bundle.now).places to_place ∙ place-count
 
   -- each lies in the bundle
-  pub place_within : (j : ℕ) → j < net.count → place_spot net j + 2 * place_size net.n ≤ length net.bundle.now
+  pub place_within : (j : ℕ) → j < net.count → spot_of net j + 2 * place_size net.n ≤ length net.bundle.now
   place_within j h = place_inside net.n net.first net.count j (length net.bundle.now) h found.inside
 
 module _ (rows_fit : ℕ → Log → Bool) (b : List ℕ) (n : ℕ) (h : Head) (next : ℕ) where
@@ -191,7 +195,7 @@ head-of b h next e = rw e
 
 -- what the code keeps of a head
 kept_of : (bundle : Bor (List ℕ)) (h : Head) (next : ℕ) → head any_rows bundle.now 0 ≡ got h next → head_of bundle.now ≡ h
-    → HeadAt (kept_places bundle h.events h.places next) × (behind (kept_places bundle h.events h.places next) ≡ next)
+    → HeadAt (kept_places bundle h.events h.places next) × (end_of (kept_places bundle h.events h.places next) ≡ next)
 kept_of bundle h next is same =
     let b = bundle.now in
     let parts = head-parts any_rows b h next is in
@@ -214,7 +218,7 @@ kept_of bundle h next is same =
     )
 
 pub head-taken : (rows_fit : ℕ → Log → Bool) (bundle : Bor (List ℕ)) (h : Head) (next : ℕ) → head rows_fit bundle.now 0 ≡ got h next
-    → (head_of bundle.now ≡ h) × HeadAt (kept_places bundle h.events h.places next) × (behind (kept_places bundle h.events h.places next) ≡ next)
+    → (head_of bundle.now ≡ h) × HeadAt (kept_places bundle h.events h.places next) × (end_of (kept_places bundle h.events h.places next) ≡ next)
 head-taken rows_fit bundle h next e =
     let is = head_unlimited rows_fit bundle.now h next e in
     let same = head-of bundle.now h next is in
@@ -222,19 +226,19 @@ head-taken rows_fit bundle h next e =
     (same, kept.0, kept.1)
 
 -- a head that the code has read, behind the bundle's length
-pub head-kept : (bundle : Bor (List ℕ)) (net : Net) → head_read bundle (bundle_head bundle.now 0) ≡ Ok net
-    → HeadAt net × (net.bundle.now ≡ bundle.now) × (bundle_head bundle.now 0 ≡ got (head_of bundle.now) (behind net))
+pub head-kept : (bundle : Bor (List ℕ)) (net : Kept) → head_read bundle (bundle_head bundle.now 0) ≡ Ok net
+    → HeadAt net × (net.bundle.now ≡ bundle.now) × (bundle_head bundle.now 0 ≡ got (head_of bundle.now) (end_of net))
 unfolding net_read answer_in
 head-kept bundle net e = go (bundle_head bundle.now 0) refl e
   where
     go : (m : Read Head) → bundle_head bundle.now 0 ≡ m → head_read bundle m ≡ Ok net
-        → HeadAt net × (net.bundle.now ≡ bundle.now) × (bundle_head bundle.now 0 ≡ got (head_of bundle.now) (behind net))
+        → HeadAt net × (net.bundle.now ≡ bundle.now) × (bundle_head bundle.now 0 ≡ got (head_of bundle.now) (end_of net))
     go (value (item h next)) is q =
         let same : kept_places bundle h.events h.places next ≡ net = cc in
         let read = behind-size bundle.now h next is in
         let of_b = head-of bundle.now h next read in
         let kept = kept_of bundle h next read of_b in
-        subst (λ (k : Net). HeadAt k × (k.bundle.now ≡ bundle.now) × (bundle_head bundle.now 0 ≡ got (head_of bundle.now) (behind k))) same
+        subst (λ (k : Kept). HeadAt k × (k.bundle.now ≡ bundle.now) × (bundle_head bundle.now 0 ≡ got (head_of bundle.now) (end_of k))) same
         (kept.0, refl, is ∙ ap₂ got (sym of_b) (sym kept.1))
     go (refused number spot) is q = impossible cc
 
@@ -333,6 +337,6 @@ module _ (bundle : Bor (List ℕ)) where
       go (value (item h next)) q = impossible cc
       go (refused number spot) q = let same : record { number = number; spot = spot } ≡ r = cc in ap (λ (r : Refusal). refused r.number r.spot) same
 
-  pub kept_read : (net : Net) → head_read bundle (bundle_head bundle.now 0) ≡ Ok net → HeadAt net × (net.bundle.now ≡ bundle.now) × HeadIsRead bundle.now
+  pub kept_read : (net : Kept) → head_read bundle (bundle_head bundle.now 0) ≡ Ok net → HeadAt net × (net.bundle.now ≡ bundle.now) × HeadIsRead bundle.now
   unfolding read_head bind item_in
   kept_read net e = let found = head-kept bundle net e in (found.0, found.1, rw found.2)

@@ -16,3 +16,4 @@ pub mod TermReading
 pub mod HeadReading
 pub mod Scaling
 pub mod NextPlace
+pub mod Keeping

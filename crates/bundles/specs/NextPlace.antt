@@ -9,9 +9,8 @@ use Rattle.places.specs.declared.Place as Declared
 use Rattle.bundles.specs.Layout.{to_place, to_net}
 use Rattle.bundles.specs.Readers.{net_in}
 use Rattle.bundles.specs.NumberReading.{items_at, items-length, get_d_items}
-use Rattle.bundles.specs.PlaceReading.{place_size, fields_at, place_on, machine_place, place_means, place_inside, place_spot}
+use Rattle.bundles.specs.PlaceReading.{place_size, fields_at, place_on, machine_place, place_means, place_inside, Kept, spot_of, place_there}
 use Rattle.bundles.specs.HeadReading.{HeadAt}
-use Rattle.bundles.specs.declared.net.Net.{Net}
 
 -- of `count` places from `first` on, j are done, and `spot` is the offset of the next one
 pub record Next (n first count spot j : ℕ) : Type 0 where
@@ -39,8 +38,8 @@ module _ {n first count spot j : ℕ} (next : Next n first count spot j) (h : j 
 abbrev pub place_in : List ℕ → ℕ → Place
 place_in b j = get_or (net_in b) j no_place
 
-module _ {net : Net} (found : HeadAt net) (j : ℕ) (h : j < net.count) where
-  pub place_is : place_in net.bundle.now j ≡ place_on net.n net.bundle.now (place_spot net j)
+module _ {net : Kept} (found : HeadAt net) (j : ℕ) (h : j < net.count) where
+  pub place_is : place_in net.bundle.now j ≡ place_there net j
   unfolding to_net
   place_is =
       let n = net.n in
@@ -52,5 +51,5 @@ module _ {net : Net} (found : HeadAt net) (j : ℕ) (h : j < net.count) where
       ∙ ap to_place (get_d_items (place_size n) (fields_at n) net.count b net.first j d h))
 
   -- the code's place j is place j of the net
-  pub place_same : {q : Declared.Place} → q ≡ machine_place (fields_at net.n net.bundle.now (place_spot net j)) → place_of q ≡ place_in net.bundle.now j
-  place_same e = ap place_of e ∙ place_means (fields_at net.n net.bundle.now (place_spot net j)) ∙ sym place_is
+  pub place_same : {q : Declared.Place} → q ≡ machine_place (fields_at net.n net.bundle.now (spot_of net j)) → place_of q ≡ place_in net.bundle.now j
+  place_same e = ap place_of e ∙ place_means (fields_at net.n net.bundle.now (spot_of net j)) ∙ sym place_is

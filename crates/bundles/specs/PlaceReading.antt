@@ -1,4 +1,4 @@
--- Places: their bytes, the code's structs for one and for those of a bundle.
+-- Places: their bytes, the code's struct for one, and what the code keeps of those of a bundle.
 use Rattle.std.specs.Prelude.{◌≡◌, Bool, cond, ◌⊎◌, List, [], ◌∷◌, ◌++◌, ℕ, suc, ◌+◌, ◌-◌, ◌*◌, ◌≤◌, ◌<◌, leb, length, get_or, Ok, Err}
 use Rattle.std.proofs.Math.Path.{refl, ap}
 use Rattle.std.proofs.Common.{sym, ◌∙◌, subst, inl, inr, ⊎_elim, append_assoc, mul-one, suc-mul, mul-le-mul_right, add-one, length-append}
@@ -28,9 +28,8 @@ use Rattle.bundles.specs.ReadingLaws.{and_then-got}
 use Rattle.bundles.specs.NumberReading.{Spans, spans_number, spans_give, spans_same, spans_then, spans_times, numbers_left, items_at, items-length, items_snoc, get_d_items}
 use Rattle.refusals.specs.Answers.{refusal}
 use Rattle.refusals.specs.declared.Refusal.{Refusal}
-use Rattle.bundles.specs.Chains.{ReadBy, read_got, read-refused, →got, →refused}
+use Rattle.bundles.specs.Chains.{ReadAs, ReadBy, read_got, read-refused, →got, →refused}
 use Rattle.bundles.specs.declared.Reader.{Reader}
-use Rattle.bundles.specs.declared.net.Net.{Net}
 
 -- ---- one place
 
@@ -157,24 +156,35 @@ module _ (n : ℕ) (b : List ℕ) (at : ℕ) where
 
 -- ---- the places of a bundle
 
+-- what the code keeps of them: the bundle and n, their count, and the offset of the first
+pub record Kept : Type 0 where
+  pub bundle : Bor (List ℕ)
+  pub n : ℕ
+  pub count : ℕ
+  pub first : ℕ
+
 -- the offset of place j
-abbrev pub place_spot : Net → ℕ → ℕ
-place_spot net j = net.first + 2 * (j * place_size net.n)
+abbrev pub spot_of : Kept → ℕ → ℕ
+spot_of net j = net.first + 2 * (j * place_size net.n)
 
 -- the offset behind the last place
-abbrev pub behind : Net → ℕ
-behind net = place_spot net net.count
+abbrev pub end_of : Kept → ℕ
+end_of net = spot_of net net.count
 
--- what the code keeps of places that end at `next`: the bundle and n, their count, and the offset of the first
-abbrev pub kept_places : Bor (List ℕ) → ℕ → List PlaceFields → ℕ → Net
+-- the place there
+abbrev pub place_there : Kept → ℕ → theory.Place
+place_there net j = place_on net.n net.bundle.now (spot_of net j)
+
+-- of places that end at `next`
+abbrev pub kept_places : Bor (List ℕ) → ℕ → List PlaceFields → ℕ → Kept
 kept_places bundle n ps next = record { bundle = bundle; n = n; count = length ps; first = next - 2 * (length ps * place_size n) }
 
-unfoldable pub places_read : Bor (List ℕ) → ℕ → Read (List PlaceFields) → Read Net
+unfoldable pub places_read : Bor (List ℕ) → ℕ → Read (List PlaceFields) → Read Kept
 places_read bundle n (value (item ps next)) = got (kept_places bundle n ps next) next
 places_read bundle n (refused number spot) = refused number spot
 
 -- a reader of places, as the code keeps them
-abbrev pub placed : Bor (List ℕ) → ℕ → reading.Reader (List PlaceFields) → reading.Reader Net
+abbrev pub placed : Bor (List ℕ) → ℕ → reading.Reader (List PlaceFields) → reading.Reader Kept
 placed bundle n r b at = places_read bundle n (r b at)
 
 module _ (n : ℕ) (b : List ℕ) (at : ℕ) where
@@ -204,23 +214,32 @@ module _ {old new : Reader} (n count : ℕ) (counted : ReadBy old new (Ok count)
   pub count-few : count ≤ max_places
   count-few = leb-true count max_places (byte-got (up_to max_places) old.bytes.now old.at count new.at (read_got counted)).0
 
-  pub read-missing : numbers_left new.bytes.now new.at < count * place_size n
-      → ReadBy old new (Err (refusal bundle_end_number (new.at + 2 * numbers_left new.bytes.now new.at))) (placed old.bytes n (places n))
+  pub read-missing : {A : Type 0} {means : A → Kept} → numbers_left new.bytes.now new.at < count * place_size n
+      → ReadAs means old new (Err (refusal bundle_end_number (new.at + 2 * numbers_left new.bytes.now new.at))) (placed old.bytes n (places n))
   unfolding places_read
   read-missing short =
       let here = rw counted.bytes at short in
       →refused counted.bytes (rw counted.bytes (ap (places_read old.bytes n) (places-missing n old.bytes.now old.at (read_got counted) here)))
 
-  pub read_kept : count * place_size n ≤ numbers_left new.bytes.now new.at
-      → ReadBy old (record new { at = new.at + 2 * (count * place_size n) }) (Ok (record { bundle = new.bytes; n = n; count = count; first = new.at }))
-      (placed old.bytes n (places n))
-  read_kept there =
+  pub read_kept : {A : Type 0} {means : A → Kept} → count * place_size n ≤ numbers_left new.bytes.now new.at → {x : A} {after : Reader}
+      → means x ≡ record { bundle = new.bytes; n = n; count = count; first = new.at } → after ≡ record new { at = new.at + 2 * (count * place_size n) }
+      → ReadAs means old after (Ok x) (placed old.bytes n (places n))
+  read_kept there is ends =
       let here = rw counted.bytes at there in
-      →got counted.bytes (rw counted.bytes (places-kept n old.bytes.now old.at (read_got counted) old.bytes here))
+      rw ends (→got counted.bytes (rw (is, counted.bytes) (places-kept n old.bytes.now old.at (read_got counted) old.bytes here)))
 
-pub read-uncounted : {old new : Reader} {e : Refusal} (n : ℕ) → ReadBy old new (Err e) (byte (up_to max_places)) → ReadBy old new (Err e) (placed old.bytes n (places n))
+  -- they are inside the bundle
+  pub kept-inside : count * place_size n ≤ numbers_left new.bytes.now new.at → new.at + 2 * (count * place_size n) ≤ length new.bytes.now
+  kept-inside there =
+      let field = byte-got (up_to max_places) old.bytes.now old.at count new.at (read_got counted) in
+      let within : new.at ≤ length new.bytes.now = rw counted.bytes field.3 in
+      let left : 2 * numbers_left new.bytes.now new.at ≤ length new.bytes.now - new.at = omega arith in
+      omega (arith, there, within, left)
+
+pub read-uncounted : {A : Type 0} {means : A → Kept} {old new : Reader} {e : Refusal} (n : ℕ) → ReadBy old new (Err e) (byte (up_to max_places))
+    → ReadAs means old new (Err e) (placed old.bytes n (places n))
 unfolding places_read
-read-uncounted {old} n refuses = →refused refuses.bytes (ap (places_read old.bytes n) (places-failed n old.bytes.now old.at (read-refused refuses)))
+read-uncounted {A} {means} {old} n refuses = →refused refuses.bytes (ap (places_read old.bytes n) (places-failed n old.bytes.now old.at (read-refused refuses)))
 
 -- places that were read: so many, one behind the other
 pub record PlacesAt (n : ℕ) (b : List ℕ) (ps : List PlaceFields) (next : ℕ) : Type 0 where

@@ -9,8 +9,9 @@ pub mod words; // a word, the words of a log
 
 ghost use Rattle.std.specs.Prelude.{◌≡◌};
 ghost use Rattle.bundles.specs.Readers.{any_rows, first_byte, head, bundle_head};
-ghost use Rattle.bundles.specs.Chains.{ReadBy};
+ghost use Rattle.bundles.specs.Chains.{ReadAs, ReadBy};
 ghost use Rattle.bundles.specs.HeadReading.{headed, head_read};
+ghost use Rattle.bundles.specs.Keeping.{kept, kept_answer};
 
 use limits::{MAX_EVENTS, size_fits};
 use net::Net;
@@ -35,7 +36,7 @@ impl<'a> Reader<'a> {
     // The fields of a bundle up to its last place.
     #[inline(always)]
     fn head(&mut self) -> Result<Net<'a>, Refusal>
-        ensures { ReadBy self.old self.new result (headed self.old.bytes (head any_rows)) }
+        ensures { ReadAs kept self.old self.new result (headed self.old.bytes (head any_rows)) }
     {
         let n = self.first_byte()?;
         let count = self.any_byte()?;
@@ -47,7 +48,7 @@ impl<'a> Reader<'a> {
 // A bundle up to its last place: its length, then its fields.
 #[inline(always)]
 pub fn read_head(bundle: &[u8]) -> Result<Net, Refusal>
-    ensures { result ≡ head_read bundle.entry (bundle_head bundle.now 0) }
+    ensures { kept_answer result ≡ head_read bundle.entry (bundle_head bundle.now 0) }
 {
     if !size_fits(bundle.len()) {
         return Err(Cause::BundleLength.at(0));

@@ -1,13 +1,10 @@
 // The places of a net. Any two bytes are a number, so they are there when so many numbers are. All are inner functions.
 ghost use Rattle.std.specs.Prelude.{◌≡◌, cond, ◌+◌, ◌*◌, ◌≤◌, ◌<◌, ltb, length};
 ghost use Rattle.laws.specs.Numbers.{number_at};
-ghost use Rattle.limits.specs.Limits.{max_events};
+ghost use Rattle.limits.specs.Limits.{max_events, max_places};
 ghost use Rattle.nets.specs.Nets.{place_permits};
 ghost use Rattle.bundles.specs.Readers.{places};
-ghost use Rattle.bundles.specs.Chains.{ReadBy};
-ghost use Rattle.bundles.specs.PlaceReading.{place_size, numbers_at, fields_at, widened, machine_place, place_on, placed, place_spot};
-ghost use Rattle.bundles.specs.HeadReading.{HeadAt};
-ghost use Rattle.bundles.specs.NextPlace.{place_in};
+ghost use Rattle.bundles.specs.PlaceReading.{place_size, numbers_at, fields_at, widened, machine_place, place_on, placed};
 
 use crate::Reader;
 use limits::{MAX_EVENTS, MAX_PLACES};
@@ -15,22 +12,27 @@ use places::{Place, covers, gain};
 use refusals::{Cause, Refusal};
 use slices::number_at;
 
-// The places of a bundle over n events: how many they are, and the offset of the first. `HeadAt` is a clause and no ghost field: `Reader::places`
-// makes a net before it is known that what was read is the bundle's head.
+// The places of a bundle over n events: how many they are, and the offset of the first.
 #[derive(Clone, Copy)]
 pub struct Net<'a> {
     pub bundle: &'a [u8],
     pub n: u8,
     pub count: usize,
     pub first: usize,
+    pub ghost limit: { n ≤ max_events },
+    pub ghost few: { count ≤ max_places },
+    pub ghost inside: { first + 2 * (count * place_size n) ≤ length bundle.now },
 }
 
 impl<'a> Reader<'a> {
+    ghost use Rattle.bundles.specs.Chains.{ReadAs};
+    ghost use Rattle.bundles.specs.Keeping.{kept};
+
     // The place count, and the places of n events behind it.
     #[inline(always)]
     pub fn places(&mut self, n: u8) -> Result<Net<'a>, Refusal>
         requires { n ≤ max_events }
-        ensures { ReadBy self.old self.new result (placed self.old.bytes n (places n)) }
+        ensures { ReadAs kept self.old self.new result (placed self.old.bytes n (places n)) }
     {
         let count = usize::from(self.byte(|k| usize::from(k) <= MAX_PLACES)?);
         let first = self.at;
@@ -115,10 +117,12 @@ fn permits_at(bundle: &[u8], at: usize, n: usize, counts: &[u16], event: usize) 
 }
 
 impl<'a> Net<'a> {
+    ghost use Rattle.bundles.specs.Keeping.{place_spot};
+
     // The offset of place j, or the one behind the last place.
     #[inline(always)]
     pub fn offset(&self, j: usize) -> usize
-        requires { HeadAt self.now × (j ≤ self.now.count) }
+        requires { j ≤ self.now.count }
         ensures { result ≡ place_spot self.now j }
     {
         self.first + 2 * (j * (1 + 2 * usize::from(self.n)))
@@ -127,7 +131,7 @@ impl<'a> Net<'a> {
     // Place j.
     #[inline(always)]
     pub fn place(&self, j: usize) -> Place
-        requires { HeadAt self.now × (j < self.now.count) }
+        requires { j < self.now.count }
         ensures { result ≡ machine_place (fields_at self.now.n self.now.bundle.now (place_spot self.now j)) }
     {
         let at = self.offset(j);
@@ -142,7 +146,7 @@ impl<'a> Net<'a> {
     // The initial tokens of place j alone.
     #[inline(always)]
     pub fn initial(&self, j: usize) -> u16
-        requires { HeadAt self.now × (j < self.now.count) }
+        requires { j < self.now.count }
         ensures { result ≡ number_at self.now.bundle.now (place_spot self.now j) }
     {
         number_at(self.bundle, self.offset(j))
@@ -150,8 +154,9 @@ impl<'a> Net<'a> {
 
     // Whether place j permits the event after the counts.
     pub fn permits(&self, j: usize, counts: &[u16], event: usize) -> bool
-        requires { HeadAt self.now × (j < self.now.count) × (self.now.n ≤ length counts.now) × (event < self.now.n) }
-        ensures { result ≡ place_permits self.now.n (place_in self.now.bundle.now j) (record { row = counts.now; event = event }) }
+        requires { (j < self.now.count) × (self.now.n ≤ length counts.now) × (event < self.now.n) }
+        ensures { result ≡ place_permits self.now.n (place_on self.now.n self.now.bundle.now (place_spot self.now j))
+            (record { row = counts.now; event = event }) }
     {
         permits_at(
             self.bundle,

@@ -19,6 +19,7 @@ impl From<Kind> for u8 {
     ghost from_gives = { λ kind number. number ≡ kind_number kind };
 
     fn from(kind: Kind) -> u8 {
+        // Its discriminant.
         kind as u8
     }
 }

@@ -7,7 +7,7 @@ ghost use Rattle.bundles.specs.Chains.{ReadBy};
 ghost use Rattle.bundles.specs.Reading.{each};
 ghost use Rattle.bundles.specs.Layout.{wrong_in};
 ghost use Rattle.bundles.specs.Readers.{head_of};
-ghost use Rattle.bundles.specs.PlaceReading.{behind};
+ghost use Rattle.bundles.specs.Keeping.{behind};
 ghost use Rattle.verdicts.specs.Judging.{solved};
 ghost use Rattle.certificates.specs.Certifying.{certified_of, place_checked, weights_checked, certificate_checked};
 ghost use Rattle.certificates.specs.CertificateReading.{counted, Outcome};

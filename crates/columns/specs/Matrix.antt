@@ -80,6 +80,10 @@ pub record Beside (m m' : Matrix) (j : ℕ) : Type 0 where
   pub produced : (e k : ℕ) → (k ≡ j → ⊥) → number m'.produced e k ≡ number m.produced e k
   pub consumed : (e k : ℕ) → (k ≡ j → ⊥) → number m'.consumed e k ≡ number m.consumed e k
 
--- the first `count` columns have the places of a bundle
-pub record Filled (b : List ℕ) (m : Matrix) (count : ℕ) : Type 0 where
-  pub places : (j : ℕ) → j < count → SamePlace (column m j) (place_in b j)
+-- the first `count` columns have such places
+pub record Columns (place : ℕ → Place) (m : Matrix) (count : ℕ) : Type 0 where
+  pub places : (j : ℕ) → j < count → SamePlace (column m j) (place j)
+
+-- those of a bundle
+abbrev pub Filled : List ℕ → Matrix → ℕ → Type 0
+Filled b m count = Columns (place_in b) m count

@@ -17,10 +17,12 @@ use Rattle.limits.specs.Limits.{max_events}
 use Rattle.nets.specs.Nets.{Place, Step, Counts, at, tokens, surplus, place_permits}
 use Rattle.nets.specs.Surplus.{given, taken, tokens-is, tokens-row, permits→le, le→permits, tokens-zeros}
 use Rattle.rows.specs.Rows.{row_size, Row, none, row_at}
-use Rattle.bundles.specs.NextPlace.{place_in}
+use Rattle.bundles.specs.PlaceReading.{Kept, place_there}
+use Rattle.bundles.specs.HeadReading.{HeadAt}
+use Rattle.bundles.specs.NextPlace.{place_is}
 use Rattle.columns.specs.declared.Matrix.{Matrix}
 use Rattle.columns.specs.RowFits.{row_fits, fits_rows}
-use Rattle.columns.specs.Matrix.{number, column, SamePlace, Marking, Covered, shifted, Shifted, Recounted, Beside, Filled}
+use Rattle.columns.specs.Matrix.{number, column, SamePlace, Marking, Covered, shifted, Shifted, Recounted, Beside, Columns, Filled}
 
 -- ---- The tokens
 
@@ -255,9 +257,9 @@ module _ {m₀ : Matrix} {j : ℕ} {p : Place} where
 -- ---- The places of a bundle written into the columns
 
 -- one column more, the others untouched
-pub written_next : {b : List ℕ} {m m' : Matrix} {j : ℕ} → Filled b m j → Beside m m' j → SamePlace (column m' j) (place_in b j) → Filled b m' (j + 1)
-written_next {b} {m} {m'} {j} below beside here = record {
-  places = each_next (λ (i : ℕ). SamePlace (column m' i) (place_in b i)) j
+pub written_next : {place : ℕ → Place} {m m' : Matrix} {j : ℕ} → Columns place m j → Beside m m' j → SamePlace (column m' j) (place j) → Columns place m' (j + 1)
+written_next {place} {m} {m'} {j} below beside here = record {
+  places = each_next (λ (i : ℕ). SamePlace (column m' i) (place i)) j
       (λ i l.
       let there = below.places i l in
       let other : i ≡ j → ⊥ = λ e. omega arith in
@@ -268,3 +270,7 @@ written_next {b} {m} {m'} {j} below beside here = record {
       })
       here;
 }
+
+-- those that the code keeps of a bundle's head are the bundle's
+pub filled : {net : Kept} {m : Matrix} → HeadAt net → Columns (place_there net) m net.count → Filled net.bundle.now m net.count
+filled {net} {m} found written = record { places = λ j h. subst (SamePlace (column m j)) (sym (place_is found j h)) (written.places j h) }

@@ -9,9 +9,10 @@ ghost use Rattle.laws.specs.Bits.{bit};
 ghost use Rattle.limits.specs.Limits.{max_events};
 ghost use Rattle.places.specs.Machine.{place_of};
 ghost use Rattle.rows.specs.Rows.{row_size, none, rows_of};
-ghost use Rattle.bundles.specs.HeadReading.{HeadAt};
+ghost use Rattle.bundles.specs.PlaceReading.{place_there};
+ghost use Rattle.bundles.specs.Keeping.{kept};
 ghost use Rattle.columns.specs.RowFits.{fits_rows};
-ghost use Rattle.columns.specs.Matrix.{matrix_width, block_width, clear_matrix, column, SamePlace, Beside, Filled};
+ghost use Rattle.columns.specs.Matrix.{matrix_width, block_width, clear_matrix, column, SamePlace, Beside, Columns};
 ghost use Rattle.columns.specs.Markings.{IsModerate, IsMarking, GoesOn, CoversEvent};
 
 use bundles::net::Net;
@@ -60,8 +61,7 @@ impl Matrix {
 
     // Writes the places of a net into the columns.
     pub fn write(&mut self, net: Net)
-        requires { HeadAt net }
-        ensures { Filled net.entry.bundle.now self.new net.entry.count }
+        ensures { Columns (place_there (kept net.entry)) self.new net.entry.count }
     {
         for j in 0..net.count {
             self.write_column(j, net.place(j));

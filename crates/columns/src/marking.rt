@@ -8,7 +8,7 @@ use limits::MAX_EVENTS;
 use places::{gain, shortfall, surplus};
 use rows::Counts;
 
-// Writes the initial tokens, by number of the column.
+// Writes the initial tokens, by number of the column: an `iter_mut` cut to the width is no plainer.
 pub(crate) fn start(tokens: &mut [i64; WIDTH], width: usize, initial: &[u16; WIDTH])
     requires { width ≤ matrix_width }
     ensures value { (j : ℕ) → j < width → get_or tokens.new j (pos 0) ≡ pos (get_or initial.now j 0) }
@@ -41,7 +41,8 @@ fn shift(tokens: &mut [i64], plus: &[u16; WIDTH], minus: &[u16; WIDTH], times: u
     }
 }
 
-// The tokens where an event goes from `before` to `after` occurrences. Most counts stay.
+// The tokens where an event goes from `before` to `after` occurrences. Most counts stay. Six parameters, since a struct with a ghost field can't lend
+// its tokens as a slice.
 #[inline(always)]
 pub(crate) fn recount(
     tokens: &mut [i64; WIDTH],

@@ -1,5 +1,5 @@
 -- A bundle's head that is read while the rows of its log are taken into a table.
-use Rattle.std.specs.Prelude.{◌≡◌, refl, List, ℕ, ◌*◌, ◌≤◌, ◌<◌, length, get_or, drop, Ok, Err}
+use Rattle.std.specs.Prelude.{◌≡◌, List, ℕ, ◌*◌, ◌≤◌, ◌<◌, length, get_or, drop, Ok, Err}
 use Rattle.std.specs.Borrow.{Bor}
 use Rattle.std.proofs.Props.{props}
 use Rattle.std.proofs.Common.{sym, ap, ap₂, ◌∙◌, subst, arith}
@@ -16,7 +16,8 @@ use Rattle.logs.specs.Log.{log_rows}
 use Rattle.bundles.specs.Reading.{Read, got, item, byte, following, onward}
 use Rattle.bundles.specs.Layout.{PlaceFields, Head, words_in, LogBelowIn, rows_in}
 use Rattle.bundles.specs.Readers.{first_byte, anything, word, places, head, rows_in_limit, head_of, log_in, head_after}
-use Rattle.bundles.specs.PlaceReading.{behind, kept_places, places_read}
+use Rattle.bundles.specs.PlaceReading.{Kept, end_of, kept_places, places_read}
+use Rattle.bundles.specs.Keeping.{kept, behind}
 use Rattle.bundles.specs.HeadReading.{HeadAt, head-failed, head-got, after-failed, words-failed, head-taken}
 use Rattle.bundles.specs.declared.net.Net.{Net}
 use Rattle.heads.specs.Taken.{Fresh, LogHeld, held-rest}
@@ -24,7 +25,7 @@ use Rattle.heads.specs.Taken.{Fresh, LogHeld, held-rest}
 -- the net is what the code keeps of the head of its bundle, and the table t has the rows of its log in front, which are so many; the bundle is of
 -- bytes and the table of two-byte numbers
 pub record HeadHeld (t : List ℕ) (net : Net) (row_count : ℕ) : Type 0 where
-  pub found : HeadAt net
+  pub found : HeadAt (kept net)
   pub below : LogBelowIn (head_of net.bundle.now)
   pub size : row_count ≡ length (rows_in (head_of net.bundle.now))
   pub few : row_count ≤ max_rows
@@ -47,7 +48,7 @@ HeadIs bundle t₀ t (Ok (net, row_count)) =
 HeadIs bundle t₀ t (Err r) = (head rows_in_limit bundle.now 0 ≡ refused r.number r.spot) × (drop table_size t ≡ drop table_size t₀)
 
 -- places that the code has read
-places-kept : (bundle : Bor (List ℕ)) (n : ℕ) (m : Read (List PlaceFields)) (net : Net) (next : ℕ) → places_read bundle n m ≡ got net next
+places-kept : (bundle : Bor (List ℕ)) (n : ℕ) (m : Read (List PlaceFields)) (net : Kept) (next : ℕ) → places_read bundle n m ≡ got net next
     → (ps : List PlaceFields) × (m ≡ got ps next) × (kept_places bundle n ps next ≡ net)
 unfolding places_read
 places-kept bundle n (value (item ps end)) net next e =
@@ -91,24 +92,26 @@ module _ (bundle : Bor (List ℕ)) (t₀ t : List ℕ) where
         unfolding head_after bind onward
         read_whole e = head-got rows_in_limit b 0 events ∙ rw (counted, logged, e)
 
-        pub places-taken : Fresh t₀ → Bytes b → ((i : ℕ) → get_or t i 0 < 65536) → (net : Net) (next : ℕ) → places_read bundle n (places n b end) ≡ got net next
+        pub places-taken : Fresh t₀ → Bytes b → ((i : ℕ) → get_or t i 0 < 65536) → (net : Net) (next : ℕ) → places_read bundle n (places n b end) ≡ got (kept net) next
             → HeadIs bundle t₀ t (Ok (net, row_count))
         places-taken fresh bytes numbers net next e =
-            let k = places-kept bundle n (places n b end) net next e in
+            let k = places-kept bundle n (places n b end) (kept net) next e in
             let h : Head = record { events = n; log = log; places = k.0 } in
             let found = head-taken rows_in_limit bundle h next (read_whole k.1) in
             let is = sym found.0 in
-            subst (λ (q : Net). HeadIs bundle t₀ t (Ok (q, row_count))) k.2 (
-              refl,
-              read_whole k.1 ∙ ap₂ got is (sym found.2),
+            let same : net.bundle ≡ bundle = ap (λ (q : Kept). q.bundle) (sym k.2) in
+            let ends : behind net ≡ next = subst (λ (q : Kept). end_of q ≡ next) k.2 found.2 in
+            let here : head_of bundle.now ≡ head_of net.bundle.now = ap (λ (x : Bor (List ℕ)). head_of x.now) (sym same) in (
+              same,
+              read_whole k.1 ∙ ap₂ got is (sym ends),
               record {
-                found = found.1;
-                below = subst (λ (x : Head). LogBelowIn x) is held.below;
-                size = subst (λ (x : Head). row_count ≡ length (rows_in x)) is held.size;
+                found = subst HeadAt k.2 found.1;
+                below = subst (λ (x : Head). LogBelowIn x) (is ∙ here) held.below;
+                size = subst (λ (x : Head). row_count ≡ length (rows_in x)) (is ∙ here) held.size;
                 few = held.few;
                 room = omega (arith, held.few, held.same, fresh.long);
-                table = subst (λ (x : Head). rows_of row_count t ≡ log_rows (words_in x)) is held.holds.front;
-                bytes = bytes;
+                table = subst (λ (x : Head). rows_of row_count t ≡ log_rows (words_in x)) (is ∙ here) held.holds.front;
+                bytes = subst (λ (x : Bor (List ℕ)). Bytes x.now) (sym same) bytes;
                 numbers = numbers;
               },
               subst (λ (x : Head). Holds row_count (log_rows (words_in x)) t₀ t) is held.holds,

@@ -5,7 +5,7 @@ pub mod files; // judging a sealed file: an inner function
 
 ghost use Rattle.std.specs.Prelude.{◌≡◌, length};
 ghost use Rattle.bundles.specs.Readers.{head_of};
-ghost use Rattle.bundles.specs.PlaceReading.{behind};
+ghost use Rattle.bundles.specs.Keeping.{behind};
 ghost use Rattle.verdicts.specs.Judging.{judging, verdict_of, verdict, table_after};
 ghost use Rattle.heads.specs.Taken.{Fresh};
 ghost use Rattle.judging.specs.JudgeLaws.{afterwards, TableLeft};
@@ -32,7 +32,7 @@ fn judge_net(head: &TakenHead) -> Verdict
     Ok(tally)
 }
 
-// The verdict on a bundle's fields. The table has the row of the empty log.
+// The verdict on a bundle's fields. The table, which is lent on, has the row of the empty log.
 fn judge_fields(bundle: &[u8], table: &mut [u16]) -> Verdict
     requires { Fresh table.old }
     ensures value { result ≡ verdict_of (judging bundle.now 0) }

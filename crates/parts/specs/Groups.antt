@@ -2,17 +2,18 @@
 use Rattle.std.specs.Prelude.{◌≡◌, refl, List, ◌++◌, Option, Some, None, ℕ, ◌+◌, ◌-◌, ◌*◌, min, ◌≤◌, ◌<◌, ℤ, pos, length, take, drop, get_or}
 use Rattle.std.proofs.Common.{sym, ap, ◌∙◌, subst, ⊎_elim, add-mul, mul-le-mul_right, arith, length-take, length-drop, length-append, take_all, get_or-take, get_or-drop, get_or-append-add}
 use Rattle.std.proofs.Math.ListN.{get_or-append}
-use Rattle.std.specs.Borrow.{Bor}
 use Rattle.std.specs.Option.{option_or}
 use Rattle.laws.specs.Booleans.{impossible, lt_or_le}
 use Rattle.limits.specs.Limits.{max_places}
 use Rattle.nets.specs.Nets.{Word, Place}
 use Rattle.replays.specs.Columns.{column_width}
-use Rattle.bundles.specs.PlaceReading.{place_size, place_spot, place_on}
+use Rattle.bundles.specs.PlaceReading.{place_size, place_on}
+use Rattle.bundles.specs.Keeping.{place_spot}
 use Rattle.stops.specs.Positions.{stop_or_end}
 use Rattle.stops.specs.Reached.{place_at, Reached}
-use Rattle.stops.specs.Onward.{place_of, end_of, Late, Onward, onward-none, onward_then, onward-or, late-or}
-use Rattle.parts.specs.Parts.{Marked, MarkedAll, MarkedEight, eight, marked-cut}
+use Rattle.stops.specs.Onward.{FrontOf, place_of, end_of, Late, Onward, onward-none, onward_then, onward-or, late-or, in_front}
+use Rattle.parts.specs.Parts.{Marked, EightIn, MarkedAll, MarkedEight, eight, marked-cut}
+use Rattle.bundles.specs.declared.net.Net as bundle
 use Rattle.stops.specs.declared.Search.{Search}
 use Rattle.stops.specs.declared.Stop.{Stop}
 
@@ -130,22 +131,18 @@ module _ (s : Search) (d : ℕ) (t₀ : List ℤ) where
 
     -- the next eight
     module _ {t : List ℤ} {e : ℕ} {best : Option Stop} (so_far : Searched t e best) (more : e < count) (room : e + column_width ≤ max_places)
-        (front : Bor (List ℕ)) (is : front.now ≡ take (end_of s best) w) where
+        {before : Search} (front : FrontOf s (end_of s best) before) where
       abbrev few : ℕ
       few = eight s e
 
       abbrev offset : ℕ
       offset = place_spot s.net e
 
-      -- the same search in the steps before the best position so far
-      abbrev before : Search
-      before = record s { word = front }
-
       wide : e + column_width ≤ length t
       wide = omega (arith, m.wide, so_far.size)
 
       pub next-marked : MarkedEight before e d (take column_width (drop e t))
-      next-marked = rw is (marked-cut so_far.late.1 so_far.late.0 (record {
+      next-marked = in_front front (λ at k v. EightIn at v e d (take column_width (drop e t))) (marked-cut so_far.late.1 so_far.late.0 (record {
         places = record {
           limit = m.places.limit;
           inside = omega (arith, m.places.inside, add-mul e few (place_size n), mul-le-mul_right (place_size n) fits);
@@ -168,14 +165,14 @@ module _ (s : Search) (d : ℕ) (t₀ : List ℤ) where
           element j h = get_or-take column_width (drop e t) j (pos 0) h ∙ get_or-drop e t j (pos 0) ∙ so_far.rest (e + j) (omega arith)
 
       -- with what is found in them, and the tokens that are left
-      module _ {found : Option Stop} {y : List ℤ} (size : length y ≡ column_width) (onward : Onward before e few None found) (late : Late before d found)
-          (left : found ≡ None → MarkedEight before e (length front.now) y) where
+      module _ {found : Option Stop} {y : List ℤ} (size : length y ≡ column_width) (onward : Onward before e (eight before e) None found) (late : Late before d found)
+          (left : found ≡ None → MarkedEight before e (length before.word.now) y) where
         -- where no step was refused so far
         last : found ≡ None → best ≡ None → MarkedEight s e (length w) y
         unfolding stop_or_end
         last none nothing =
-            let all : front.now ≡ w = is ∙ ap (λ (o : Option Stop). take (end_of s o) w) nothing ∙ take_all (length w) w (omega arith) in
-            subst (λ (v : Word). Marked column_width n b offset few v (length v) y) all (left none)
+            let all : before.word.now ≡ w = front.word ∙ ap (λ (o : Option Stop). take (end_of s o) w) nothing ∙ take_all (length w) w (omega arith) in
+            subst (λ (v : Word). Marked column_width n b offset few v (length v) y) all (subst (λ (at : bundle.Net). EightIn at before.word.now e (length before.word.now) y) front.net (left none))
 
         both : option_or found best ≡ None → (found ≡ None) × (best ≡ None)
         both q = go found q
@@ -199,8 +196,8 @@ module _ (s : Search) (d : ℕ) (t₀ : List ℤ) where
           onward =
               let start : 0 + min e count ≡ e = omega arith in
               let all : min e count + few ≡ min (e + column_width) count = omega arith in
-              onward_then s 0 (min e count) few None best (option_or found best) start all so_far.onward (onward-or s front best found is so_far.late.1 e few onward);
-          late = late-or s front best found is so_far.late.1 d late so_far.late;
+              onward_then s 0 (min e count) few None best (option_or found best) start all so_far.onward (onward-or s best found front so_far.late.1 e (λ at. min column_width (at.count - e)) onward);
+          late = late-or s best found front so_far.late.1 d late so_far.late;
           size = rewritten-size e y t wide size ∙ so_far.size;
           reached = λ nothing j l h.
               let q = both nothing in

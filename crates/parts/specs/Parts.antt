@@ -13,12 +13,14 @@ use Rattle.nets.specs.Events.{EventsBelow}
 use Rattle.nets.specs.Markings.{tokens_none}
 use Rattle.bundles.specs.Layout.{to_place}
 use Rattle.bundles.specs.NumberReading.{items_at, get_d_items}
-use Rattle.bundles.specs.PlaceReading.{place_size, place_spot, fields_at, place-small}
+use Rattle.bundles.specs.PlaceReading.{place_size, fields_at, place-small}
+use Rattle.bundles.specs.Keeping.{place_spot}
 use Rattle.stops.specs.Positions.{step_cut, Best, best-start, best-stays, best-earlier}
 use Rattle.stops.specs.Replay.{replay, Start}
 use Rattle.stops.specs.Searching.{WordOver, net_at, net_snoc, net-length, part-below}
 use Rattle.stops.specs.Reached.{part, place_at, Reached, found-permits, found-refuses, found-short, start_reached}
 use Rattle.replays.specs.Columns.{column_width}
+use Rattle.bundles.specs.declared.net.Net as bundle
 use Rattle.stops.specs.declared.Search.{Search}
 use Rattle.stops.specs.declared.Stop.{Stop}
 
@@ -95,16 +97,24 @@ module _ {n : ℕ} {b : List ℕ} {at : ℕ} where
     rest = λ i h. get_or-set_other m j i x (pos 0) (λ e. omega arith) ∙ so_far.rest i (omega arith);
   }
 
--- the tokens of the places of a search
-abbrev pub MarkedAll : Search → ℕ → List ℤ → Type 0
-MarkedAll s d t = Marked max_places s.net.n s.net.bundle.now s.net.first s.net.count s.word.now d t
+-- the tokens of the places of a net
+abbrev pub MarkedIn : bundle.Net → Word → ℕ → List ℤ → Type 0
+MarkedIn at w d t = Marked max_places at.n at.bundle.now at.first at.count w d t
 
--- and of up to eight of them, from number k on
+-- of a search
+abbrev pub MarkedAll : Search → ℕ → List ℤ → Type 0
+MarkedAll s d t = MarkedIn s.net s.word.now d t
+
+-- up to eight of them, from number k on
 abbrev pub eight : Search → ℕ → ℕ
 eight s k = min column_width (s.net.count - k)
 
+-- and their tokens
+abbrev pub EightIn : bundle.Net → Word → ℕ → ℕ → List ℤ → Type 0
+EightIn at w k d t = Marked column_width at.n at.bundle.now (place_spot at k) (min column_width (at.count - k)) w d t
+
 abbrev pub MarkedEight : Search → ℕ → ℕ → List ℤ → Type 0
-MarkedEight s k d t = Marked column_width s.net.n s.net.bundle.now (place_spot s.net k) (eight s k) s.word.now d t
+MarkedEight s k d t = EightIn s.net s.word.now k d t
 
 -- at first
 pub marked_start : {width n : ℕ} {b : List ℕ} {at count : ℕ} {w : Word} {t₀ t : List ℤ} → n ≤ max_events → at + 2 * (count * place_size n) ≤ length b → WordOver n w

@@ -3,10 +3,8 @@
 #![tactic(auto)]
 
 ghost use Rattle.std.specs.Prelude.{◌≡◌, [], ◌-◌, min, ◌≤◌, ◌<◌, None, length};
-ghost use Rattle.bundles.specs.HeadReading.{HeadAt};
-ghost use Rattle.bundles.specs.PlaceReading.{place_spot};
+ghost use Rattle.bundles.specs.Keeping.{place_spot};
 ghost use Rattle.replays.specs.Columns.{column_width};
-ghost use Rattle.stops.specs.Searching.{Searchable};
 ghost use Rattle.stops.specs.Onward.{end_of, Late, Onward, Searched};
 ghost use Rattle.parts.specs.Parts.{long_word, Initial, MarkedAll, MarkedEight, eight};
 ghost use Rattle.parts.specs.SideBySide.{Columns};
@@ -24,7 +22,6 @@ const PART: usize = 4096;
 
 // The initial tokens of the places of a net, and zeros. By number, as the net has its places.
 fn initial_tokens(net: &Net) -> [i64; MAX_PLACES]
-    requires { HeadAt net.now }
     ensures { Initial net.now.n net.now.bundle.now net.now.first net.now.count [] result }
 {
     let mut marking = [0; MAX_PLACES];
@@ -36,7 +33,7 @@ fn initial_tokens(net: &Net) -> [i64; MAX_PLACES]
 
 // The changes of up to eight places of a net, from number `first` on.
 fn table(net: &Net, first: usize) -> Table
-    requires { HeadAt net.now × (first ≤ net.now.count) }
+    requires { first ≤ net.now.count }
     ensures { Columns net.now.n net.now.bundle.now (place_spot net.now first) (min column_width (net.now.count - first)) result.changes }
 {
     let mut table = Table::clear();
@@ -57,7 +54,7 @@ impl<'a> Part<'a> {
     // The first refused step of up to eight places from number `first` on, whose tokens behind the steps that are done are given. Where there is
     // none, the tokens behind the word are left.
     fn search_eight(&self, first: usize, tokens: &mut [i64; WIDTH]) -> Option<Stop>
-        requires { Searchable self.now.search × (first < self.now.search.net.count) × MarkedEight self.now.search first self.now.done tokens.old }
+        requires { (first < self.now.search.net.count) × MarkedEight self.now.search first self.now.done tokens.old }
         ensures late { Late self.now.search self.now.done result }
         ensures onward { Onward self.now.search first (eight self.now.search first) None result }
         ensures marked { result ≡ None → MarkedEight self.now.search first (length self.now.search.word.now) tokens.new }
@@ -74,7 +71,7 @@ impl<'a> Part<'a> {
     // The first refused step of the places of the net, whose tokens behind the steps that are done are given. Where there is none, the tokens behind
     // the word are left. The places are followed eight at a time, up to the best position so far.
     fn search_part(&self, marking: &mut [i64; MAX_PLACES]) -> Option<Stop>
-        requires { Searchable self.now.search × MarkedAll self.now.search self.now.done marking.old }
+        requires { MarkedAll self.now.search self.now.done marking.old }
         ensures late { Late self.now.search self.now.done result }
         ensures onward { Onward self.now.search 0 self.now.search.net.count None result }
         ensures marked { result ≡ None → MarkedAll self.now.search (length self.now.search.word.now) marking.new }
@@ -84,12 +81,8 @@ impl<'a> Part<'a> {
             let first = WIDTH * group;
             // The tokens are copied out and back: nothing is known of an array behind its `first_chunk_mut`.
             let mut tokens = *marking[first..].first_chunk().unwrap();
-            let word = &self.search.word[..self.search.end(best)];
             let front = Part {
-                search: Search {
-                    word,
-                    ..self.search
-                },
+                search: self.search.front(self.search.end(best)),
                 ..*self
             };
             best = front.search_eight(first, &mut tokens).or(best);
@@ -101,17 +94,14 @@ impl<'a> Part<'a> {
 
 // The first refused step of a long word behind its first part, whose steps are permitted, part by part; the tokens behind it are given.
 fn search_rest(search: &Search, marking: &mut [i64; MAX_PLACES]) -> Option<Stop>
-    requires { Searchable search.now × (long_word ≤ length search.now.word.now) × MarkedAll search.now long_word marking.old }
+    requires { (long_word ≤ length search.now.word.now) × MarkedAll search.now long_word marking.old }
     ensures late { Late search.now 0 result }
     ensures onward { Onward search.now 0 search.now.net.count None result }
 {
     for done in (LONG..search.word.len()).step_by(PART) {
         let end = search.word.len().min(done + PART);
         let part = Part {
-            search: Search {
-                word: &search.word[..end],
-                ..*search
-            },
+            search: search.front(end),
             done,
         };
         if let Some(stop) = part.search_part(marking) {
@@ -123,16 +113,13 @@ fn search_rest(search: &Search, marking: &mut [i64; MAX_PLACES]) -> Option<Stop>
 
 // The first refused step of a long word. The first part is short, since a word that is refused is often refused early.
 fn search_parts(search: &Search) -> Option<Stop>
-    requires { Searchable search.now × (long_word ≤ length search.now.word.now) }
+    requires { long_word ≤ length search.now.word.now }
     ensures late { Late search.now 0 result }
     ensures onward { Onward search.now 0 search.now.net.count None result }
 {
     let mut marking = initial_tokens(&search.net);
     let part = Part {
-        search: Search {
-            word: &search.word[..LONG],
-            ..*search
-        },
+        search: search.front(LONG),
         done: 0,
     };
     if let Some(stop) = part.search_part(&mut marking) {
@@ -143,17 +130,17 @@ fn search_parts(search: &Search) -> Option<Stop>
 
 // The first refused step of a word with the places of a net, which follow those whose first refused step is `from`, a late one.
 fn search_long(search: &Search, from: Option<Stop>) -> Option<Stop>
-    requires { Searchable search.now × (long_word ≤ end_of search.now from) × (end_of search.now from ≤ length search.now.word.now) }
+    requires { (long_word ≤ end_of search.now from) × (end_of search.now from ≤ length search.now.word.now) }
     ensures { Searched search.now from result }
 {
-    let word = &search.word[..search.end(from)];
-    search_parts(&Search { word, ..*search }).or(from)
+    let part = search.front(search.end(from));
+    search_parts(&part).or(from)
 }
 
 // The first refused step of a word with the places of a net, which follow those whose first refused step is `from`. A long word with three places or
 // more is searched part by part, eight places at a time.
 pub fn search_places(search: &Search, from: Option<Stop>) -> Option<Stop>
-    requires { Searchable search.now × Late search.now 0 from }
+    requires { Late search.now 0 from }
     ensures { Searched search.now from result }
 {
     if LONG <= search.end(from) && 2 < search.net.count {

@@ -60,7 +60,7 @@ pub enum Cause {
 }
 
 impl Cause {
-    // The refusal of this cause at a spot.
+    // The refusal of this cause at a spot. Its number is the discriminant.
     pub fn at(self, spot: usize) -> Refusal
         ensures { result ≡ refusal (number self) spot }
     {

@@ -58,7 +58,8 @@ impl Table {
         self.write_changes(j, MAX_EVENTS, 0, &place.consumed);
     }
 
-    // One step: the surplus of each place, and in `all` the bits of every surplus so far. An index, since two lists are written.
+    // One step: the surplus of each place, and in `all` the bits of every surplus so far. An index, since two lists are
+    // written; two lists, since each is added or joined as a vector.
     fn step(&self, from: usize, to: usize, surplus: &mut [i64; WIDTH], all: &mut [i64; WIDTH])
         requires { (from ≤ max_events) × (to ≤ max_events) × Steppable self.now.changes surplus.old (changes_of from to) }
         ensures stepped { Stepped self.now.changes surplus.old surplus.new (changes_of from to) }
@@ -73,7 +74,7 @@ impl Table {
     }
 
     // Replays a part of a word on the places of a table, whose tokens before it are given: leaves those behind it, and says whether no step of it
-    // lacks a token. False says nothing of a single place.
+    // lacks a token. False says nothing of a single place, so no value stands beside it.
     pub fn replay(&self, tokens: &mut [i64; WIDTH], part: &[u8]) -> bool
         requires { Replayable tokens.old self.now.changes part.now }
         ensures advanced { Advanced self.now.changes tokens.old tokens.new part.now }

@@ -10,7 +10,8 @@ use limits::MAX_EVENTS;
 // A chain for each of 256 remainders of a key, and a place for each row.
 const CHAINS: usize = 256;
 
-// The last row of each chain, and for each row the one before it in its chain. A row's number is a byte.
+// The last row of each chain, and for each row the one before it in its chain. A row's number is a byte. What it says of a table is a clause
+// (`IsIndex`), since the table is not its own.
 #[derive(Drop)]
 pub struct Index {
     last: [Option<u8>; CHAINS],
@@ -78,7 +79,8 @@ impl Index {
 }
 
 impl Rows<'_> {
-    // The lowest row with these counts. The rows in the chain of their key are looked at, the last first.
+    // The lowest row with these counts. The rows in the chain of their key are looked at, the last first, until there is none before: no iterator
+    // says that more plainly.
     fn follow_chain(&self, index: &Index, counts: &Counts, key: usize) -> Option<usize>
         requires { IsIndex self.now.count self.now.table.now index.now × (key ≡ key_of counts.now) }
         ensures { result ≡ found counts.now (rows_of self.now.count self.now.table.now) }

@@ -17,8 +17,8 @@ use Rattle.nets.specs.Events.{first_bad, none_bad}
 use Rattle.std.specs.Borrow.{Bor}
 use Rattle.bundles.specs.Readers.{read_head, head_of, events_in, net_in, bundle_head}
 use Rattle.bundles.specs.HeadReading.{HeadAt, HeadIsRead, head_read, kept_read}
+use Rattle.bundles.specs.Keeping.{kept}
 use Rattle.bundles.specs.declared.net.Net as bundles
-use Rattle.stops.specs.Searching.{Searchable}
 use Rattle.stops.specs.Onward.{Searched}
 use Rattle.stops.specs.declared.Search.{Search}
 use Rattle.screening.specs.Screening.{word_on, screening, joining, replayed, screened_of, screened, screened_joined}
@@ -44,21 +44,30 @@ found_means n net w (Some s) finds = rw (best-stopped n finds.best (finds.inside
 
 -- a net that was read from a bundle is the bundle's
 pub record NetOf (b : List ℕ) (net : bundles.Net) : Type 0 where
-  pub found : HeadAt net
+  pub found : HeadAt (kept net)
   pub events : events_in b ≡ net.n
   pub same : net.bundle.now ≡ b
   pub read : HeadIsRead b
 
-pub net-of : (bundle : Bor (List ℕ)) (net : bundles.Net) → Ok net ≡ head_read bundle (bundle_head bundle.now 0) → NetOf bundle.now net
+pub net-of : (bundle : Bor (List ℕ)) (net : bundles.Net) → Ok (kept net) ≡ head_read bundle (bundle_head bundle.now 0) → NetOf bundle.now net
 net-of bundle net e =
-    let (found, same, read) = kept_read bundle net (sym e) in
+    let (found, same, read) = kept_read bundle (kept net) (sym e) in
     record { found = found; events = rw same at found.events; same = same; read = read }
+
+-- a word that passed the tests may be searched in its places, behind so few others
+abbrev pub search_in : {b : List ℕ} {net : bundles.Net} → NetOf b net → (word : Bor (List ℕ)) → length word.now ≤ max_word_events
+    → length word.now ≤ first_bad net.n word.now → (before : ℕ) → before ≤ max_places → Search
+search_in {b} {net} is word short below before few = record {
+  net = net;
+  before = before;
+  word = word;
+  found = is.found;
+  over = record { size = short; events = none_bad net.n word.now below };
+  few = few;
+}
 
 -- the search in its places, or on in those of another net over the same events
 module _ {b : List ℕ} {w : Word} where
-  pub search-asks : {s : Search} → NetOf b s.net → s.word.now ≡ w → length w ≤ max_word_events → length w ≤ first_bad s.net.n w → s.before ≤ max_places → Searchable s
-  search-asks {s} net is short below few = record { found = net.found; word = rw is (record { size = short; events = none_bad s.net.n w below }); few = few }
-
   pub search-first : (s : Search) {found : Option Stop} → NetOf b s.net → s.word.now ≡ w → s.before ≡ 0 → Searched s None found → Finds (events_in b) (net_in b) w found
   search-first s net is first searched = rw is at (rw net.same at (searched [] (sym first) (finds-start _ _)))
 

@@ -1,20 +1,37 @@
 -- The search through the places of a net, from one number to another: what is found so far, behind more places.
-use Rattle.std.specs.Prelude.{◌≡◌, true, List, [], ◌∷◌, ◌++◌, Option, Some, None, ℕ, zero, suc, ◌+◌, ◌-◌, ◌*◌, ◌≤◌, ◌<◌, ℤ, length, take}
+use Rattle.std.specs.Prelude.{◌≡◌, true, [], ◌∷◌, ◌++◌, Option, Some, None, ℕ, zero, suc, ◌+◌, ◌-◌, ◌*◌, ◌≤◌, ◌<◌, ℤ, length, take}
 use Rattle.std.proofs.Common.{refl, sym, ap, ap₂, ◌∙◌, subst, ⊎_elim, arith, zero-mul, add-mul, add-one, append_assoc, length-append, length-take}
 use Rattle.laws.specs.Booleans.{lt_or_le}
 use Rattle.nets.specs.Nets.{Word, Net, Place, step_at, place_permits}
 use Rattle.nets.specs.Events.{EventsBelow}
 use Rattle.bundles.specs.Readers.{events_in, net_in}
 use Rattle.bundles.specs.NumberReading.{items_at}
-use Rattle.bundles.specs.PlaceReading.{place_size, place_spot, place_on}
-use Rattle.std.specs.Borrow.{Bor}
+use Rattle.bundles.specs.PlaceReading.{place_size, place_on}
+use Rattle.bundles.specs.Keeping.{place_spot}
 use Rattle.std.specs.Option.{option_or}
 use Rattle.stops.specs.Positions.{finds-or, finds-front, finds-whole, Best, Finds, stop_in, stop_or_end, stop_in-some, stop_in-none, best-stays, best-earlier}
 use Rattle.stops.specs.Replay.{replay, stop_of}
-use Rattle.stops.specs.Searching.{net_at, net-start, net-length, net-behind, part-below, Searchable, over-head, first_of, one_of_two, pair_stays, pair_earlier}
+use Rattle.stops.specs.Searching.{net_at, net-start, net-length, net-behind, part-below, WordOver, over-head, first_of, one_of_two, pair_stays, pair_earlier}
 use Rattle.stops.specs.Reached.{part, place_at, part-size, Reached, found-permits, found-refuses, found-short}
+use Rattle.bundles.specs.declared.net.Net as bundle
 use Rattle.stops.specs.declared.Search.{Search}
 use Rattle.stops.specs.declared.Stop.{Stop}
+
+-- t is s in the first `end` events of its word
+pub record FrontOf (s : Search) (end : ℕ) (t : Search) : Type 0 where
+  pub net : t.net ≡ s.net
+  pub before : t.before ≡ s.before
+  pub word : t.word.now ≡ take end s.word.now
+
+-- what is said of one is said of the other
+module _ {s t : Search} {end : ℕ} (front : FrontOf s end t) (P : bundle.Net → ℕ → Word → Type 0) where
+  pub of_front : P t.net t.before t.word.now → P s.net s.before (take end s.word.now)
+  of_front p = subst (P s.net s.before) front.word (subst (λ (k : ℕ). P s.net k t.word.now) front.before (subst (λ (at : bundle.Net). P at t.before t.word.now) front.net p))
+
+  pub in_front : P s.net s.before (take end s.word.now) → P t.net t.before t.word.now
+  in_front p =
+      subst (λ (at : bundle.Net). P at t.before t.word.now) (sym front.net)
+      (subst (λ (k : ℕ). P s.net k t.word.now) (sym front.before) (subst (P s.net s.before) (sym front.word) p))
 
 -- the position of a stop, or the word's length
 abbrev pub end_of : Search → Option Stop → ℕ
@@ -29,8 +46,13 @@ abbrev pub places_of : Search → ℕ → ℕ → Net
 places_of s i c = net_at s.net.n s.net.bundle.now (place_spot s.net i) c
 
 -- behind places that are so many as stand before place i, and with which `from` is found, `to` is found with c places from number i on
+abbrev pub OnwardIn : bundle.Net → ℕ → Word → ℕ → ℕ → Option Stop → Option Stop → Type 0
+OnwardIn at before w i c from to = (net : Net) → length net ≡ before + i → Finds at.n net w from
+    → Finds at.n (net ++ net_at at.n at.bundle.now (place_spot at i) c) w to
+
+-- so it is in a search
 abbrev pub Onward : Search → ℕ → ℕ → Option Stop → Option Stop → Type 0
-Onward s i c from to = (net : Net) → length net ≡ s.before + i → Finds s.net.n net s.word.now from → Finds s.net.n (net ++ places_of s i c) s.word.now to
+Onward s i c from to = OnwardIn s.net s.before s.word.now i c from to
 
 -- the same with all places, in the words of the bundle
 abbrev pub Searched : Search → Option Stop → Option Stop → Type 0
@@ -202,38 +224,35 @@ module _ (s : Search) where
 
   -- ---- the same search in the steps before a stop
 
-  module _ (front : Bor (List ℕ)) (best found : Option Stop) (is : front.now ≡ take (end_of s best) w) (within : end_of s best ≤ length w) where
-    pub onward-or : (i c : ℕ) → Onward (record s { word = front }) i c None found → Onward s i c best (option_or found best)
-    onward-or i c search net size finds = finds-or s.net.n net (places_of s i c) w best found finds (rw is at (search net size))
+  module _ {t : Search} (best found : Option Stop) (front : FrontOf s (end_of s best) t) (within : end_of s best ≤ length w) where
+    pub onward-or : (i : ℕ) (c : bundle.Net → ℕ) → Onward t i (c t.net) None found → Onward s i (c s.net) best (option_or found best)
+    onward-or i c search net size finds =
+        finds-or s.net.n net (places_of s i (c s.net)) w best found finds (of_front front (λ at k v. OnwardIn at k v i (c at) None found) search net size)
 
-    pub late-or : (d : ℕ) → Late (record s { word = front }) d found → Late s d best → Late s d (option_or found best)
+    pub late-or : (d : ℕ) → Late t d found → Late s d best → Late s d (option_or found best)
     unfolding stop_or_end
     late-or d late so_far = go found late
       where
-        go : (found : Option Stop) → Late (record s { word = front }) d found → Late s d (option_or found best)
+        go : (found : Option Stop) → Late t d found → Late s d (option_or found best)
         go None l = so_far
-        go (Some f) l = (l.0, omega (arith, l.1, ap length is, length-take (end_of s best) w))
+        go (Some f) l = (l.0, omega (arith, l.1, ap length front.word, length-take (end_of s best) w))
 
   -- and in a front of the word of any length
-  module _ (front : Bor (List ℕ)) (end : ℕ) (is : front.now ≡ take end w) where
-    pub searchable-front : Searchable s → Searchable (record s { word = front })
-    searchable-front asked = record {
-      found = asked.found;
-      word = record { size = rw is (omega (arith, length-take end w, asked.word.size)); events = rw is (part-below s.net.n w asked.word.events end) };
-      few = asked.few;
-    }
+  pub over-front : (end : ℕ) → WordOver s.net.n (take end w)
+  over-front end = record { size = omega (arith, length-take end w, s.over.size); events = part-below s.net.n w s.over.events end }
 
-    pub onward-front : (i c : ℕ) {f : Stop} → end ≤ length w → Onward (record s { word = front }) i c None (Some f) → Onward s i c None (Some f)
-    onward-front i c fits search net same finds =
-        finds-whole s.net.n end fits (rw is at (search net same (rw is (finds-front s.net.n finds end fits))))
+  module _ {t : Search} {end : ℕ} (front : FrontOf s end t) where
+    pub onward-front : (i : ℕ) (c : bundle.Net → ℕ) {f : Stop} → end ≤ length w → Onward t i (c t.net) None (Some f) → Onward s i (c s.net) None (Some f)
+    onward-front i c {f} fits search net same finds =
+        finds-whole s.net.n end fits (of_front front (λ at k v. OnwardIn at k v i (c at) None (Some f)) search net same (finds-front s.net.n finds end fits))
 
-    pub late-front : (d : ℕ) (f : Stop) → end ≤ length w → Late (record s { word = front }) d (Some f) → Late s d (Some f)
+    pub late-front : (d : ℕ) (f : Stop) → end ≤ length w → Late t d (Some f) → Late s d (Some f)
     unfolding stop_or_end
-    late-front d f fits late = (late.0, omega (arith, late.1, ap length is, length-take end w))
+    late-front d f fits late = (late.0, omega (arith, late.1, ap length front.word, length-take end w))
 
   -- ---- all places
 
-  pub onward-over : Searchable s → {from to : Option Stop} → Onward s 0 s.net.count from to → Searched s from to
-  onward-over asked search =
+  pub onward-over : {from to : Option Stop} → Onward s 0 s.net.count from to → Searched s from to
+  onward-over search =
       let start : place_spot s.net 0 ≡ s.net.first = omega (arith, zero-mul (place_size s.net.n)) in
-      over-head asked.found (λ net size finds. rw start at (search net (omega (arith, size)) finds))
+      over-head s.found (λ net size finds. rw start at (search net (omega (arith, size)) finds))

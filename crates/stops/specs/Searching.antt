@@ -1,6 +1,7 @@
 -- The search for the first refused step, place by place, as the code goes through the places of a bundle.
 use Rattle.std.specs.Prelude.{◌≡◌, Bool, Option, ℕ, suc, ◌+◌, ◌*◌, ◌/◌, ◌≤◌, ◌<◌, ℤ, pos, length, take}
 use Rattle.std.proofs.Math.Path.{refl}
+use Rattle.std.proofs.Props.{props}
 use Rattle.std.proofs.Common.{sym, ap, ap₂, ◌∙◌, subst, ⊎_elim, suc-mul, mul-le-mul_right, add-one, length-take, length-append, get_or-take}
 use Rattle.std.proofs.Math.Bool.{true, false, cond}
 use mathlib.Core.List.{List, [], ◌∷◌, ◌++◌, append_assoc, append-nil, map, map-append}
@@ -9,7 +10,7 @@ use borrow.Author.Tests.{le-leb, lt-leb, leb-true, leb-false}
 use Rattle.std.proofs.Math.Dec.{leb}
 use Rattle.std.proofs.lemmas.List.{length-map}
 use Rattle.laws.specs.Booleans.{lt_or_le}
-use Rattle.limits.specs.Limits.{max_places, max_word_events}
+use Rattle.limits.specs.Limits.{max_word_events}
 use Rattle.nets.specs.Nets.{Word, Net, Place, step_at, place_permits, shortfall}
 use Rattle.nets.specs.Events.{EventsBelow}
 use Rattle.nets.specs.Markings.{tokens_none}
@@ -19,11 +20,9 @@ use Rattle.bundles.specs.Layout.{to_place, to_net}
 use Rattle.bundles.specs.Readers.{events_in, net_in}
 use Rattle.bundles.specs.HeadReading.{HeadAt}
 use Rattle.bundles.specs.NumberReading.{items_at, items-length, items-append, items_snoc}
-use Rattle.bundles.specs.PlaceReading.{place_size, fields_at, place_on, machine_place, place_means}
-use Rattle.bundles.specs.declared.net.Net as bundle
+use Rattle.bundles.specs.PlaceReading.{Kept, place_size, fields_at, place_on, machine_place, place_means}
 use Rattle.stops.specs.Positions.{step_cut, Best, best-stays, best-earlier, Finds}
 use Rattle.stops.specs.Replay.{First, stop, replay, stop_of, replay-first}
-use Rattle.stops.specs.declared.Search.{Search}
 use Rattle.stops.specs.declared.Stop.{Stop}
 
 -- a stop, by the place of that number
@@ -89,12 +88,12 @@ pub net-behind : (n : ℕ) (b : List ℕ) (first k c : ℕ) → net_at n b first
 net-behind n b first k c = ap (map to_place) (items-append (place_size n) (fields_at n) k c b first) ∙ map-append to_place (items_at (place_size n) (fields_at n) k b first) (items_at (place_size n) (fields_at n) c b (first + 2 * (k * place_size n)))
 
 -- the net of a bundle whose head was read
-pub net-is : {at : bundle.Net} → HeadAt at → net_in at.bundle.now ≡ net_at at.n at.bundle.now at.first at.count
+pub net-is : {at : Kept} → HeadAt at → net_in at.bundle.now ≡ net_at at.n at.bundle.now at.first at.count
 unfolding to_net
 net-is found = ap (map to_place) found.places
 
 -- what a search says of the places of a bundle is said of its net
-pub over-head : {at : bundle.Net} → HeadAt at → {before : ℕ} {from to : Option Stop} {w : Word}
+pub over-head : {at : Kept} → HeadAt at → {before : ℕ} {from to : Option Stop} {w : Word}
     → ((net : Net) → length net ≡ before → Finds at.n net w from → Finds at.n (net ++ net_at at.n at.bundle.now at.first at.count) w to)
     → (net : Net) → length net ≡ before → Finds (events_in at.bundle.now) net w from → Finds (events_in at.bundle.now) (net ++ net_in at.bundle.now) w to
 over-head found search net size finds = rw (net-is found, found.events) (search net size (rw found.events at finds))
@@ -104,11 +103,9 @@ pub record WordOver (n : ℕ) (w : Word) : Type 0 where
   pub size : length w ≤ max_word_events
   pub events : EventsBelow n w
 
--- a net that was read behind so few places, and a word over its events: what a search asks
-pub record Searchable (s : Search) : Type 0 where
-  pub found : HeadAt s.net
-  pub word : WordOver s.net.n s.word.now
-  pub few : s.before ≤ max_places
+-- there is one proof of it at most
+pub WordOver-prop : (n : ℕ) (w : Word) → IsProp (WordOver n w)
+WordOver-prop n w = hlevel props
 
 -- ---- one place more
 

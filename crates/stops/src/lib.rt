@@ -2,13 +2,14 @@
 // place, and specs/Onward.antt, the search from place to place. All are inner functions.
 #![tactic(auto)]
 
-ghost use Rattle.std.specs.Prelude.{◌≡◌, ◌-◌, ◌*◌, ◌/◌, ◌≤◌, ◌<◌, None, ℕ, ℤ};
-ghost use Rattle.limits.specs.Limits.{max_events};
+ghost use Rattle.std.specs.Prelude.{◌≡◌, ◌-◌, ◌*◌, ◌/◌, ◌≤◌, ◌<◌, None, ℕ, ℤ, length};
+ghost use Rattle.limits.specs.Limits.{max_events, max_places};
 ghost use Rattle.places.specs.Machine.{place_of, Held};
-ghost use Rattle.stops.specs.Positions.{Finds, stop_in, stop_or_end};
+ghost use Rattle.bundles.specs.HeadReading.{HeadAt, HeadAt-prop};
+ghost use Rattle.bundles.specs.Keeping.{kept};
+ghost use Rattle.stops.specs.Positions.{stop_in};
 ghost use Rattle.stops.specs.Replay.{replay, stepped, stop_of, Start};
-ghost use Rattle.stops.specs.Searching.{WordOver, Searchable, first_of};
-ghost use Rattle.stops.specs.Onward.{end_of, Late, Onward, PermitsAll, ReachedAt, Searched, place_of as place_in};
+ghost use Rattle.stops.specs.Searching.{WordOver, WordOver-prop, first_of};
 
 use bundles::net::Net;
 use places::{Place, covers, shortfall, surplus};
@@ -22,13 +23,15 @@ pub struct Stop {
     pub shortfall: u64,
 }
 
-// A word over the events of a net, whose places are numbered behind `before` others. `Searchable` is a clause and no ghost field, since each front
-// of the word that is searched would have to show it again; so is `Late`, which is about a stop.
+// A word over the events of a bundle's net, whose places are numbered behind `before` others. `Late` is a clause, since it is about a stop.
 #[derive(Clone, Copy)]
 pub struct Search<'a> {
     pub net: Net<'a>,
     pub before: usize,
     pub word: &'a [u8],
+    pub ghost found: { HeadAt (kept net) } by { HeadAt-prop (kept net) },
+    pub ghost over: { WordOver net.n word.now } by { WordOver-prop net.n word.now },
+    pub ghost few: { before ≤ max_places },
 }
 
 // The tokens of a place behind an event, or how many are missing for it. `covers` tests the shortfall of the same difference: a test of the shortfall
@@ -102,6 +105,21 @@ fn stop_of_two(one: Place, two: Place, word: &[u8]) -> Option<Stop>
 }
 
 impl<'a> Search<'a> {
+    ghost use Rattle.stops.specs.Onward.{end_of, Late, Onward, PermitsAll, ReachedAt, Searched, FrontOf, place_of as place_in};
+
+    // The same search in the first events of the word.
+    #[inline(always)]
+    pub fn front(&self, end: usize) -> Search<'a>
+        requires { end ≤ length self.now.word.now }
+        ensures { FrontOf self.now end result }
+    {
+        Search {
+            net: self.net,
+            before: self.before,
+            word: &self.word[..end],
+        }
+    }
+
     // The position of a stop; the word's length where there is none.
     #[inline(always)]
     pub fn end(&self, stop: Option<Stop>) -> usize
@@ -119,7 +137,7 @@ impl<'a> Search<'a> {
         from: Option<Stop>,
         tokens: F,
     ) -> Option<Stop>
-        requires searchable { Searchable self.now × Late self.now done from }
+        requires late { Late self.now done from }
         requires in_bounds { (places.start ≤ places.end) × (places.end ≤ self.now.net.count) }
         requires callable { (j : ℕ) → places.start ≤ j → j < places.end → F.pre tokens j (place_in self.now j).initial }
         requires reached { (j : ℕ) → places.start ≤ j → j < places.end → (t : ℤ)
@@ -145,7 +163,7 @@ impl<'a> Search<'a> {
 
     // The same with the places of the net but for an odd last one, pair by pair from their initial tokens.
     fn search_pairs(&self, from: Option<Stop>) -> Option<Stop>
-        requires { Searchable self.now × Late self.now 0 from }
+        requires { Late self.now 0 from }
         ensures late { Late self.now 0 result }
         ensures onward { Onward self.now 0 (2 * (self.now.net.count / 2)) from result }
     {
@@ -165,7 +183,7 @@ impl<'a> Search<'a> {
 
     // The first refused step with the places of the net, which follow those whose first refused step is `from`: pair by pair, and an odd last one.
     pub fn search_short(&self, from: Option<Stop>) -> Option<Stop>
-        requires { Searchable self.now × Late self.now 0 from }
+        requires { Late self.now 0 from }
         ensures { Searched self.now from result }
     {
         let found = self.search_pairs(from);

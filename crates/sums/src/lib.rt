@@ -45,7 +45,7 @@ impl Columns {
         let mut position = 0u32;
         let mut shifted = 0u32;
         for (j, column) in self.sums.iter().enumerate() {
-            // Twelve bits are cut out so that the compiler multiplies narrow numbers.
+            // Twelve bits are cut out so that the compiler multiplies narrow numbers; j is below 32, and counted with the columns.
             let column = u32::from(*column & 4095);
             plain += column;
             position += (j as u32 + 1) * column;

@@ -5,6 +5,7 @@ use Rattle.refusals.specs.Table.{place_permits_number}
 use Rattle.bundles.specs.Reading.{require, byte}
 use Rattle.bundles.specs.FieldReading.{below, byte-got}
 use Rattle.bundles.specs.Chains.{ReadBy, read_got, then-refused}
+use Rattle.bundles.specs.NextPlace.{place_is}
 use Rattle.certificates.specs.Certifying.{permits_for}
 use Rattle.certificates.specs.CheckLaws.{tested_passed, tested-refused}
 use Rattle.certificates.proofs.check_place.Goals as goal
@@ -27,11 +28,16 @@ permits-requires c =
     let held = s.head.now.held in
     let place = read (goal.at.permits-requires c).In_ok-place in
     let listed = ltb-true _ _ (byte-got (below s.head.now.net.count) _ _ _ _ (read_got place)).0 in
-    (held.found, omega (arith, c.from.ensures, listed), omega (arith, held.found.limits, c.counts.ensures.1), omega (arith, c.from-2.ensures, s.event_there))
+    (omega (arith, c.from.ensures, listed), omega (arith, held.found.limits, c.counts.ensures.1), omega (arith, c.from-2.ensures, s.event_there))
 
 -- the test of the place
 tested : (c : After-permits) → permits_for c.args.step.now c.in_ok-place.place ≡ c.permits.result
-tested c = sym (c.permits.ensures ∙ rw (c.from.ensures, c.counts.ensures.0, c.from-2.ensures))
+tested c =
+    let s = c.args.step.now in
+    let place = read (goal.at.After-permits c).In_ok-place in
+    let listed = ltb-true _ _ (byte-got (below s.head.now.net.count) _ _ _ _ (read_got place)).0 in
+    let permits = rw (c.from.ensures, c.counts.ensures.0, c.from-2.ensures) at c.permits.ensures in
+    rw (place_is s.head.now.held.found c.in_ok-place.place listed) (sym permits)
 
 pub returns-then-permits : goal.returns-then-permits
 returns-then-permits c =

@@ -57,4 +57,4 @@ returns c =
     let all = c.in_ok-rows.ensures in
     let log = rw (bytes here) at all.1.1 in
     let places = rw (all.0, bytes here) at (read_got c.in_ok-net.ensures) in
-    places-taken c.args.bundle c.args.table.now c.take_words.new.table (read_got c.in_ok-n.ensures) (count here) all.1.0 log all.1.2 c.requires (λ i. omega (arith, c.type_inv.bundle i)) (λ i. omega (arith, c.type_inv.table i)) _ _ places
+    places-taken c.args.bundle c.args.table.now c.take_words.new.table (read_got c.in_ok-n.ensures) (count here) all.1.0 log all.1.2 c.requires (λ i. omega (arith, c.type_inv.bundle i)) (λ i. omega (arith, c.type_inv.table i)) c.in_ok-net.net _ places

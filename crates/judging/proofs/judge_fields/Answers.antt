@@ -3,7 +3,7 @@ use Rattle.std.proofs.Common.{◌∙◌, List, ℕ, sym, ap}
 use Rattle.std.specs.Borrow.{Bor}
 use Rattle.std.proofs.lemmas.Result.{err_from_is_err_and}
 use Rattle.bundles.specs.Readers.{head_of}
-use Rattle.bundles.specs.PlaceReading.{behind}
+use Rattle.bundles.specs.Keeping.{behind}
 use Rattle.verdicts.specs.Judging.{verdict_of}
 use Rattle.judging.specs.JudgeLaws.{afterwards, judging-failed, judging-got, table-left, table-refused}
 use Rattle.judging.proofs.judge_fields.Goals as goal

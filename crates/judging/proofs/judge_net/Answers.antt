@@ -7,7 +7,7 @@ use Rattle.refusals.specs.Answers.{refusal}
 use Rattle.refusals.specs.Table.{place_misfit_number}
 use Rattle.bundles.specs.Layout.{fits_in}
 use Rattle.bundles.specs.Readers.{head_of, net_in}
-use Rattle.bundles.specs.PlaceReading.{behind}
+use Rattle.bundles.specs.Keeping.{behind}
 use Rattle.judging.specs.JudgeLaws.{ended_as, misfit-some, misfit-none, net_unfit, net-fits}
 use Rattle.judging.proofs.judge_net.Goals as goal
 use Rattle.judging.proofs.judge_net.Goals.{In_default}

@@ -13,5 +13,5 @@ unfolding to_place
 loop-j-preserved c =
     let size = c.loop-j.invariant.0 in (
       length-set c.loop-j.marking c.loop-j.j _ ∙ size,
-      initial-next _ (omega (arith, size, c.requires.few)) c.loop-j.invariant.1 (to_z-of_z {w = w64} (record { sfits = c.from.type_inv }) ∙ c.from.ensures ∙ ap pos c.initial.ensures),
+      initial-next _ (omega (arith, size, c.args.net.now.few)) c.loop-j.invariant.1 (to_z-of_z {w = w64} (record { sfits = c.from.type_inv }) ∙ c.from.ensures ∙ ap pos c.initial.ensures),
     )

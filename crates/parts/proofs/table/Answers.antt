@@ -1,5 +1,6 @@
 use Rattle.std.proofs.Common.{arith, ◌≡◌, ◌+◌, ◌*◌, ◌∙◌, ap, add-mul}
-use Rattle.bundles.specs.PlaceReading.{place_size, place_spot, place_on}
+use Rattle.bundles.specs.PlaceReading.{place_size, place_on}
+use Rattle.bundles.specs.Keeping.{place_spot}
 use Rattle.stops.specs.Searching.{place_is}
 use Rattle.parts.specs.SideBySide.{columns-start, columns-next}
 use Rattle.parts.proofs.table.Goals as goal

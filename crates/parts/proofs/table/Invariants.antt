@@ -1,5 +1,5 @@
 -- `parts::table` meets its contract. The loop's invariant: the columns below j have their places, the others none.
-use Rattle.bundles.specs.PlaceReading.{place_spot}
+use Rattle.bundles.specs.Keeping.{place_spot}
 use Rattle.parts.specs.SideBySide.{Columns}
 use Rattle.parts.proofs.table.Given as goal
 

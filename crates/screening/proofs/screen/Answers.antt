@@ -4,7 +4,7 @@ use Rattle.std.proofs.Common.{refl, ap, sym, ◌∙◌, arith}
 use Rattle.std.proofs.lemmas.Result.{err_from_is_err_and}
 use Rattle.bundles.specs.HeadReading.{kept-refused}
 use Rattle.stops.specs.Positions.{stop_or_end}
-use Rattle.screening.specs.ScreenLaws.{length-failed, length-passed, events-failed, events-passed, word-long, head_wrong, word_wrong, word-right, found_means, net-of, search-asks, search-first}
+use Rattle.screening.specs.ScreenLaws.{length-failed, length-passed, events-failed, events-passed, word-long, head_wrong, word_wrong, word-right, found_means, net-of, search_in, search-first}
 use Rattle.screening.proofs.screen.Goals as goal
 
 pub returns-in_err-test_length : goal.returns-in_err-test_length
@@ -25,14 +25,20 @@ returns-in_err-test_events c =
     let fails = events-failed _ _ c.in_err-test_events.ensures in
     rw (q.1, q.2) (ap Err fails.1 ∙ sym (word_wrong _ _ (length-passed _ c.in_ok-test_length.ensures) net.events net.read fails.0))
 
+pub invariant_of-places : goal.invariant_of-places
+invariant_of-places c =
+    let net = net-of c.args.bundle c.in_ok-net.net c.in_ok-net.ensures in
+    let s = search_in net c.args.word (length-passed _ c.in_ok-test_length.ensures) (events-passed _ _ c.in_ok-test_events.ensures) 0 (omega arith) in
+    record { found = s.found; over = s.over; few = s.few }
+
 pub search_places-requires : goal.search_places-requires
 unfolding stop_or_end
-search_places-requires c =
-    let net = net-of c.args.bundle c.in_ok-net.net c.in_ok-net.ensures in
-    (search-asks net refl (length-passed _ c.in_ok-test_length.ensures) (events-passed _ _ c.in_ok-test_events.ensures) (omega arith), (omega arith, omega arith))
+search_places-requires c = (omega arith, omega arith)
 
 pub returns : goal.returns
 returns c =
     let net = net-of c.args.bundle c.in_ok-net.net c.in_ok-net.ensures in
-    found_means _ _ _ _ (search-first (record { net = c.in_ok-net.net; before = 0; word = c.args.word }) net refl refl c.search_places.ensures)
+    let short = length-passed _ c.in_ok-test_length.ensures in
+    let s = search_in net c.args.word short (events-passed _ _ c.in_ok-test_events.ensures) 0 (omega arith) in
+    found_means _ _ _ _ (search-first s net refl refl c.search_places.ensures)
     ∙ sym (word-right _ _ (length-passed _ c.in_ok-test_length.ensures) net.events net.read (events-passed _ _ c.in_ok-test_events.ensures))

@@ -1,16 +1,16 @@
 -- `screening::screen_joined` meets its contract: its tests are those of `screened_joined`, in the same order.
 use Rattle.std.specs.Prelude.{Err}
-use Rattle.std.proofs.Common.{refl, ap, sym, ◌∙◌, arith, ℕ, ◌≤◌}
+use Rattle.std.proofs.Common.{refl, ap, sym, ◌∙◌, arith}
 use Rattle.std.proofs.lemmas.Result.{err_from_is_err_and}
-use Rattle.limits.specs.Limits.{max_places}
 use Rattle.bundles.specs.Readers.{events_in, net_in}
-use Rattle.bundles.specs.HeadReading.{kept-refused, net-size}
+use Rattle.bundles.specs.HeadReading.{HeadAt, kept-refused, net-size}
+use Rattle.bundles.specs.Keeping.{kept}
 use Rattle.stops.specs.Positions.{Finds, stop_or_end}
-use Rattle.stops.specs.Searching.{Searchable}
+use Rattle.stops.specs.Searching.{WordOver}
 use Rattle.stops.specs.declared.Search.{Search}
-use Rattle.screening.specs.ScreenLaws.{length-failed, length-passed, events-failed, events-passed, joined-long, first_wrong, second_wrong, counts-differ, joined_wrong, joined-right, found_means, net-of, search-asks, search-first, search-on}
+use Rattle.screening.specs.ScreenLaws.{length-failed, length-passed, events-failed, events-passed, joined-long, first_wrong, second_wrong, counts-differ, joined_wrong, joined-right, found_means, net-of, search_in, search-first, search-on}
 use Rattle.screening.proofs.screen_joined.Goals as goal
-use Rattle.screening.proofs.screen_joined.Goals.{After-search_places-from}
+use Rattle.screening.proofs.screen_joined.Goals.{In_ok-test_events, After-search_places-from}
 
 pub returns-in_err-test_length : goal.returns-in_err-test_length
 returns-in_err-test_length c =
@@ -43,37 +43,53 @@ returns-in_err-test_events c =
     let fails = events-failed _ _ c.in_err-test_events.ensures in
     rw (q.1, q.2) (ap Err fails.1 ∙ sym (joined_wrong _ _ _ (length-passed _ c.in_ok-test_length.ensures) one.read two.read one.events (two.events ∙ sym c.if-one-two.false) fails.0))
 
+-- the search in the places of the first bundle, then on in those of the second
+abbrev places : (c : In_ok-test_events) → Search
+places c =
+    let one = net-of c.args.first c.in_ok-one.one c.in_ok-one.ensures in
+    search_in one c.args.word (length-passed _ c.in_ok-test_length.ensures) (events-passed _ _ c.in_ok-test_events.ensures) 0 (omega arith)
+
+abbrev more : (c : In_ok-test_events) → Search
+more c =
+    let one = net-of c.args.first c.in_ok-one.one c.in_ok-one.ensures in
+    let two = net-of c.args.second c.in_ok-two.two c.in_ok-two.ensures in
+    let below = rw c.if-one-two.false at (events-passed _ _ c.in_ok-test_events.ensures) in
+    search_in two c.args.word (length-passed _ c.in_ok-test_length.ensures) below c.in_ok-one.one.count one.found.few
+
+pub invariant_of-places : goal.invariant_of-places
+invariant_of-places c = let s = places (goal.at.invariant_of-places c).In_ok-test_events in record { found = s.found; over = s.over; few = s.few }
+
+pub invariant_of-more : goal.invariant_of-more
+invariant_of-more c =
+    let one = places (goal.at.invariant_of-more c).In_ok-test_events in
+    let two = more (goal.at.invariant_of-more c).In_ok-test_events in
+    -- what is known of the first net serves only a search in its places
+    let found : HeadAt (kept one.net) = one.found in
+    let over : WordOver one.net.n c.args.word.now = one.over in
+    let found-two : HeadAt (kept two.net) = two.found in
+    let over-two : WordOver two.net.n c.args.word.now = two.over in
+    record { found = search (found, found-two); over = search (over, over-two); few = omega (arith, two.few) }
+
 pub search_places-from-requires : goal.search_places-from-requires
 unfolding stop_or_end
-search_places-from-requires c =
-    let one = net-of c.args.first c.in_ok-one.one c.in_ok-one.ensures in
-    (search-asks one refl (length-passed _ c.in_ok-test_length.ensures) (events-passed _ _ c.in_ok-test_events.ensures) (omega arith), (omega arith, omega arith))
+search_places-from-requires c = (omega arith, omega arith)
 
 -- what is found with the places of the first bundle, then with all
 from : (c : After-search_places-from) → Finds (events_in c.args.first.now) (net_in c.args.first.now) c.args.word.now c.search_places-from.result
 from c =
     let one = net-of c.args.first c.in_ok-one.one c.in_ok-one.ensures in
-    search-first (record { net = c.in_ok-one.one; before = 0; word = c.args.word }) one refl refl c.search_places-from.ensures
+    search-first (places (goal.at.After-search_places-from c).In_ok-test_events) one refl refl c.search_places-from.ensures
 
 pub search_places-requires : goal.search_places-requires
 unfolding stop_or_end
-search_places-requires c =
-    let one = net-of c.args.first c.in_ok-one.one c.in_ok-one.ensures in
-    let two = net-of c.args.second c.in_ok-two.two c.in_ok-two.ensures in
-    let short = length-passed _ c.in_ok-test_length.ensures in
-    let below = events-passed _ _ c.in_ok-test_events.ensures in
-    -- what the first net asks serves only a call that is given it
-    let asked : (k : ℕ) → k ≤ max_places → Searchable (record { net = c.in_ok-one.one; before = k; word = c.args.word }) = λ k few. search-asks one refl short below few in
-    let asks : (k : ℕ) → k ≤ max_places → Searchable (record { net = c.in_ok-two.two; before = k; word = c.args.word }) = λ k few. search-asks two refl short (rw c.if-one-two.false at below) few in
-    let few : c.in_ok-one.one.count ≤ max_places = one.found.few in
-    (search (arith, asks, asked, few), (omega arith, omega (arith, (from (goal.at.search_places-requires c).After-search_places-from).best.within)))
+search_places-requires c = (omega arith, omega (arith, (from (goal.at.search_places-requires c).After-search_places-from).best.within))
 
 pub returns : goal.returns
 returns c =
     let one = net-of c.args.first c.in_ok-one.one c.in_ok-one.ensures in
     let two = net-of c.args.second c.in_ok-two.two c.in_ok-two.ensures in
     let same = two.events ∙ sym c.if-one-two.false in
-    let more : Search = record { net = c.in_ok-two.two; before = c.in_ok-one.one.count; word = c.args.word } in
+    let next = more (goal.at.returns c).In_ok-test_events in
     let size = rw one.same at (net-size one.found) in
-    found_means _ _ _ _ (search-on more _ _ two refl size (one.events ∙ sym same) (from (goal.at.returns c).After-search_places-from) c.search_places.ensures)
+    found_means _ _ _ _ (search-on next _ _ two refl size (one.events ∙ sym same) (from (goal.at.returns c).After-search_places-from) c.search_places.ensures)
     ∙ sym (joined-right _ _ _ (length-passed _ c.in_ok-test_length.ensures) one.read two.read one.events same (events-passed _ _ c.in_ok-test_events.ensures))

@@ -8,8 +8,9 @@ use Rattle.nets.specs.Nets.{event_count}
 use Rattle.bundles.specs.Reading as reading
 use Rattle.bundles.specs.Readers.{any_rows, word, places}
 use Rattle.bundles.specs.declared.Reader.{Reader}
-use Rattle.bundles.specs.Chains.{ReadBy, mapped, read_got, read_same, then_read, then-refused}
+use Rattle.bundles.specs.Chains.{ReadAs, ReadBy, mapped, read_got, read_same, then_read, then-refused}
 use Rattle.bundles.specs.PlaceReading.{placed}
+use Rattle.bundles.specs.Keeping.{kept}
 use Rattle.bundles.specs.HeadReading.{first-limits, head_chain, behind_n, behind_count, behind_words}
 use Rattle.bundles.proofs.Reader.head.Goals as goal
 
@@ -53,5 +54,5 @@ returns c =
     (then_read (behind_n _ any_rows) n
     (then_read (behind_count _ any_rows _) count
     (then_read (behind_words _ any_rows _) words
-    (subst (λ (b : Bor (List ℕ)). ReadBy c.words.new.self c.places.new.self c.places.result (placed b c.in_ok-n.n (places c.in_ok-n.n)))
+    (subst (λ (b : Bor (List ℕ)). ReadAs kept c.words.new.self c.places.new.self c.places.result (placed b c.in_ok-n.n (places c.in_ok-n.n)))
     (words.bytes ∙ count.bytes ∙ n.bytes) c.places.ensures))))

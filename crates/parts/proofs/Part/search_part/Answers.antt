@@ -1,18 +1,17 @@
-use Rattle.std.proofs.Common.{arith, ◌≡◌, ◌∙◌, ap, ◌*◌, ◌-◌, ◌+◌, ℕ, ◌<◌, ◌≤◌, take, drop, take-take}
-use borrow.Rule.Slice.Prefix.{sl_ptr_pˢ}
+use Rattle.std.proofs.Common.{arith, ◌≡◌, ◌∙◌, ◌*◌, ◌-◌, ◌+◌, ◌<◌, ◌≤◌, take, drop, take-take}
 use Rattle.limits.specs.Limits.{max_places}
 use Rattle.replays.specs.Columns.{column_width}
-use Rattle.stops.specs.Onward.{end_of, searchable-front}
+use Rattle.stops.specs.Onward.{in_front}
 use Rattle.parts.specs.Groups.{searched_start, next-marked, next-searched}
 use Rattle.parts.proofs.Part.search_part.Goals as goal
 use Rattle.parts.proofs.Part.search_part.Goals.{In-loop-group, After-unwrap}
 
 pub loop-group-init : goal.loop-group-init
-loop-group-init c = searched_start _ _ _ c.requires.1.places.early
+loop-group-init c = searched_start _ _ _ c.requires.places.early
 
 -- the columns of a turn are there
 more : (c : In-loop-group) → (8 * c.loop-group.group < c.args.self.now.search.net.count) × (8 * c.loop-group.group + column_width ≤ max_places)
-more c = (omega (arith, c.div_ceil-group-end.ensures), omega (arith, c.div_ceil-group-end.ensures, c.requires.1.few))
+more c = (omega (arith, c.div_ceil-group-end.ensures), omega (arith, c.div_ceil-group-end.ensures, c.requires.few))
 
 -- the tokens of a turn
 tokens : (c : After-unwrap) → c.unwrap.result.now ≡ take column_width (drop (8 * c.loop-group.group) c.loop-group.marking)
@@ -25,11 +24,9 @@ search_eight-requires c =
     let s = c.args.self.now.search in
     let so_far = c.loop-group.invariant in
     let here = more (goal.at.search_eight-requires c).In-loop-group in
-    let front = sl_ptr_pˢ s.word c.end.result in
-    let is : front.now ≡ take (end_of s c.loop-group.best) s.word.now = ap (λ (k : ℕ). take k s.word.now) c.end.ensures in (
-      searchable-front s front (end_of s c.loop-group.best) is c.requires.0,
-      here.0,
-      rw (tokens (goal.at.search_eight-requires c).After-unwrap) (next-marked s c.args.self.now.done c.args.marking.now c.requires.1 so_far here.0 here.1 front is),
+    let front = rw c.end.ensures at c.front.ensures in (
+      in_front front (λ at k w. 8 * c.loop-group.group < at.count) here.0,
+      rw (tokens (goal.at.search_eight-requires c).After-unwrap) (next-marked s c.args.self.now.done c.args.marking.now c.requires so_far here.0 here.1 front),
     )
 
 pub loop-group-preserved : goal.loop-group-preserved
@@ -37,10 +34,9 @@ loop-group-preserved c =
     let s = c.args.self.now.search in
     let so_far = c.loop-group.invariant in
     let here = more (goal.at.loop-group-preserved c).In-loop-group in
-    let front = sl_ptr_pˢ s.word c.end.result in
-    let is : front.now ≡ take (end_of s c.loop-group.best) s.word.now = ap (λ (k : ℕ). take k s.word.now) c.end.ensures in
+    let front = rw c.end.ensures at c.front.ensures in
     let found = c.search_eight.ensures in
-    let next = next-searched s c.args.self.now.done c.args.marking.now c.requires.1 so_far here.0 here.1 front is c.search_eight.array_long found.onward found.late found.marked in
+    let next = next-searched s c.args.self.now.done c.args.marking.now c.requires so_far here.0 here.1 front c.search_eight.array_long found.onward found.late found.marked in
     let eight : 8 * c.loop-group.group + 8 - 8 * c.loop-group.group ≡ column_width = omega arith in
     let turn : 8 * c.loop-group.group + column_width ≡ 8 * (c.loop-group.group + 1) = omega arith in
     rw (c.or-best.ensures, c.copy_from_slice.ensures.after, eight, ← turn) next

@@ -20,7 +20,7 @@ read g c = place_is _ _ _ _ c.place-place.ensures
 pub loop-j-init : goal.loop-j-init
 loop-j-init g c =
     let none : c.args.places.start - c.args.places.start ≡ 0 = omega arith in
-    (c.requires.searchable.1, rw none (onward-none c.args.self.now c.args.places.start c.args.from), λ nothing k low high. absurd (omega arith))
+    (c.requires.late, rw none (onward-none c.args.self.now c.args.places.start c.args.from), λ nothing k low high. absurd (omega arith))
 
 pub tokens-start-requires : goal.tokens-start-requires
 tokens-start-requires g c =
@@ -44,7 +44,7 @@ starts g c =
     let numbers : (p.initial < 65536) × ((e : ℕ) → get_or p.produced e 0 < 65536) = (omega arith, λ e. let f : Fits w16 (get_or p.produced e 0) = search rules in f.fits) in
     let small = subst (λ (q : Place). (q.initial < 65536) × ((e : ℕ) → q.produced e < 65536)) is numbers in
     let late = c.loop-j.invariant.0 in
-    start_reached c.requires.searchable.0.word c.requires.searchable.0.found.limits.1 (place_in c.args.self.now c.loop-j.j) small.0 small.1 (reached g (goal.at.After-end g c).After-tokens-start) (omega (arith, late.0, late.1)) _ (omega (arith, late.0, late.1))
+    start_reached c.args.self.now.over c.args.self.now.net.limit (place_in c.args.self.now c.loop-j.j) small.0 small.1 (reached g (goal.at.After-end g c).After-tokens-start) (omega (arith, late.0, late.1)) _ (omega (arith, late.0, late.1))
 
 pub stop_from-requires : goal.stop_from-requires
 stop_from-requires g c =
@@ -61,13 +61,13 @@ found g c =
 pub overflow_add-best : goal.overflow_add-best
 overflow_add-best g c =
     let here = found g (goal.at.overflow_add-best g c).After-stop_from in
-    let late = late-earlier c.args.self.now c.requires.searchable.0.word.events c.loop-j.j c.loop-j.best c.tokens-start.result c.args.done (reached g (goal.at.overflow_add-best g c).After-tokens-start) c.loop-j.invariant.0 (sym c.in-Some.is ∙ here) in
+    let late = late-earlier c.args.self.now c.args.self.now.over.events c.loop-j.j c.loop-j.best c.tokens-start.result c.args.done (reached g (goal.at.overflow_add-best g c).After-tokens-start) c.loop-j.invariant.0 (sym c.in-Some.is ∙ here) in
     omega (arith, late.0, c.end.ensures, c.end.type_inv)
 
 pub loop-j-preserved : goal.loop-j-preserved
 loop-j-preserved g c =
     let s = c.args.self.now in
-    let below = c.requires.searchable.0.word.events in
+    let below = c.args.self.now.over.events in
     let best = c.loop-j.best in
     let r = reached g (goal.at.loop-j-preserved g c).After-tokens-start in
     let late = c.loop-j.invariant.0 in

@@ -9,7 +9,7 @@ use Rattle.stops.proofs.Search.search_pairs.Goals.{in-Some, in_default}
 use Rattle.stops.proofs.Search.search_pairs.Goals.{After-stop_of_two}
 
 pub loop-pair-init : goal.loop-pair-init
-loop-pair-init c = (c.requires.1, onward-none c.args.self.now 0 c.args.from)
+loop-pair-init c = (c.requires, onward-none c.args.self.now 0 c.args.from)
 
 -- what a turn finds
 found : (c : After-stop_of_two) → let s = c.args.self.now in let front = take (end_of s c.loop-pair.best) s.word.now in
@@ -18,13 +18,13 @@ found c = rw (c.end.ensures, place_is _ _ _ _ c.place-one.ensures, place_is _ _ 
 
 pub overflow_add-best-in-Some : goal.overflow_add-best-in-Some
 overflow_add-best-in-Some c =
-    let late = pair-late c.args.self.now c.requires.0.word.events (2 * c.loop-pair.pair) c.loop-pair.best c.loop-pair.invariant.0 (sym c.in-Some.is ∙ found (goal.at.overflow_add-best-in-Some c).After-stop_of_two) in
-    omega (arith, late.0, c.requires.0.few, c.requires.0.found.few)
+    let late = pair-late c.args.self.now c.args.self.now.over.events (2 * c.loop-pair.pair) c.loop-pair.best c.loop-pair.invariant.0 (sym c.in-Some.is ∙ found (goal.at.overflow_add-best-in-Some c).After-stop_of_two) in
+    omega (arith, late.0, c.args.self.now.few, c.args.self.now.net.few)
 
 pub loop-pair-preserved : goal.loop-pair-preserved
 loop-pair-preserved c =
     let s = c.args.self.now in
-    let below = c.requires.0.word.events in
+    let below = c.args.self.now.over.events in
     let best = c.loop-pair.best in
     let j = 2 * c.loop-pair.pair in
     let late = c.loop-pair.invariant.0 in

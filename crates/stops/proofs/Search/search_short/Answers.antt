@@ -13,4 +13,4 @@ search_from-requires-clause-reached c j low high t gave =
 pub returns : goal.returns
 returns c =
     let s = c.args.self.now in
-    onward-over s c.requires.0 (onward_then s 0 _ _ _ _ _ (omega arith) (omega arith) c.search_pairs-found.ensures.onward c.search_from.ensures.onward)
+    onward-over s (onward_then s 0 _ _ _ _ _ (omega arith) (omega arith) c.search_pairs-found.ensures.onward c.search_from.ensures.onward)

@@ -1,0 +1,36 @@
+-- The code's struct for the places of a bundle, and what it keeps of them.
+use Rattle.std.specs.Prelude.{◌≡◌, ℕ, Ok, Err}
+use Rattle.std.proofs.Common.{ap}
+use Rattle.refusals.specs.Answers.{Answer}
+use Rattle.bundles.specs.Reading as reading
+use Rattle.bundles.specs.Chains.{ReadAs, read_as, answer_in}
+use Rattle.bundles.specs.PlaceReading.{Kept, spot_of, end_of}
+use Rattle.bundles.specs.declared.Reader.{Reader}
+use Rattle.bundles.specs.declared.net.Net.{Net}
+
+-- its fields
+abbrev pub kept : Net → Kept
+kept net = record { bundle = net.bundle; n = net.n; count = net.count; first = net.first }
+
+-- the offset of place j
+abbrev pub place_spot : Net → ℕ → ℕ
+place_spot net j = spot_of (kept net) j
+
+-- the offset behind the last place
+abbrev pub behind : Net → ℕ
+behind net = end_of (kept net)
+
+-- an answer, by the fields
+abbrev pub kept_answer : Answer Net → Answer Kept
+kept_answer (Ok net) = Ok (kept net)
+kept_answer (Err r) = Err r
+
+-- the answer of a read alone
+pub read_kept_answer : {old new : Reader} {result : Answer Net} {reader : reading.Reader Kept} → ReadAs kept old new result reader
+    → kept_answer result ≡ answer_in (reader old.bytes.now old.at)
+unfolding read_as answer_in
+read_kept_answer {old} {new} {result} {reader} r = go result r.read
+  where
+    go : (k : Answer Net) → read_as kept k new.at ≡ reader old.bytes.now old.at → kept_answer k ≡ answer_in (reader old.bytes.now old.at)
+    go (Ok x) e = ap answer_in e
+    go (Err f) e = ap answer_in e
