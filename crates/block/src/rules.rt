@@ -8,7 +8,7 @@ ghost use Rattle.block.specs.Faults.{fault_number, as_result};
 use limits::MAX_FILE_SIZE;
 use refusals::{Cause, Refusal};
 use slices::number_at;
-use sums::sums_of;
+use sums::{Sums, sums_of};
 
 // The bytes of a block: its number, its used count, 504 bytes of contents and the two sums of all these.
 pub type Block = [u8; 512];
@@ -20,7 +20,7 @@ fn all_zero(bytes: &[u8]) -> bool
     bytes.iter().all(|byte| *byte == 0)
 }
 
-// Whether a block may use `used` bytes.
+// Whether a block may use `used` bytes. `last` says which rule is meant, as in its definition; there is one way to test both.
 #[tactic(auto, unfolding(crate::specs::Block::right_count))]
 fn count_fits(used: u16, last: bool) -> bool
     ensures { result ≡ right_count last used }
@@ -44,11 +44,14 @@ fn use_fits(block: &Block, last: bool) -> bool
 fn sums_match(block: &Block) -> bool
     ensures { result ≡ right_sums block.now }
 {
-    let sums = sums_of(block.first_chunk().unwrap());
-    number_at(block, 508) == sums.plain && number_at(block, 510) == sums.position
+    let written = Sums {
+        plain: number_at(block, 508),
+        position: number_at(block, 510),
+    };
+    written == sums_of(block.first_chunk().unwrap())
 }
 
-// The first rule that a block breaks, if it does.
+// The first rule that a block breaks, if it does: an Option, since it is searched for here, and refused where the block's position is known.
 fn fault_of(block: &Block, number: usize, last: bool) -> Option<Cause>
     ensures { fault_number result ≡ fault last number block.now }
 {

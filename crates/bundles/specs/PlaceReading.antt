@@ -1,14 +1,14 @@
 -- Places: their bytes, the code's struct for one, and what the code keeps of those of a bundle.
 use Rattle.std.specs.Prelude.{◌≡◌, Bool, cond, ◌⊎◌, List, [], ◌∷◌, ◌++◌, ℕ, suc, ◌+◌, ◌-◌, ◌*◌, ◌≤◌, ◌<◌, leb, length, get_or, Ok, Err}
-use Rattle.std.proofs.Math.Path.{refl, ap}
-use Rattle.std.proofs.Common.{sym, ◌∙◌, subst, inl, inr, ⊎_elim, append_assoc, mul-one, suc-mul, mul-le-mul_right, add-one, length-append}
+use Rattle.std.proofs.Math.Path.{refl, ap, ap₂}
+use Rattle.std.proofs.Common.{sym, ◌∙◌, subst, inl, inr, ⊎_elim, append_assoc, mul-one, suc-mul, mul-le-mul_right, add-one, length-append, take, drop}
 use Rattle.std.proofs.Math.Bool.{true, false}
 use native.Mathlib.Omega.{arith}
 use Rattle.std.proofs.Math.Dec.{ltb}
 use borrow.Author.Tests.{leb-true, ltb-true, ltb-false, le-ltb}
 use Rattle.std.proofs.Math.ListN.{replicate, set, get_or-eq_default}
-use Rattle.std.proofs.Math.Seq.{set-append_seam}
-use Rattle.std.proofs.lemmas.List.{set-get_or}
+use Rattle.std.proofs.Math.Seq.{set-append_seam, take-append_seam}
+use Rattle.std.proofs.lemmas.List.{set-get_or, drop-replicate}
 use Rattle.laws.specs.Booleans.{impossible, lt_or_le}
 use Rattle.laws.specs.Parts.{get_d_padded}
 use Rattle.laws.specs.Numbers.{Bytes, number_at}
@@ -125,6 +125,16 @@ module _ (b : List ℕ) (at : ℕ) where
       ap (λ (k : ℕ). set (widened (numbers_at i b at)) k (number_at b (at + 2 * i))) (sym size)
       ∙ widened-set (numbers_at i b at) (number_at b (at + 2 * i)) (omega arith)
       ∙ ap widened (sym (rw add-one (items_snoc 1 number_at i b at ∙ rw (mul-one i))))
+
+  -- the first n of them, in front of zeros
+  pub row_end : (n : ℕ) → take n (widened (numbers_at n b at)) ++ drop n (replicate max_events 0) ≡ widened (numbers_at n b at)
+  unfolding widened
+  row_end n =
+      let xs = numbers_at n b at in
+      let size : length xs ≡ n = items-length 1 number_at n b at in
+      ap₂ ◌++◌
+      (subst (λ (k : ℕ). take k (xs ++ replicate (max_events - length xs) 0) ≡ xs) size (take-append_seam xs _))
+      (drop-replicate n max_events 0 ∙ ap (λ (k : ℕ). replicate (max_events - k) 0) (sym size))
 
 -- a row of n numbers, after i turns that each write the number of an event, or zero from n on
 module _ (n : ℕ) (b : List ℕ) (at : ℕ) where

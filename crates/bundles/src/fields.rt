@@ -54,7 +54,7 @@ impl<'a> Reader<'a> {
         Ok(number_at(self.bytes, at))
     }
 
-    // A two-byte number that passes a test. No twin of `byte` by a type: one function of both would be longer than the two.
+    // A two-byte number that passes a test. Apart from `byte`: one function of both would need a trait of fields, with a law for each of them.
     #[inline(always)]
     pub fn number<F: Fn(u16) -> bool>(&mut self, in_range: F) -> Result<u16, Refusal>
         requires { F.IsAlwaysCallable in_range }

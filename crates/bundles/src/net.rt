@@ -59,14 +59,14 @@ fn kept(number: u16, i: usize, n: usize) -> u16
 }
 
 // The numbers of n events from an offset on; zero from n on. Twelve numbers stand behind it, of which the first n are kept: a loop of n turns
-// becomes calls that copy and clear memory, which take longer than a row does. An index, since it is the offset, too; so in `permits_at`.
+// becomes calls that copy and clear memory, which take longer than a row does.
 fn row_within(bundle: &[u8], at: usize, n: usize) -> [u16; MAX_EVENTS]
     requires { (n ≤ max_events) × (at + 2 * max_events ≤ length bundle.now) }
     ensures { result ≡ widened (numbers_at n bundle.now at) }
 {
     let mut row = [0u16; MAX_EVENTS];
-    for i in 0..MAX_EVENTS {
-        row[i] = kept(number_at(bundle, at + 2 * i), i, n);
+    for (i, number) in row.iter_mut().enumerate() {
+        *number = kept(number_at(bundle, at + 2 * i), i, n);
     }
     row
 }
@@ -77,13 +77,13 @@ fn row_at_end(bundle: &[u8], at: usize, n: usize) -> [u16; MAX_EVENTS]
     ensures { result ≡ widened (numbers_at n bundle.now at) }
 {
     let mut row = [0u16; MAX_EVENTS];
-    for i in 0..n {
-        row[i] = number_at(bundle, at + 2 * i);
+    for (i, number) in row[..n].iter_mut().enumerate() {
+        *number = number_at(bundle, at + 2 * i);
     }
     row
 }
 
-// The same, anywhere in a bundle. No struct has these parameters: it would be made for one call.
+// The same, anywhere in a bundle.
 #[inline(always)]
 fn row_at(bundle: &[u8], at: usize, n: usize) -> [u16; MAX_EVENTS]
     requires { (n ≤ max_events) × (at + 2 * n ≤ length bundle.now) }
@@ -96,7 +96,7 @@ fn row_at(bundle: &[u8], at: usize, n: usize) -> [u16; MAX_EVENTS]
 }
 
 // Whether the place at an offset permits the event after the counts. The tokens are added as `Place::tokens` does, but straight from the bytes, since
-// building a place costs more than this one test of it.
+// building a place costs more than this one test of it. The index is an offset in the bytes, too.
 #[inline(always)]
 fn permits_at(bundle: &[u8], at: usize, n: usize, counts: &[u16], event: usize) -> bool
     requires { (n ≤ max_events)

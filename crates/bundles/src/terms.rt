@@ -19,7 +19,7 @@ impl From<Kind> for u8 {
     ghost from_gives = { λ kind number. number ≡ kind_number kind };
 
     fn from(kind: Kind) -> u8 {
-        // Its discriminant.
+        // Its discriminant, to which a cast is the one way.
         kind as u8
     }
 }
@@ -33,7 +33,7 @@ pub struct Term {
 }
 
 impl<'a> Reader<'a> {
-    // The kind of a certificate. It is read here alone, and refused at its byte, so a `TryFrom` is no plainer.
+    // The kind of a certificate. Another byte is refused where it stands: a `TryFrom` would hand its caller an error that says less.
     #[inline(always)]
     pub fn kind(&mut self) -> Result<Kind, Refusal>
         ensures { ReadAs kind_number self.old self.new result (byte (λ kind. leb kind 1)) }

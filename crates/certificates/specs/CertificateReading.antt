@@ -83,24 +83,30 @@ weights_of h cs = length (keep (λ c. not (is_by_place c)) (map (to_certificate 
 
 -- the steps that were passed
 abbrev pub counted : Progress → ℕ
-counted s = s.allowed + s.by_place + s.by_weights
+counted s = s.tally.allowed + s.tally.by_place + s.tally.by_weights
+
+-- no step is passed yet, of a log with so many rows
+abbrev pub none_passed : Reader → ℕ → Progress
+none_passed reader count = record { reader = reader; tally = record { rows = count; allowed = 0; by_place = 0; by_weights = 0 } }
 
 -- the steps before the event e after row i are passed: the certificates `before` were read, and the next one starts at `next`
 pub record PassedTo (h : Head) (b : List ℕ) (at i e : ℕ) (s : Progress) : Type 0 where
   pub before : List CertificateFields
   pub left : Left (solved h) b (wrong_in h) at (wrong_from h i e) before s.reader.at
-  pub allowed_count : s.allowed + length (allowed_from h i e) ≡ length (allowed_steps_in h)
-  pub place_count : s.by_place ≡ places_of h before
-  pub weights_count : s.by_weights ≡ weights_of h before
-  pub size : length before ≡ s.by_place + s.by_weights
+  pub row_count : s.tally.rows ≡ length (rows_in h)
+  pub allowed_count : s.tally.allowed + length (allowed_from h i e) ≡ length (allowed_steps_in h)
+  pub place_count : s.tally.by_place ≡ places_of h before
+  pub weights_count : s.tally.by_weights ≡ weights_of h before
+  pub size : length before ≡ s.tally.by_place + s.tally.by_weights
 
-pub passed_start : (h : Head) (b : List ℕ) (reader : Reader) → PassedTo h b reader.at 0 0 (record { reader = reader; allowed = 0; by_place = 0; by_weights = 0 })
+pub passed_start : (h : Head) (b : List ℕ) (reader : Reader) (count : ℕ) → count ≡ length (rows_in h) → PassedTo h b reader.at 0 0 (none_passed reader count)
 unfolding wrong_continuations allowed_steps keep
-passed_start h b reader =
+passed_start h b reader count rows =
     let first : 0 * h.events + 0 ≡ 0 = omega arith in
     record {
       before = [];
       left = record { same = rw first };
+      row_count = rows;
       allowed_count = rw first (zero-add _);
       place_count = refl;
       weights_count = refl;
@@ -115,25 +121,24 @@ module _ {h : Head} {b : List ℕ} {at i e : ℕ} {s : Progress} (l : PassedTo h
       record {
         before = l.before;
         left = subst (λ (k : ℕ). Left (solved h) b (wrong_in h) at (keep (λ s. not (allowed_in h s)) (drop k (continuations_in h))) l.before s.reader.at) same l.left;
-        allowed_count = ap (λ (k : ℕ). s.allowed + length (keep (allowed_in h) (drop k (continuations_in h)))) (sym same) ∙ l.allowed_count;
+        row_count = l.row_count;
+        allowed_count = ap (λ (k : ℕ). s.tally.allowed + length (keep (allowed_in h) (drop k (continuations_in h)))) (sym same) ∙ l.allowed_count;
         place_count = l.place_count;
         weights_count = l.weights_count;
         size = l.size;
       }
 
   -- no row is left
-  pub passed-done : (count : ℕ) → count ≡ length (rows_in h) → count ≤ i
-      → Ok (record { rows = count; allowed = s.allowed; by_place = s.by_place; by_weights = s.by_weights }, s.reader.at)
-      ≡ certified_of h (each (solved h) (wrong_in h) [] b at)
+  pub passed-done : length (rows_in h) ≤ i → Ok (s.tally, s.reader.at) ≡ certified_of h (each (solved h) (wrong_in h) [] b at)
   unfolding continuations keep certified_of tally to_bundle
-  passed-done count size past =
+  passed-done past =
       let none : drop (i * h.events + e) (continuations_in h) ≡ [] =
-      drop_of_length-le (continuations_in h) {i = i * h.events + e} (omega (arith, steps-length h.events (rows_in h), mul-le-mul_right h.events past, ap (λ (k : ℕ). k * h.events) size)) in
+      drop_of_length-le (continuations_in h) {i = i * h.events + e} (omega (arith, steps-length h.events (rows_in h), mul-le-mul_right h.events past)) in
       let whole : each (solved h) (wrong_in h) [] b at ≡ got l.before s.reader.at =
       left-done (subst (λ (xs : List Step). Left (solved h) b (wrong_in h) at (keep (λ s. not (allowed_in h s)) xs) l.before s.reader.at) none l.left) in
-      let all : s.allowed ≡ length (allowed_steps_in h) =
-      sym (add-zero s.allowed) ∙ ap (λ (xs : List Step). s.allowed + length (keep (allowed_in h) xs)) (sym none) ∙ l.allowed_count in
-      rw (whole, size, all, l.place_count, l.weights_count)
+      let all : s.tally.allowed ≡ length (allowed_steps_in h) =
+      sym (add-zero s.tally.allowed) ∙ ap (λ (xs : List Step). s.tally.allowed + length (keep (allowed_in h) xs)) (sym none) ∙ l.allowed_count in
+      rw (whole, ← l.row_count, ← all, ← l.place_count, ← l.weights_count)
 
   module _ (inside : i < length (rows_in h)) (below : e < h.events) where
     listed : i * h.events + e < length (continuations_in h)
@@ -156,10 +161,11 @@ module _ {h : Head} {b : List ℕ} {at i e : ℕ} {s : Progress} (l : PassedTo h
         ∙ ap (λ (k : ℕ). keep f (drop k (continuations_in h))) (add_assoc (i * h.events) e 1)
 
     -- an allowed step has no certificate
-    pub passed-allowed : allowed_in h (step_of h i e) ≡ true → PassedTo h b at i (e + 1) (record s { allowed = s.allowed + 1 })
+    pub passed-allowed : allowed_in h (step_of h i e) ≡ true → PassedTo h b at i (e + 1) (record s { tally = record s.tally { allowed = s.tally.allowed + 1 } })
     passed-allowed t = record {
       before = l.before;
       left = subst (λ (ss : List Step). Left (solved h) b (wrong_in h) at ss l.before s.reader.at) (failing (λ s. not (allowed_in h s)) (ap not t)) l.left;
+      row_count = l.row_count;
       allowed_count = omega (arith, l.allowed_count, ap (λ (ss : List Step). length ss) (passing (allowed_in h) t));
       place_count = l.place_count;
       weights_count = l.weights_count;
@@ -170,8 +176,8 @@ module _ {h : Head} {b : List ℕ} {at i e : ℕ} {s : Progress} (l : PassedTo h
       one_more : Left (solved h) b (wrong_in h) at (step_of h i e ∷ wrong_from h i (e + 1)) l.before s.reader.at
       one_more = subst (λ (ss : List Step). Left (solved h) b (wrong_in h) at ss l.before s.reader.at) (passing (λ s. not (allowed_in h s)) (ap not t)) l.left
 
-      same-allowed : s.allowed + length (allowed_from h i (e + 1)) ≡ length (allowed_steps_in h)
-      same-allowed = ap (λ (ss : List Step). s.allowed + length ss) (sym (failing (allowed_in h) t)) ∙ l.allowed_count
+      same-allowed : s.tally.allowed + length (allowed_from h i (e + 1)) ≡ length (allowed_steps_in h)
+      same-allowed = ap (λ (ss : List Step). s.tally.allowed + length ss) (sym (failing (allowed_in h) t)) ∙ l.allowed_count
 
       -- the certificates with one more, counted by a test
       more : (f : Certificate → Bool) (c : CertificateFields) → length (keep f (map (to_certificate h) (l.before ++ c ∷ []))) ≡ length (keep f (map (to_certificate h) l.before)) + length (keep f (to_certificate h c ∷ []))
@@ -179,13 +185,14 @@ module _ {h : Head} {b : List ℕ} {at i e : ℕ} {s : Progress} (l : PassedTo h
 
       -- a wrong continuation has the next certificate
       passed-place : {reader : Reader} → map_read kind_in (solved h (step_of h i e) l.before b s.reader.at) ≡ got Place reader.at
-          → PassedTo h b at i (e + 1) (record s { reader = reader; by_place = s.by_place + 1 })
+          → PassedTo h b at i (e + 1) (record s { reader = reader; tally = record s.tally { by_place = s.tally.by_place + 1 } })
       unfolding keep to_certificate is_by_place
       passed-place q =
           let c = kind_place q in
           record {
             before = l.before ++ kind0 c.0 ∷ [];
             left = left-next one_more c.1;
+            row_count = l.row_count;
             allowed_count = same-allowed;
             place_count = ap (λ (k : ℕ). k + 1) l.place_count ∙ sym (more is_by_place (kind0 c.0));
             weights_count = l.weights_count ∙ sym (more (λ c. not (is_by_place c)) (kind0 c.0) ∙ add-zero _);
@@ -193,13 +200,14 @@ module _ {h : Head} {b : List ℕ} {at i e : ℕ} {s : Progress} (l : PassedTo h
           }
 
       passed-weights : {reader : Reader} → map_read kind_in (solved h (step_of h i e) l.before b s.reader.at) ≡ got Weights reader.at
-          → PassedTo h b at i (e + 1) (record s { reader = reader; by_weights = s.by_weights + 1 })
+          → PassedTo h b at i (e + 1) (record s { reader = reader; tally = record s.tally { by_weights = s.tally.by_weights + 1 } })
       unfolding keep to_certificate is_by_place
       passed-weights q =
           let c = kind_weights q in
           record {
             before = l.before ++ kind1 c.0 ∷ [];
             left = left-next one_more c.1;
+            row_count = l.row_count;
             allowed_count = same-allowed;
             place_count = l.place_count ∙ sym (more is_by_place (kind1 c.0) ∙ add-zero _);
             weights_count = ap (λ (k : ℕ). k + 1) l.weights_count ∙ sym (more (λ c. not (is_by_place c)) (kind1 c.0));
@@ -226,7 +234,7 @@ pub record Outcome (b : List ℕ) (i e i' e' : ℕ) (s s' : Progress) (r : Answe
 
 -- what reading the next certificate gives, for a wrong continuation: its kind, with the offset behind it, or a refusal
 abbrev pub Gives : List ℕ → ℕ → ℕ → Progress → Read Kind → Type 0
-Gives b i e s m = (before : List CertificateFields) → length before ≡ s.by_place + s.by_weights
+Gives b i e s m = (before : List CertificateFields) → length before ≡ s.tally.by_place + s.tally.by_weights
     → map_read kind_in (solved (head_of b) (step_of (head_of b) i e) before b s.reader.at) ≡ m
 
 module _ {b : List ℕ} where
@@ -236,18 +244,18 @@ module _ {b : List ℕ} where
 
   -- the step of a row, which is allowed or has a certificate
   module _ {i e : ℕ} {s : Progress} (few : counted s ≤ max_events * i + e) (inside : i < length (rows_in (head_of b))) (below : e < (head_of b).events) where
-    pub outcome-allowed : allowed_in (head_of b) (step_of (head_of b) i e) ≡ true → Outcome b i e i (e + 1) s (record s { allowed = s.allowed + 1 }) (Ok tt)
+    pub outcome-allowed : allowed_in (head_of b) (step_of (head_of b) i e) ≡ true → Outcome b i e i (e + 1) s (record s { tally = record s.tally { allowed = s.tally.allowed + 1 } }) (Ok tt)
     unfolding Passes
     outcome-allowed allowed = record { told = (refl, omega (arith, few), λ at l. passed-allowed l inside below allowed) }
 
     module _ (wrong : allowed_in (head_of b) (step_of (head_of b) i e) ≡ false) where
       pub outcome-place : {reader : Reader} → reader.bytes ≡ s.reader.bytes → Gives b i e s (got Place reader.at)
-          → Outcome b i e i (e + 1) s (record s { reader = reader; by_place = s.by_place + 1 }) (Ok tt)
+          → Outcome b i e i (e + 1) s (record s { reader = reader; tally = record s.tally { by_place = s.tally.by_place + 1 } }) (Ok tt)
       unfolding Passes
       outcome-place same is = record { told = (same, omega (arith, few), λ at l. passed-place l inside below wrong (is l.before l.size)) }
 
       pub outcome-weights : {reader : Reader} → reader.bytes ≡ s.reader.bytes → Gives b i e s (got Weights reader.at)
-          → Outcome b i e i (e + 1) s (record s { reader = reader; by_weights = s.by_weights + 1 }) (Ok tt)
+          → Outcome b i e i (e + 1) s (record s { reader = reader; tally = record s.tally { by_weights = s.tally.by_weights + 1 } }) (Ok tt)
       unfolding Passes
       outcome-weights same is = record { told = (same, omega (arith, few), λ at l. passed-weights l inside below wrong (is l.before l.size)) }
 
@@ -272,14 +280,13 @@ module _ {b : List ℕ} where
   outcome-row small end first = record { told = (first.told.0, omega (arith, first.told.1), λ at l. passed-row (first.told.2 at l) end) }
 
   -- the certificates from the first step on
-  module _ (reader : Reader) {i : ℕ} {s : Progress} where
-    pub outcome-done : Outcome b 0 0 i 0 (record { reader = reader; allowed = 0; by_place = 0; by_weights = 0 }) s (Ok tt) → (count : ℕ) → count ≡ length (rows_in (head_of b)) → count ≤ i
-        → Ok (record { rows = count; allowed = s.allowed; by_place = s.by_place; by_weights = s.by_weights }, s.reader.at)
-        ≡ certified_of (head_of b) (each (solved (head_of b)) (wrong_in (head_of b)) [] b reader.at)
+  module _ (reader : Reader) {i : ℕ} {s : Progress} (count : ℕ) (rows : count ≡ length (rows_in (head_of b))) where
+    pub outcome-done : Outcome b 0 0 i 0 (none_passed reader count) s (Ok tt) → count ≤ i
+        → Ok (s.tally, s.reader.at) ≡ certified_of (head_of b) (each (solved (head_of b)) (wrong_in (head_of b)) [] b reader.at)
     unfolding Passes
-    outcome-done all count size past = passed-done (all.told.2 reader.at (passed_start (head_of b) b reader)) count size past
+    outcome-done all past = passed-done (all.told.2 reader.at (passed_start (head_of b) b reader count rows)) (omega (arith, rows, past))
 
-    pub outcome-stopped : {r : Refusal} → Outcome b 0 0 i 0 (record { reader = reader; allowed = 0; by_place = 0; by_weights = 0 }) s (Err r)
+    pub outcome-stopped : {r : Refusal} → Outcome b 0 0 i 0 (none_passed reader count) s (Err r)
         → Err r ≡ certified_of (head_of b) (each (solved (head_of b)) (wrong_in (head_of b)) [] b reader.at)
     unfolding Passes certified_of
-    outcome-stopped stopped = rw (stopped.told reader.at (passed_start (head_of b) b reader))
+    outcome-stopped stopped = rw (stopped.told reader.at (passed_start (head_of b) b reader count rows))

@@ -15,10 +15,9 @@ ghost use Rattle.certificates.specs.CertificateReading.{counted, Outcome};
 use bundles::Reader;
 use bundles::terms::Kind;
 use heads::TakenHead;
-use limits::MAX_EVENTS;
 use places::has_bit;
 use refusals::{Cause, Refusal};
-use rows::ROW;
+use rows::mask_of;
 use verdicts::Tally;
 use weights::Step;
 
@@ -58,13 +57,11 @@ fn check_certificate(step: &Step, reader: &mut Reader, number: usize) -> Result<
     Ok(kind)
 }
 
-// How far the certificates are read: the allowed steps passed, and the certificates of each kind.
+// How far the certificates are read, and what was counted: the allowed steps passed, and the certificates of each kind.
 #[derive(Drop)]
 struct Progress<'a> {
     reader: Reader<'a>,
-    allowed: usize,
-    by_place: usize,
-    by_weights: usize,
+    tally: Tally,
 }
 
 impl Progress<'_> {
@@ -75,15 +72,15 @@ impl Progress<'_> {
         requires few { counted self.old ≤ max_events * row + event }
         ensures { Outcome head.now.net.bundle.now row event row (event + 1) self.old self.new result }
     {
-        if has_bit(head.table[ROW * row + MAX_EVENTS], usize::from(event)) {
-            self.allowed += 1;
+        if has_bit(mask_of(head.table, row), usize::from(event)) {
+            self.tally.allowed += 1;
             return Ok(());
         }
         let step = Step { head, row, event };
-        let number = self.by_place + self.by_weights;
+        let number = self.tally.by_place + self.tally.by_weights;
         match check_certificate(&step, &mut self.reader, number)? {
-            Kind::Place => self.by_place += 1,
-            Kind::Weights => self.by_weights += 1,
+            Kind::Place => self.tally.by_place += 1,
+            Kind::Weights => self.tally.by_weights += 1,
         }
         Ok(())
     }
@@ -113,18 +110,15 @@ pub fn certify(head: &TakenHead) -> Result<(Tally, usize), Refusal>
             bytes: net.bundle,
             at: net.offset(net.count),
         },
-        allowed: 0,
-        by_place: 0,
-        by_weights: 0,
+        tally: Tally {
+            rows: head.rows,
+            allowed: 0,
+            by_place: 0,
+            by_weights: 0,
+        },
     };
     for row in 0..head.rows {
         progress.certify_row(head, row)?;
     }
-    let tally = Tally {
-        rows: head.rows,
-        allowed: progress.allowed,
-        by_place: progress.by_place,
-        by_weights: progress.by_weights,
-    };
-    Ok((tally, progress.reader.at))
+    Ok((progress.tally, progress.reader.at))
 }

@@ -19,7 +19,7 @@ use bundles::net::Net;
 use limits::{MAX_EVENTS, MAX_PLACES};
 use marking::{Marking, recount, start};
 use places::{Place, has_bit};
-use rows::{Counts, ROW, counts_of};
+use rows::{Counts, counts_of, mask_of};
 
 // The columns of a matrix: as many as a net may have places.
 pub const WIDTH: usize = MAX_PLACES;
@@ -72,8 +72,8 @@ impl Matrix {
 // The matrix is lent to the steps of a marking, and no field of it: where its address is read from memory that the tokens are written to, the
 // compiler asks before each loop whether the two overlap.
 impl Matrix {
-    // Makes a marking the one before any event: the initial tokens of so many columns, and of those behind them in the last block. It is lent, since
-    // the compiler copies one that a function writes and hands back.
+    // Makes a marking the one before any event: the initial tokens of so many columns, and of those behind them in the last block. A marking that a
+    // function makes and hands back is copied; so it is lent.
     pub fn start(&self, marking: &mut Marking, count: usize)
         requires { count ≤ matrix_width }
         ensures { IsMarking self.now marking.new × (count ≤ block_width * marking.new.blocks) × (marking.new.counts ≡ none) }
@@ -130,7 +130,8 @@ impl Matrix {
         (0..MAX_EVENTS).all(|e| self.covers_event(marking, mask, e))
     }
 
-    // Whether each column permits what the rows of a table allow, of any table that has so many (as in `rows::visit_row`).
+    // Whether each column permits what the rows of a table allow. The table and the number of its rows are two parameters, as in `rows`: it may be
+    // any table that has so many.
     pub fn fit(&self, marking: &mut Marking, table: &[u16], rows: usize) -> bool
         requires marking { IsMarking self.now marking.old }
         requires rows_in_bounds { row_size * rows ≤ length table.now }
@@ -140,7 +141,7 @@ impl Matrix {
     {
         for r in 0..rows {
             self.advance(marking, counts_of(table, r));
-            if !self.covers_mask(marking, table[ROW * r + MAX_EVENTS]) {
+            if !self.covers_mask(marking, mask_of(table, r)) {
                 return false;
             }
         }

@@ -8,14 +8,14 @@ use limits::MAX_EVENTS;
 use places::{gain, shortfall, surplus};
 use rows::Counts;
 
-// Writes the initial tokens, by number of the column: an `iter_mut` cut to the width is no plainer.
+// Writes the initial tokens.
 pub(crate) fn start(tokens: &mut [i64; WIDTH], width: usize, initial: &[u16; WIDTH])
     requires { width ≤ matrix_width }
     ensures value { (j : ℕ) → j < width → get_or tokens.new j (pos 0) ≡ pos (get_or initial.now j 0) }
     ensures held { Moderate width tokens.new }
 {
-    for j in 0..width {
-        tokens[j] = i64::from(initial[j]);
+    for (j, tokens) in tokens[..width].iter_mut().enumerate() {
+        *tokens = i64::from(initial[j]);
     }
 }
 
@@ -41,8 +41,8 @@ fn shift(tokens: &mut [i64], plus: &[u16; WIDTH], minus: &[u16; WIDTH], times: u
     }
 }
 
-// The tokens where an event goes from `before` to `after` occurrences. Most counts stay. Six parameters, since a struct with a ghost field can't lend
-// its tokens as a slice.
+// The tokens where an event goes from `before` to `after` occurrences. Most counts stay. Six parameters and no method of `Marking`: of a struct
+// with a ghost field the borrow checker lends an array whole, but no slice of it; once `split_at_mut` has cut it, nothing is known of the tokens.
 #[inline(always)]
 pub(crate) fn recount(
     tokens: &mut [i64; WIDTH],

@@ -17,8 +17,8 @@ pub fn read_input<R: Read>(reader: &mut R, buffer: &mut [u8]) -> io::Result<usiz
     ensures within { Within result (length buffer.new) }
     ensures bytes { Whole (R.remaining reader.old) (R.remaining reader.new) result buffer.new }
 {
-    // It grows by what a read gave.
     let mut done = 0;
+    // It grows by what a read gave, so no iterator counts it.
     while done < buffer.len() {
         let more = reader.read(&mut buffer[done..])?;
         if more == 0 {
@@ -40,7 +40,7 @@ pub fn has_arguments<R: Env, E: Write>(rt: &R, errors: &mut E, usage: &[u8]) -> 
     true
 }
 
-// Says on standard error what failed and why, in the system's words.
+// Says on standard error what failed and why, in the system's words. An error is words only once it is printed, hence the heap, here alone.
 pub fn complain<R: Eprint + AllocGlobal>(rt: &R, what: &str, error: &io::Error) {
     let _ = match format!(in rt.alloc(); "{error}") {
         Ok(text) => rt.eprintln(format_args!("{what}: {}", reason(text.as_str()))),

@@ -15,7 +15,7 @@ use columns::marking::Marking;
 use heads::TakenHead;
 use limits::MAX_EVENTS;
 use places::{Place, covers, has_bit};
-use rows::{ROW, counts_of};
+use rows::{counts_of, mask_of};
 
 // Whether the tokens cover what each event of the mask takes. All twelve are tested without a branch: which bits are set is hard to predict.
 fn events_fit(tokens: i64, consumed: &[u16; MAX_EVENTS], mask: u16) -> bool
@@ -34,7 +34,7 @@ fn row_fits(place: &Place, table: &[u16], row: usize) -> bool
     requires { row_size * row + row_size ≤ length table.now }
     ensures { result ≡ row_fits (place_of place.now) (row_at (drop (row_size * row) table.now)) }
 {
-    let mask = table[ROW * row + MAX_EVENTS];
+    let mask = mask_of(table, row);
     if mask == 0 {
         return true;
     }

@@ -76,7 +76,7 @@ fn take_words(reader: &mut Reader, n: u8, count: u8, table: &mut [u16]) -> Resul
     Ok(log.rows)
 }
 
-// A bundle up to its last place, with a table that has the rows of its log in front.
+// A bundle up to its last place, and a table whose first rows are those of its log.
 #[derive(Clone, Copy)]
 pub struct TakenHead<'a> {
     pub net: Net<'a>,
@@ -86,7 +86,7 @@ pub struct TakenHead<'a> {
 }
 
 // Reads a bundle up to its last place, and takes its log into a table that has the row of the empty log. Returns the net, and how many rows the log
-// has. (Inner function.)
+// has. `read_head` differs in the one line that takes the words: a closure for it would need a contract longer than the four lines. (Inner function.)
 pub fn take_head<'a>(bundle: &'a [u8], table: &mut [u16]) -> Result<(Net<'a>, usize), Refusal>
     requires { Fresh table.old }
     ensures { HeadIs bundle.entry table.old table.new result }

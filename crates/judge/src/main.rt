@@ -29,7 +29,7 @@ fn verdict_line(verdict: Verdict) -> Line<LINE_SIZE>
                 counts.by_weights,
             ],
         ),
-        Err(refusal) => Line::of_refusal(refusal),
+        Err(refusal) => refusal.into(),
     }
 }
 
@@ -47,11 +47,12 @@ fn judge_file(came: &[u8]) -> Verdict
 fn print_unread<E: Eprint + AllocGlobal, W: Write>(rt: &E, output: &mut W) -> io::Result<()>
     ensures { OnOk result (Appends (W.contents output.old) (W.contents output.new) unread_line) }
 {
-    let refusal = Cause::FileLength.at(0);
-    console::print(rt, output, Line::of_refusal(refusal).as_bytes())
+    let line = Line::<LINE_SIZE>::from(Cause::FileLength.at(0));
+    console::print(rt, output, line.as_bytes())
 }
 
-// Why an input was not answered. What failed was said on standard error. No `From` of `io::Error`, which would take a failed read for a failed write.
+// Why an input was not answered. What failed was said on standard error. No `From` of `io::Error`: that of a read and that of a write mean different
+// answers.
 #[derive(Clone, Copy)]
 enum Unanswered {
     // It could not be read, and the line of such an input was written.

@@ -1,5 +1,6 @@
 pub mod Clauses
 pub mod Booleans
+pub mod Options
 pub mod Lists
 pub mod Every
 pub mod Keeping

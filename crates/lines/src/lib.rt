@@ -10,7 +10,8 @@ use std::marker::Model;
 // Room for every line that a program prints: a word of 43 bytes and four numbers of 20 digits.
 pub const LINE_SIZE: usize = 128;
 
-// A line as far as it is written, in front of the rest of its room. Clauses see the bytes that are written.
+// A line as far as it is written, in front of the rest of its room. Clauses see the bytes that are written. No String, which needs a heap, and no
+// Display, which would hand standard output a line in pieces, each written at once: a line is written whole.
 #[derive(Drop)]
 pub struct Line<const SIZE: usize> {
     bytes: [u8; SIZE],
@@ -75,12 +76,12 @@ impl<const SIZE: usize> Line<SIZE> {
     }
 }
 
-impl Line<LINE_SIZE> {
-    // The line of a refusal.
-    #[tactic(auto, unfolding(crate::specs::Lines::refusal_line))]
-    pub fn of_refusal(refusal: Refusal) -> Self
-        ensures { result ≡ refusal_line refusal }
-    {
+// The line of a refusal.
+#[tactic(auto, unfolding(crate::specs::Lines::refusal_line))]
+impl From<Refusal> for Line<LINE_SIZE> {
+    ghost from_gives = { λ refusal line. line ≡ refusal_line refusal };
+
+    fn from(refusal: Refusal) -> Self {
         Line::new(b"refused", &[usize::from(refusal.number), refusal.spot])
     }
 }

@@ -68,7 +68,8 @@ impl Summary {
         ensures { result ≡ right_summary self }
     {
         right_event_count(self.n)
-            && ((1..=MAX_ROWS).contains(&self.rows) && self.events <= MAX_LOG_EVENTS)
+            && (1..=MAX_ROWS).contains(&self.rows)
+            && self.events <= MAX_LOG_EVENTS
     }
 
     // Takes a word: puts its rows into the table and gives the next summary.
@@ -89,13 +90,11 @@ impl Summary {
         if let Some(bad) = first_bad(word, self.n) {
             return Err(Cause::Value.at(bad));
         }
-        let Some(rows) = add_alone(table, self.rows, word) else {
-            return Err(Cause::Rows.at(0));
-        };
+        let rows = add_alone(table, self.rows, word).ok_or(Cause::Rows.at(0))?;
         Ok(Summary {
-            n: self.n,
             rows,
             events: self.events + word.len(),
+            ..self
         })
     }
 }

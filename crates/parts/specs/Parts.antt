@@ -1,10 +1,11 @@
 -- A long word is searched part by part. Behind the parts that are done, each place has so many tokens; in the next part it is replayed from there.
-use Rattle.std.specs.Prelude.{◌≡◌, true, List, [], ◌∷◌, ◌++◌, ℕ, zero, suc, ◌+◌, ◌-◌, ◌*◌, min, ◌≤◌, ◌<◌, ℤ, pos, length, take, set, get_or}
-use Rattle.std.proofs.Common.{sym, ap, ap₂, ◌∙◌, subst, ⊎_elim, add-one, arith, length-take, take-take, get_or-set_other}
+use Rattle.std.specs.Prelude.{◌≡◌, true, List, [], ◌∷◌, ◌++◌, ℕ, zero, suc, ◌+◌, ◌-◌, ◌*◌, min, ◌≤◌, ◌<◌, ℤ, pos, length, take, drop, get_or}
+use Rattle.std.proofs.Common.{sym, ap, ap₂, ◌∙◌, subst, ⊎_elim, add-one, arith, length-take, take-take, get_or-drop}
 use Rattle.std.proofs.lemmas.Bool.{false≢true}
-use Rattle.std.proofs.Math.ListN.{get_or-map}
+use Rattle.std.proofs.Math.ListN.{get_or-map, get_or-append}
+use Rattle.std.proofs.lemmas.List.{get_or-append_right}
 use Rattle.laws.specs.Booleans.{lt_or_le}
-use Rattle.laws.specs.Lists.{all, each_set}
+use Rattle.laws.specs.Lists.{all}
 use Rattle.laws.specs.Numbers.{Bytes}
 use Rattle.laws.specs.Scans.{all-exactly}
 use Rattle.limits.specs.Limits.{max_events, max_places}
@@ -86,16 +87,13 @@ pub record Initial (n : ℕ) (b : List ℕ) (at count : ℕ) (m₀ m : List ℤ)
   pub initial : (j : ℕ) → j < count → get_or m j (pos 0) ≡ pos (place_at n b at j).initial
   pub rest : (j : ℕ) → count ≤ j → get_or m j (pos 0) ≡ get_or m₀ j (pos 0)
 
--- the front of a marking written place by place, behind zeros
-module _ {n : ℕ} {b : List ℕ} {at : ℕ} where
-  pub initial-start : {m : List ℤ} → ((j : ℕ) → get_or m j (pos 0) ≡ pos 0) → Initial n b at 0 [] m
-  initial-start blank = record { initial = λ j h. absurd (omega arith); rest = λ j h. blank j }
-
-  pub initial-next : {j : ℕ} {m : List ℤ} (x : ℤ) → j < length m → Initial n b at j [] m → x ≡ pos (place_at n b at j).initial → Initial n b at (j + 1) [] (set m j x)
-  initial-next {j} {m} x here so_far is = record {
-    initial = each_set (pos 0) (λ i z. z ≡ pos (place_at n b at i).initial) m j x here so_far.initial is;
-    rest = λ i h. get_or-set_other m j i x (pos 0) (λ e. omega arith) ∙ so_far.rest i (omega arith);
-  }
+-- the front of a marking of zeros that is written
+pub initial-front : {n : ℕ} {b : List ℕ} {at count : ℕ} (t m : List ℤ) → length t ≡ count → ((j : ℕ) → j < count → get_or t j (pos 0) ≡ pos (place_at n b at j).initial)
+    → ((j : ℕ) → get_or m j (pos 0) ≡ pos 0) → Initial n b at count [] (t ++ drop count m)
+initial-front {count = count} t m size initial blank = record {
+  initial = λ j h. get_or-append t (drop count m) (pos 0) j (omega (arith, size)) ∙ initial j h;
+  rest = λ j h. get_or-append_right t (drop count m) count j (pos 0) size h ∙ get_or-drop count m (j - count) (pos 0) ∙ blank (count + (j - count));
+}
 
 -- the tokens of the places of a net
 abbrev pub MarkedIn : bundle.Net → Word → ℕ → List ℤ → Type 0

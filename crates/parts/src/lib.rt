@@ -20,13 +20,13 @@ const LONG: usize = 1024;
 // The length of the other parts: the tables are written for each anew.
 const PART: usize = 4096;
 
-// The initial tokens of the places of a net, and zeros. By number, as the net has its places.
+// The initial tokens of the places of a net, and zeros.
 fn initial_tokens(net: &Net) -> [i64; MAX_PLACES]
     ensures { Initial net.now.n net.now.bundle.now net.now.first net.now.count [] result }
 {
     let mut marking = [0; MAX_PLACES];
-    for j in 0..net.count {
-        marking[j] = i64::from(net.initial(j));
+    for (j, tokens) in marking[..net.count].iter_mut().enumerate() {
+        *tokens = i64::from(net.initial(j));
     }
     marking
 }
@@ -69,7 +69,8 @@ impl<'a> Part<'a> {
     }
 
     // The first refused step of the places of the net, whose tokens behind the steps that are done are given. Where there is none, the tokens behind
-    // the word are left. The places are followed eight at a time, up to the best position so far.
+    // the word are left. The places are followed eight at a time, up to the best position so far. The tokens are lent from part to part: handed out
+    // in a `Result`, 512 bytes would be copied at each call.
     fn search_part(&self, marking: &mut [i64; MAX_PLACES]) -> Option<Stop>
         requires { MarkedAll self.now.search self.now.done marking.old }
         ensures late { Late self.now.search self.now.done result }
@@ -77,8 +78,7 @@ impl<'a> Part<'a> {
         ensures marked { result ≡ None → MarkedAll self.now.search (length self.now.search.word.now) marking.new }
     {
         let mut best = None;
-        for group in 0..self.search.net.count.div_ceil(WIDTH) {
-            let first = WIDTH * group;
+        for first in (0..self.search.net.count).step_by(WIDTH) {
             // The tokens are copied out and back: nothing is known of an array behind its `first_chunk_mut`.
             let mut tokens = *marking[first..].first_chunk().unwrap();
             let front = Part {

@@ -85,22 +85,20 @@ const SHORT: usize = 16;
 fn search_bad(word: &[u8], n: u8) -> Option<usize>
     ensures { result ≡ bad_event n word.now }
 {
-    if SHORT <= word.len() {
-        if all_below(word, n) {
-            return None;
-        }
+    if SHORT <= word.len() && all_below(word, n) {
+        return None;
     }
     word.iter().position(|event| n <= *event)
 }
 
-// The same for every n: all bytes are below one that is no byte. (Inner function.)
+// The same for every n: all bytes are below one that is no byte. A `usize`, since C hands over that of a log's summary. (Inner function.)
 pub fn first_bad(word: &[u8], n: usize) -> Option<usize>
     ensures { result ≡ bad_event n word.now }
 {
-    match u8::try_from(n) {
-        Ok(n) => search_bad(word, n),
-        Err(_) => None,
-    }
+    let Ok(n) = u8::try_from(n) else {
+        return None;
+    };
+    search_bad(word, n)
 }
 
 // The mask with bit `event` set. (Inner function.)

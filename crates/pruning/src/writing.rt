@@ -12,7 +12,8 @@ use bundles::terms::Kind;
 use contents::certificates::Certificate;
 use slices::write_at;
 
-// An output, and the end of what is written to its front. How much room there has to be goes by what is written, so it is a clause.
+// An output, and the end of what is written to its front: not the rest alone, since contracts speak of the whole output. How much room there has to
+// be goes by what is written, so it is a clause.
 #[derive(Drop)]
 pub struct Writer<'a> {
     pub output: &'a mut [u8],

@@ -5,8 +5,8 @@ ghost use Rattle.std.specs.Prelude.{◌≡◌};
 ghost use Rattle.refusals.specs.Answers.{refusal};
 ghost use Rattle.refusals.specs.Table.{number};
 
-// A call that is refused: the number of the cause, and the spot that the table names for it. It stays a number: C, the program and the statements
-// about every number speak of it. `Cause::at` makes it.
+// A call that is refused: the number of the cause, and the spot that the table names for it; its spot is 0 for a cause that has none. No `Cause` and no
+// Option: C, the program and the statements about every number speak of these two numbers. `Cause::at` makes them.
 #[derive(Clone, Copy, Debug, PartialEq, Eq)]
 pub struct Refusal {
     pub number: u8,
@@ -60,7 +60,7 @@ pub enum Cause {
 }
 
 impl Cause {
-    // The refusal of this cause at a spot. Its number is the discriminant.
+    // The refusal of this cause at a spot. Its number is the discriminant, to which a cast is the one way.
     pub fn at(self, spot: usize) -> Refusal
         ensures { result ≡ refusal (number self) spot }
     {

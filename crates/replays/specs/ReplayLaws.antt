@@ -1,9 +1,10 @@
 -- Laws of the replay of a word on places side by side.
-use Rattle.std.specs.Prelude.{◌≡◌, refl, true, List, [], ◌∷◌, ◌++◌, ℕ, suc, ◌+◌, ◌*◌, ◌^◌, ◌≤◌, ◌<◌, T, ℤ, neg_ℤ, ◌+ℤ◌, ◌-ℤ◌, length, set, take}
+use Rattle.std.specs.Prelude.{◌≡◌, refl, true, List, [], ◌∷◌, ◌++◌, ℕ, suc, ◌+◌, ◌*◌, ◌^◌, ◌≤◌, ◌<◌, T, ℤ, neg_ℤ, ◌+ℤ◌, ◌-ℤ◌, length, replicate, set, take}
 use Rattle.std.proofs.Common.{sym, ap₂, ◌∙◌, append-nil, append_assoc, zero-le, suc-le-suc, arith, add-one, length-set, take-suc, take_all, get_or-set_other, SFits}
 use Rattle.std.proofs.Math.Path.{ap, subst}
 use Rattle.std.proofs.Math.IntN.{pos, sub_ℕ, +ℤ_idr, +ℤ_assoc}
 use Rattle.std.proofs.Math.ListN.{get_or}
+use Rattle.std.proofs.lemmas.List.{get_or-replicate}
 use Rattle.std.specs.Int.Signed.{non_neg}
 use Rattle.std.specs.Int.{w64}
 use Rattle.laws.specs.Booleans.{yes_true}
@@ -14,23 +15,27 @@ use Rattle.nets.specs.Nets.{Word, Place, no_place, counts, tokens}
 use Rattle.nets.specs.Events.{EventsBelow}
 use Rattle.nets.specs.Markings.{left, covered, moved, tokens_snoc}
 use Rattle.places.specs.Machine.{Held}
-use Rattle.replays.specs.Columns.{column_width, event_slots, changes_of, Column, Beside, stepped, Steppable, Stepped, Noted, behind, Replayable, Advanced, CoveredAll}
+use Rattle.replays.specs.declared.Changes.{Changes}
+use Rattle.replays.specs.Columns.{column_width, event_slots, changes_of, change, no_changes, Column, Beside, stepped, Steppable, Stepped, Noted, behind, Replayable, Advanced, CoveredAll}
 
 -- ---- The columns of a table
 
--- where all numbers are 0, each column is that of the place that takes no token and puts none there
-pub column-none : {m : List ℤ} {j : ℕ} → ((k : ℕ) → get_or m k (pos 0) ≡ pos 0) → Column no_place m j
-column-none {m} {j} zeros = record {
-  changes = λ a b ha hb. zeros (changes_of a b + j);
+-- in the table of zeros each column is that of the place that takes no token and puts none there
+pub column-none : {j : ℕ} → j < column_width → Column no_place (replicate event_slots no_changes) j
+column-none {j} few = record {
+  changes = λ a b ha hb.
+      ap (λ (r : Changes). change r b j) (get_or-replicate event_slots a no_changes (record { to = [] }) (omega arith))
+      ∙ ap (λ (l : List ℤ). get_or l j (pos 0)) (get_or-replicate event_slots b (replicate column_width (pos 0)) [] (omega arith))
+      ∙ get_or-replicate column_width j (pos 0) (pos 0) few;
   still = (refl, refl);
   produced = λ e. omega arith;
   consumed = λ e. omega arith;
 }
 
 -- a column stays what it is where another one is written
-pub column-beside : {p : Place} {m m' : List ℤ} {j k : ℕ} → Beside m m' j → (k ≡ j → ⊥) → k < column_width → Column p m k → Column p m' k
-column-beside {k = k} beside other few c = record {
-  changes = λ a b ha hb. beside (event_slots * a + b) k few other ∙ c.changes a b ha hb;
+pub column-beside : {p : Place} {m m' : List Changes} {j k : ℕ} → Beside m m' j → (k ≡ j → ⊥) → Column p m k → Column p m' k
+column-beside {k = k} beside other c = record {
+  changes = λ a b ha hb. beside a b k other ∙ c.changes a b ha hb;
   still = c.still;
   produced = c.produced;
   consumed = c.consumed;
@@ -108,7 +113,7 @@ far-fits few f = record { sfits = rw f.is (mag_difference f.plus f.minus (2 ^ 63
 
 -- behind the first i events of a word, the last of which is `last`: s has the surplus of each place, which misses what the last event puts there
 -- to be its tokens; where a number of x is 0 or more, each step so far was covered in its column
-pub record Replaying (m t : List ℤ) (w : Word) (s x : List ℤ) (last i : ℕ) : Type 0 where
+pub record Replaying (m : List Changes) (t : List ℤ) (w : Word) (s x : List ℤ) (last i : ℕ) : Type 0 where
   pub seen : i ≤ length w
   pub event : last ≤ max_events
   pub surplus : (j : ℕ) (p : Place) → j < column_width → Column p m j → get_or s j (pos 0) +ℤ pos (p.produced last) ≡ behind p (get_or t j (pos 0)) (take i w)
@@ -116,7 +121,7 @@ pub record Replaying (m t : List ℤ) (w : Word) (s x : List ℤ) (last i : ℕ)
   pub covers : (j : ℕ) (p : Place) → j < column_width → Column p m j → T (non_neg (get_or x j (pos 0)))
       → (k : ℕ) → k < i → covered p (behind p (get_or t j (pos 0)) (take k w)) (get_or w k 0) ≡ true
 
-module _ {m t : List ℤ} {w : Word} (r : Replayable t m w) where
+module _ {m : List Changes} {t : List ℤ} {w : Word} (r : Replayable t m w) where
   pub replaying_start : {s x : List ℤ} → ((j : ℕ) → j < column_width → get_or s j (pos 0) ≡ get_or t j (pos 0)) → Replaying m t w s x max_events 0
   unfolding behind
   replaying_start {s} loaded = record {
@@ -129,13 +134,13 @@ module _ {m t : List ℤ} {w : Word} (r : Replayable t m w) where
 
   module _ {s x : List ℤ} {last i : ℕ} (now : Replaying m t w s x last i) where
     -- with the change to an event: what it leaves of the tokens
-    left_is : (e : ℕ) → e ≤ max_events → (j : ℕ) (p : Place) → j < column_width → Column p m j → stepped m s (changes_of last e) j ≡ left p (behind p (get_or t j (pos 0)) (take i w)) e
+    left_is : (e : ℕ) → e ≤ max_events → (j : ℕ) (p : Place) → j < column_width → Column p m j → stepped (changes_of m last e) s j ≡ left p (behind p (get_or t j (pos 0)) (take i w)) e
     left_is e h j p b c =
         ap (λ (z : ℤ). get_or s j (pos 0) +ℤ z) (c.changes last e now.event h)
         ∙ sym (+ℤ_assoc (get_or s j (pos 0)) (pos (p.produced last)) (neg_ℤ (pos (p.consumed e))))
         ∙ ap (λ (z : ℤ). z -ℤ pos (p.consumed e)) (now.surplus j p b c)
 
-    stepped-far : (a e : ℕ) → a ≤ max_events → e ≤ max_events → (j : ℕ) → j < column_width → Far (stepped m s (changes_of a e) j) (i + 1)
+    stepped-far : (a e : ℕ) → a ≤ max_events → e ≤ max_events → (j : ℕ) → j < column_width → Far (stepped (changes_of m a e) s j) (i + 1)
     stepped-far a e l h j b =
         let p = (r.columns j b).0 in
         let c = (r.columns j b).1 in
@@ -143,15 +148,11 @@ module _ {m t : List ℤ} {w : Word} (r : Replayable t m w) where
         (far-next (now.far j b) (p.produced a) (p.consumed e) (c.produced a) (c.consumed e))
 
     -- a step from any event to any event stays in the range of an `i64`
-    pub replaying_fits : (a e : ℕ) → a ≤ max_events → e ≤ max_events → column_width ≤ length s → Steppable m s (changes_of a e)
-    replaying_fits a e l h size = record {
-      surplus = size;
-      changes = omega (arith, r.table);
-      fits = λ j b. far-fits (omega (arith, now.seen, r.size)) (stepped-far a e l h j b);
-    }
+    pub replaying_fits : (a e : ℕ) → a ≤ max_events → e ≤ max_events → Steppable (changes_of m a e) s
+    replaying_fits a e l h j b = far-fits (omega (arith, now.seen, r.size)) (stepped-far a e l h j b)
 
     -- the next event
-    pub replaying_next : {s' x' : List ℤ} → i < length w → let e = get_or w i 0 in Stepped m s s' (changes_of last e) → Noted m s x x' (changes_of last e) → Replaying m t w s' x' e (i + 1)
+    pub replaying_next : {s' x' : List ℤ} → i < length w → let e = get_or w i 0 in Stepped (changes_of m last e) s s' → Noted (changes_of m last e) s x x' → Replaying m t w s' x' e (i + 1)
     replaying_next {s'} {x'} h sum noted =
         let e = get_or w i 0 in
         let few : e ≤ max_events = omega (arith, r.events i h) in
@@ -169,7 +170,7 @@ module _ {m t : List ℤ} {w : Word} (r : Replayable t m w) where
 
     module _ (end : length w ≤ i) where
       -- behind the last event
-      pub replaying_end : (t' : List ℤ) → Stepped m s t' (changes_of last max_events) → Advanced m t t' w
+      pub replaying_end : (t' : List ℤ) → Stepped (changes_of m last max_events) s t' → Advanced m t t' w
       replaying_end t' sum j p b c =
           sum j b
           ∙ left_is max_events (omega arith) j p b c

@@ -2,10 +2,9 @@
 // specs/Columns.antt. All are inner functions.
 #![tactic(auto)]
 
-ghost use Rattle.std.specs.Prelude.{◌≡◌, true, ℕ, ◌≤◌, ◌<◌, pos, get_or};
-ghost use Rattle.limits.specs.Limits.{max_events};
+ghost use Rattle.std.specs.Prelude.{◌≡◌, true, ◌<◌, get_or, replicate};
 ghost use Rattle.places.specs.Machine.{place_of};
-ghost use Rattle.replays.specs.Columns.{column_width, changes_of, Column, Beside, Changed, Steppable, Stepped, Noted, Replayable, Advanced, CoveredAll};
+ghost use Rattle.replays.specs.Columns.{column_width, event_slots, no_changes, Column, Beside, Changed, Steppable, Stepped, Noted, Replayable, Advanced, CoveredAll};
 
 use limits::MAX_EVENTS;
 use places::Place;
@@ -13,38 +12,61 @@ use places::Place;
 // The columns of a table: so many places are replayed at a time.
 pub const WIDTH: usize = 8;
 
-// The events, and one more that takes no token and puts none there.
+// The events, and one more that takes no token and puts none there: it stands before the first event of a part and behind its last one, so that the
+// first step and the last are steps as the others.
 const EVENTS: usize = MAX_EVENTS + 1;
 
-const CHANGES: usize = WIDTH * (EVENTS * EVENTS);
+// What a step from one event adds to the surplus of each place, by the event that it goes to. A struct, since the borrow checker takes no literal of
+// arrays in arrays in arrays for a field.
+#[derive(Clone, Copy)]
+struct Changes {
+    to: [[i64; WIDTH]; EVENTS],
+}
 
-// Eight places, one in each column: for each two events what a step from the one to the other adds to the surplus of each place. One flat array,
-// in which the changes of a step are eight numbers at one offset.
+impl Changes {
+    // Writes column j for an event that puts so many tokens there.
+    fn write(&mut self, j: usize, produced: u16, consumed: &[u16; MAX_EVENTS])
+        requires { j < column_width }
+        ensures { Changed self.old self.new j produced (λ e. get_or consumed.now e 0) }
+    {
+        for (to, taken) in consumed.iter().enumerate() {
+            self.to[to][j] = i64::from(produced) - i64::from(*taken);
+        }
+        self.to[MAX_EVENTS][j] = i64::from(produced);
+    }
+}
+
+// Eight places, one in each column: `changes[a].to[b]` is what a step from event a to event b adds to the surplus of each place.
 #[derive(Drop)]
 pub struct Table {
-    changes: [i64; CHANGES],
+    changes: [Changes; EVENTS],
+}
+
+// One step: the surplus of each place, and in `all` the bits of every surplus so far. An index, since two lists are written; two lists, since each is
+// added or joined as a vector.
+fn step(changes: &[i64; WIDTH], surplus: &mut [i64; WIDTH], all: &mut [i64; WIDTH])
+    requires { Steppable changes.now surplus.old }
+    ensures stepped { Stepped changes.now surplus.old surplus.new }
+    ensures noted { Noted changes.now surplus.old all.old all.new }
+{
+    for j in 0..WIDTH {
+        let next = surplus[j] + changes[j];
+        surplus[j] = next;
+        all[j] |= next;
+    }
 }
 
 impl Table {
     // The table of places that take no token and put none there.
     pub fn clear() -> Table
-        ensures { (k : ℕ) → get_or result.changes k (pos 0) ≡ pos 0 }
+        ensures { result.changes ≡ replicate event_slots no_changes }
     {
+        let none = Changes {
+            to: [[0; WIDTH]; EVENTS],
+        };
         Table {
-            changes: [0; CHANGES],
+            changes: [none; EVENTS],
         }
-    }
-
-    // Writes the changes of column j from an event that puts so many tokens there.
-    fn write_changes(&mut self, j: usize, from: usize, produced: u16, consumed: &[u16; MAX_EVENTS])
-        requires { (j < column_width) × (from ≤ max_events) }
-        ensures { Changed self.old.changes self.new.changes j from produced (λ e. get_or consumed.now e 0) }
-    {
-        let at = WIDTH * (EVENTS * from) + j;
-        for (to, taken) in consumed.iter().enumerate() {
-            self.changes[at + WIDTH * to] = i64::from(produced) - i64::from(*taken);
-        }
-        self.changes[at + WIDTH * MAX_EVENTS] = i64::from(produced);
     }
 
     // Writes the changes of a place into column j.
@@ -53,28 +75,13 @@ impl Table {
         ensures { Column (place_of place) self.new.changes j × Beside self.old.changes self.new.changes j }
     {
         for (from, produced) in place.produced.iter().enumerate() {
-            self.write_changes(j, from, *produced, &place.consumed);
+            self.changes[from].write(j, *produced, &place.consumed);
         }
-        self.write_changes(j, MAX_EVENTS, 0, &place.consumed);
-    }
-
-    // One step: the surplus of each place, and in `all` the bits of every surplus so far. An index, since two lists are
-    // written; two lists, since each is added or joined as a vector.
-    fn step(&self, from: usize, to: usize, surplus: &mut [i64; WIDTH], all: &mut [i64; WIDTH])
-        requires { (from ≤ max_events) × (to ≤ max_events) × Steppable self.now.changes surplus.old (changes_of from to) }
-        ensures stepped { Stepped self.now.changes surplus.old surplus.new (changes_of from to) }
-        ensures noted { Noted self.now.changes surplus.old all.old all.new (changes_of from to) }
-    {
-        let at = WIDTH * (EVENTS * from + to);
-        for j in 0..WIDTH {
-            let next = surplus[j] + self.changes[at + j];
-            surplus[j] = next;
-            all[j] |= next;
-        }
+        self.changes[MAX_EVENTS].write(j, 0, &place.consumed);
     }
 
     // Replays a part of a word on the places of a table, whose tokens before it are given: leaves those behind it, and says whether no step of it
-    // lacks a token. False says nothing of a single place, so no value stands beside it.
+    // lacks a token. A `bool`, and no `Option` of the tokens: it is not proved that false means a step that lacks one, so they count then, too.
     pub fn replay(&self, tokens: &mut [i64; WIDTH], part: &[u8]) -> bool
         requires { Replayable tokens.old self.now.changes part.now }
         ensures advanced { Advanced self.now.changes tokens.old tokens.new part.now }
@@ -85,10 +92,10 @@ impl Table {
         let mut last = MAX_EVENTS;
         for event in part {
             let event = usize::from(*event);
-            self.step(last, event, &mut surplus, &mut all);
+            step(&self.changes[last].to[event], &mut surplus, &mut all);
             last = event;
         }
-        self.step(last, MAX_EVENTS, &mut surplus, &mut all);
+        step(&self.changes[last].to[MAX_EVENTS], &mut surplus, &mut all);
         *tokens = surplus;
         all.iter().all(|bits| 0 <= *bits)
     }

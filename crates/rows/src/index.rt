@@ -10,8 +10,8 @@ use limits::MAX_EVENTS;
 // A chain for each of 256 remainders of a key, and a place for each row.
 const CHAINS: usize = 256;
 
-// The last row of each chain, and for each row the one before it in its chain. A row's number is a byte. What it says of a table is a clause
-// (`IsIndex`), since the table is not its own.
+// The last row of each chain, and for each row the one before it in its chain: two lists, of chains and of rows. A row's number is a byte. What it
+// says of a table is a clause (`IsIndex`), since the table is not its own.
 #[derive(Drop)]
 pub struct Index {
     last: [Option<u8>; CHAINS],
@@ -79,8 +79,8 @@ impl Index {
 }
 
 impl Rows<'_> {
-    // The lowest row with these counts. The rows in the chain of their key are looked at, the last first, until there is none before: no iterator
-    // says that more plainly.
+    // The lowest row with these counts. The rows in the chain of their key are looked at, the last first, until there is none before. A `while let`,
+    // whose measure shows that it ends: what std states of `successors` says nothing of that.
     fn follow_chain(&self, index: &Index, counts: &Counts, key: usize) -> Option<usize>
         requires { IsIndex self.now.count self.now.table.now index.now × (key ≡ key_of counts.now) }
         ensures { result ≡ found counts.now (rows_of self.now.count self.now.table.now) }
@@ -97,7 +97,7 @@ impl Rows<'_> {
         lowest
     }
 
-    // The lowest row with these counts, which have this key.
+    // The lowest row with these counts, which have this key. Where there is no index, the word that is taken is short (`taking`).
     pub fn find(&self, counts: &Counts, key: usize) -> Option<usize>
         requires { key ≡ key_of counts.now }
         ensures { result ≡ found counts.now (rows_of self.now.count self.now.table.now) }

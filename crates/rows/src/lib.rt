@@ -14,7 +14,8 @@ use index::Index;
 use limits::MAX_EVENTS;
 use places::with_bit;
 
-// The numbers of a row: twelve counts, then the mask, then the traffic.
+// The numbers of a row: twelve counts, then the mask, then the traffic. A table is a flat list of numbers, since C lends it so: a row is cut out by
+// its number.
 pub const ROW: usize = 14;
 
 // Where a row has its traffic.
@@ -42,6 +43,14 @@ pub fn counts_of(table: &[u16], row: usize) -> &Counts
     table[start..start + MAX_EVENTS].as_array().unwrap()
 }
 
+// The mask of a row.
+pub fn mask_of(table: &[u16], row: usize) -> u16
+    requires { row_size * row + row_size ≤ length table.now }
+    ensures { result ≡ get_or table.now (row_size * row + max_events) 0 }
+{
+    table[ROW * row + MAX_EVENTS]
+}
+
 // Whether so many counts are equal. No branch is taken on the way, so that the compiler takes several at a time.
 fn same_part(row: &[u16], counts: &[u16]) -> bool
     requires { length row.now ≡ length counts.now }
@@ -52,7 +61,7 @@ fn same_part(row: &[u16], counts: &[u16]) -> bool
         .fold(true, |same, (a, b)| same & (*a == *b))
 }
 
-// Whether a row has these counts. Most rows differ in the first eight, which are one vector.
+// Whether a row has these counts. Most rows differ in the first eight, which are one vector: `==` on all takes longer.
 pub fn same_counts(row: &Counts, counts: &Counts) -> bool
     ensures { result ≡ equal row.now counts.now }
 {
@@ -79,7 +88,8 @@ fn append_row(table: &mut [u16], rows: usize, counts: Counts)
     table[at + TRAFFIC] = 0;
 }
 
-// Appends a row with these counts where row r, which is theirs, is the next one. Returns how many rows there are.
+// Appends a row with these counts where row r, which is theirs, is the next one. Returns how many rows there are. The number is no Option: it is what
+// `taking` noted of a row that was found, or that is new.
 fn append_missing(table: &mut [u16], rows: usize, counts: Counts, r: usize) -> usize
     requires r_value { r ≡ find_row counts (rows_of rows table.old) }
     requires rows_in_bounds { (row_size * rows ≤ length table.old) × (row_size * length (visit counts (rows_of rows table.old)) ≤ length table.old) }

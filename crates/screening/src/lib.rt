@@ -51,9 +51,9 @@ pub fn screen(bundle: &[u8], word: &[u8]) -> Screened
     Ok(search_places(&places, None))
 }
 
-// The other call that C makes, in the same steps. Screens a word with the places of two bundles over the same events, those of the first one
-// first; the places of the second are numbered behind them. Refuses with 14, then with the first bundle's 4, 6, 7 and 8, the second's, then with
-// 19, then with 15.
+// Screens a word with the places of two bundles over the same events, those of the first one first; the places of the second are numbered behind
+// them. Refuses with 14, then with the first bundle's 4, 6, 7 and 8, the second's, then with 19, then with 15. `screen` is a call of its own in C,
+// with the same steps.
 pub fn screen_joined(first: &[u8], second: &[u8], word: &[u8]) -> Screened
     ensures { result ≡ screened_joined first.now second.now word.now }
 {

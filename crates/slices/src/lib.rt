@@ -22,7 +22,8 @@ pub fn write_at(output: &mut [u8], at: usize, piece: &[u8])
     output[at..at + piece.len()].copy_from_slice(piece);
 }
 
-// Writes a number to the two bytes at `at`, the low byte first; of a number of more bytes the lowest two.
+// Writes a number to the two bytes at `at`, the low byte first; of a number of more bytes the lowest two. A `usize`, since callers write lengths and
+// positions, too: as a `u16` each would be cast.
 pub fn write_number(output: &mut [u8], at: usize, number: usize)
     requires { at + 2 ≤ length output.old }
     ensures { output.new ≡ spliced at (le16 number) output.old }

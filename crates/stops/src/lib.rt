@@ -50,7 +50,8 @@ fn step(place: &Place, tokens: i64, event: u8) -> Result<i64, u64>
     Ok(left + i64::from(place.produced[event]))
 }
 
-// The first step of a word that a place refuses, with so many tokens at first.
+// The first step of a word that a place refuses, with so many tokens at first. The place is named 0, as in the definition: its number is the caller's
+// to give.
 fn stop_from(place: Place, start: i64, word: &[u8]) -> Option<Stop>
     requires { Start start word.now }
     ensures { result ≡ stop_in word.now (replay (place_of place) start word.now) }
@@ -147,7 +148,7 @@ impl<'a> Search<'a> {
         ensures permits { result ≡ None → (j : ℕ) → places.start ≤ j → j < places.end → PermitsAll self.now j }
     {
         let mut best = from;
-        for j in places.start..places.end {
+        for j in places {
             let place = self.net.place(j);
             let start = tokens(j, place.initial);
             if let Some(stop) = stop_from(place, start, &self.word[done..self.end(best)]) {
@@ -161,7 +162,8 @@ impl<'a> Search<'a> {
         best
     }
 
-    // The same with the places of the net but for an odd last one, pair by pair from their initial tokens.
+    // The same with the places of the net but for an odd last one, pair by pair from their initial tokens. By the number of a pair, which leaves an
+    // odd last place out and names both places of the pair.
     fn search_pairs(&self, from: Option<Stop>) -> Option<Stop>
         requires { Late self.now 0 from }
         ensures late { Late self.now 0 result }

@@ -8,7 +8,7 @@ ghost use Rattle.sums.specs.Checksums.{plain_sum, position_sum};
 ghost use Rattle.sums.specs.Adding.{Room, Narrow};
 
 // The two sums of a block's bytes, S and W.
-#[derive(Clone, Copy)]
+#[derive(Clone, Copy, PartialEq, Eq)]
 pub struct Sums {
     pub plain: u16,
     pub position: u16,
@@ -45,7 +45,7 @@ impl Columns {
         let mut position = 0u32;
         let mut shifted = 0u32;
         for (j, column) in self.sums.iter().enumerate() {
-            // Twelve bits are cut out so that the compiler multiplies narrow numbers; j is below 32, and counted with the columns.
+            // Twelve bits are cut out so that the compiler multiplies narrow numbers. j numbers the columns of both lists, so it is cast.
             let column = u32::from(*column & 4095);
             plain += column;
             position += (j as u32 + 1) * column;

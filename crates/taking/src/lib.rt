@@ -53,7 +53,8 @@ impl Prefix {
     }
 }
 
-// Notes the row of a prefix: the one that is found, or `next`. Returns the number that the next new row gets. Both are proved to fit.
+// Notes the row of a prefix: the one that is found, or `next`. Returns the number that the next new row gets. Both are proved to fit two bytes. The
+// row's number goes straight to its place in the list: of a pair the caller would put it there.
 fn number_row(rows: &Rows, prefix: &Prefix, next: usize, number: &mut u16) -> usize
     requires { (rows.now.count ≤ max_rows) × (next < 65536) }
     ensures value { result ≡ next + absent prefix.now.counts (rows_of rows.now.count rows.now.table.now) }
@@ -101,7 +102,8 @@ fn step(table: &mut [u16], rows: usize, counts: Counts, r: usize, e: usize) -> u
     k
 }
 
-// Takes a word whose rows there is room for, and are noted. Returns how many rows there are. Numbers by index, since the last is behind the word.
+// Takes a word whose rows there is room for, and are noted. Returns how many rows there are. The numbers have an index in the loop, as the last one
+// has behind it, that of the whole word.
 fn write_word(table: &mut [u16], rows: usize, word: &[u8], numbers: &[u16]) -> usize
     requires takable { Takable rows table.old word.now }
     requires word_in_bounds { row_size * length (take_word (rows_of rows table.old) none word.now) ≤ length table.old }
@@ -119,8 +121,8 @@ fn write_word(table: &mut [u16], rows: usize, word: &[u8], numbers: &[u16]) -> u
 }
 
 // Takes a word if there is room for its rows, and returns how many rows there are with them; if they are too many, the table is as it was.
-// `numbers` is for the rows of its prefixes, that of the whole word behind the others. It is lent as a slice: with an array for each of three sizes
-// the compiler writes slower code. (Inner function.)
+// There is no index for a short word. `numbers` is for the rows of its prefixes, that of the whole word behind the others. It is lent as a slice: with
+// an array for each of three sizes the compiler writes slower code. (Inner function.)
 pub fn add_word(
     table: &mut [u16],
     rows: usize,

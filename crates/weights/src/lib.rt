@@ -18,31 +18,32 @@ use heads::TakenHead;
 use limits::{MAX_EVENTS, MAX_TERMS};
 use places::has_bit;
 use refusals::Refusal;
-use rows::{Counts, ROW, counts_of};
+use rows::{Counts, counts_of, mask_of};
 use slices::number_at;
-
-// The largest two-byte number.
-const NUMBER: u32 = 65535;
 
 // A weight as it is added to the sums: 0 once all weights sum up to more than two bytes. The certificate fails then, and the sums stay in 32 bits.
 fn added_weight(total: u32, weight: u32) -> u32
     ensures { result ≡ added_weight total weight }
 {
-    if total <= NUMBER { weight } else { 0 }
+    if total <= u32::from(u16::MAX) {
+        weight
+    } else {
+        0
+    }
 }
 
-// Adds weight × count at each event. An index into the sums: nothing is known of a list behind a `zip` over its `iter_mut`.
+// Adds weight × count at each event.
 fn add_counts(sums: &mut [u32; MAX_EVENTS], counts: &Counts, weight: u32)
     requires { (i : ℕ) → at sums.old i + weight * at counts.now i ≤ max_number * max_number }
     ensures { sums.new ≡ added weight (at counts.now) sums.old }
 {
-    for (i, count) in counts.iter().enumerate() {
-        sums[i] += weight * u32::from(*count);
+    for (i, sum) in sums.iter_mut().enumerate() {
+        *sum += weight * u32::from(counts[i]);
     }
 }
 
 // The sums of a certificate's terms: of the weights g; at each event i, `before` sums g × u(i), and `of_event` g where f = i; and whether the steps
-// of all terms are allowed.
+// of all terms are allowed. `before` and `of_event` are two lists, not one of pairs: the compiler takes each as a vector.
 #[derive(Drop)]
 struct Sums {
     total: u32,
@@ -64,7 +65,7 @@ impl Sums {
         let weight = added_weight(self.total, u32::from(term.weight));
         add_counts(&mut self.before, counts_of(table, row), weight);
         self.of_event[event] += weight;
-        self.allowed &= has_bit(table[ROW * row + MAX_EVENTS], event);
+        self.allowed &= has_bit(mask_of(table, row), event);
     }
 
     // Whether the last two inequalities hold with k for the event after the counts. One chain of tests for both: then the compiler keeps the sums in

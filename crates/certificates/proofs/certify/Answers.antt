@@ -18,10 +18,10 @@ pub returns-in_err-certify_row : goal.returns-in_err-certify_row
 returns-in_err-certify_row c =
     let q = err_from_is_err_and c.from_residual.result c.from_residual.ensures.1 in
     let stopped = outcome-refused c.loop-row.invariant {i' = 0} {e' = 0} {s' = c.loop-row.progress} (rw c.in_err-certify_row.was at c.certify_row.ensures) in
-    rw (q.1, q.2) (outcome-stopped _ stopped ∙ rw c.offset.ensures)
+    rw (q.1, q.2) (outcome-stopped _ _ c.args.head.now.held.size stopped ∙ rw c.offset.ensures)
 
 pub loop-row-preserved : goal.loop-row-preserved
 loop-row-preserved c = outcome-then c.loop-row.invariant (rw c.in_ok-certify_row.was at c.certify_row.ensures)
 
 pub returns : goal.returns
-returns c = outcome-done _ c.loop-row.invariant c.args.head.now.rows c.args.head.now.held.size (omega arith) ∙ rw c.offset.ensures
+returns c = outcome-done _ _ c.args.head.now.held.size c.loop-row.invariant (omega arith) ∙ rw c.offset.ensures

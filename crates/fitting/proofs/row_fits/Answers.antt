@@ -12,10 +12,10 @@ pub returns-then-mask-eq0 : goal.returns-then-mask-eq0
 returns-then-mask-eq0 c =
     let a = c.args in
     let at = row_size * a.row in
-    sym (row-empty (place_of a.place.now) (drop at a.table.now) (get_or-drop at a.table.now max_events 0 ∙ c.if-mask-eq0.true))
+    sym (row-empty (place_of a.place.now) (drop at a.table.now) (get_or-drop at a.table.now max_events 0 ∙ sym c.mask_of-mask.ensures ∙ c.if-mask-eq0.true))
 
 pub returns : goal.returns
 returns c =
     let a = c.args in
     let fits : SFits w64 c.tokens-tokens.result = search rules in
-    c.events_fit.ensures ∙ table_row_fits a.place.now a.table.now a.row _ _ (to_z-of_z fits ∙ c.tokens-tokens.ensures.value) c.counts_of.ensures.0
+    rw c.mask_of-mask.ensures at c.events_fit.ensures ∙ table_row_fits a.place.now a.table.now a.row _ _ (to_z-of_z fits ∙ c.tokens-tokens.ensures.value) c.counts_of.ensures.0

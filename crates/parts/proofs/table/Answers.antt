@@ -6,7 +6,7 @@ use Rattle.parts.specs.SideBySide.{columns-start, columns-next}
 use Rattle.parts.proofs.table.Goals as goal
 
 pub loop-j-init : goal.loop-j-init
-loop-j-init c = columns-start c.clear-table.ensures
+loop-j-init c = rw c.clear-table.ensures columns-start
 
 pub loop-j-preserved : goal.loop-j-preserved
 loop-j-preserved c =

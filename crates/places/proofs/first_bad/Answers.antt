@@ -10,6 +10,6 @@ unfolding all
 wide n h [] bytes = refl
 wide n h (e ∷ w) bytes = let first = bytes 0 in rw (lt-ltb e n (omega (arith, first, h)), wide n h w (λ i. bytes (suc i))) refl
 
-pub returns-in-Err : goal.returns-in-Err
+pub returns-in_default : goal.returns-in_default
 unfolding bad_event
-returns-in-Err c = rw (wide c.args.n (omega (arith, c.in-Err.ensures)) c.args.word.now (λ i. omega (arith, c.type_inv.word i))) refl
+returns-in_default c = rw (wide c.args.n (omega (arith, c.in_default.ensures)) c.args.word.now (λ i. omega (arith, c.type_inv.word i))) refl

@@ -4,4 +4,4 @@ use Rattle.bundles.specs.PlaceReading.{kept_numbers}
 use Rattle.bundles.proofs.net.row_within.Given as goal
 
 abbrev pub invariant-loop-i : goal.invariant-loop-i
-invariant-loop-i l = l.row ≡ kept_numbers l.n l.bundle l.at l.i
+invariant-loop-i l = l.number-items ≡ kept_numbers l.n l.bundle l.at l.i

@@ -12,7 +12,7 @@ use Rattle.certificates.proofs.Progress.certify_step.Goals.{After-has_bit}
 
 -- the test of the bit
 tested : (c : After-has_bit) → let b = c.args.head.now.net.bundle.now in allowed_in (head_of b) (step_of (head_of b) c.args.row c.args.event) ≡ c.has_bit.result
-tested c = sym (c.has_bit.ensures ∙ rw c.from.ensures (mask-held c.args.head.now.held c.args.row c.requires.step_there.0 c.args.event c.requires.step_there.1))
+tested c = sym (c.has_bit.ensures ∙ rw (c.mask_of.ensures, c.from.ensures) (mask-held c.args.head.now.held c.args.row c.requires.step_there.0 c.args.event c.requires.step_there.1))
 
 -- the step is one of the log's
 inside : (c : After-has_bit) → c.args.row < length (rows_in (head_of c.args.head.now.net.bundle.now))

@@ -11,7 +11,7 @@ loop-r-preserved c =
     let l = c.loop-r in
     let gone = c.advance.ensures in
     let counts = gone.counts ∙ c.counts_of.ensures.0 in
-    let events = c.covers_mask.ensures c.if-not-covers_mask.false in
+    let events = rw c.mask_of.ensures at (c.covers_mask.ensures c.if-not-covers_mask.false) in
     let covered = table_row-covered c.args.table.now l.r gone.marking.after counts events in (
       gone.marking,
       gone.blocks ∙ l.invariant.1,

@@ -1,9 +1,7 @@
 -- `heads::LogSoFar::take_word` meets its contract: the word's tests are those of `word`, and its rows are taken where there is room.
-use Rattle.std.proofs.Common.{◌≡◌, ℕ, Option, Some, None, Ok, Err, refl, arith}
-use Rattle.std.specs.Option.{ok_or}
+use Rattle.std.proofs.Common.{arith}
 use Rattle.std.proofs.lemmas.Result.{err_from_is_err_and}
-use Rattle.laws.specs.Booleans.{impossible}
-use Rattle.refusals.specs.declared.Refusal.{Refusal}
+use Rattle.laws.specs.Options.{some_of, none_of}
 use Rattle.rows.specs.Adding.{added_some}
 use Rattle.rows.specs.IndexLaws.{index_taken}
 use Rattle.bundles.specs.Chains.{read_got, read-refused}
@@ -31,15 +29,6 @@ pub returns-in_err-word-clause-one_more : goal.returns-in_err-word-clause-one_mo
 returns-in_err-word-clause-one_more c =
     let q = err_from_is_err_and c.from_residual.result c.from_residual.ensures.1 in
     rw (q.1, q.2) (λ log t₀ h. (word-refused h c.requires.bounds.0 _ _ (rw c.from.ensures at (read-refused c.in_err-word.ensures)), h))
-
--- the answer of `add_word`
-some_of : (o : Option ℕ) (e : Refusal) (x : ℕ) → Ok x ≡ ok_or o e → o ≡ Some x
-some_of (Some y) e x is = cc
-some_of None e x is = impossible cc
-
-none_of : (o : Option ℕ) (e r : Refusal) → Err r ≡ ok_or o e → (o ≡ None) × (e ≡ r)
-none_of None e r is = (refl, cc)
-none_of (Some x) e r is = impossible cc
 
 pub extend-requires : goal.extend-requires
 extend-requires c =

@@ -2,6 +2,8 @@
 use Rattle.std.specs.Prelude.{◌≡◌}
 use mathlib.Core.Path.{sym, ◌∙◌, subst}
 use mathlib.Core.Bool.{true}
+use Rattle.std.proofs.lemmas.Result.{err_from_is_err_and}
+use Rattle.laws.specs.Options.{some_of, none_of}
 use Rattle.limits.specs.Limits.{max_rows}
 use Rattle.rows.specs.Rows.{Added}
 use Rattle.places.specs.Words.{bad_event-none, bad_event-some}
@@ -44,12 +46,15 @@ word_admitted c = record { admitted = admitted (goal.at.In_default c).Else-self-
 pub add_alone-requires : goal.add_alone-requires
 add_alone-requires c = takable _ _ _ (word_admitted (goal.at.add_alone-requires c).In_default)
 
-pub returns-in_default-add_alone : goal.returns-in_default-add_alone
-returns-in_default-add_alone c =
-    let added = subst (Added max_rows c.args.self.rows c.args.word.now c.args.table.now c.add_alone.new.table) c.in_default-add_alone.is c.add_alone.ensures in
-    rw c.at-in_default-add_alone.ensures (value-table_after (answer_9 _ _ _ (word_admitted (goal.at.returns-in_default-add_alone c).In_default) _ added))
+pub returns-in_err-rows : goal.returns-in_err-rows
+returns-in_err-rows c =
+    let q = err_from_is_err_and c.from_residual.result c.from_residual.ensures.1 in
+    let none = none_of _ _ _ c.in_err-rows.ensures.value in
+    let added = subst (Added max_rows c.args.self.rows c.args.word.now c.args.table.now c.add_alone.new.table) none.0 c.add_alone.ensures in
+    rw (q.1, q.2, ← none.1, c.at-2.ensures) (value-table_after (answer_9 _ _ _ (word_admitted (goal.at.returns-in_err-rows c).In_default) _ added))
 
 pub returns : goal.returns
 returns c =
-    let added = subst (Added max_rows c.args.self.rows c.args.word.now c.args.table.now c.add_alone.new.table) c.in-Some-add_alone.is c.add_alone.ensures in
+    let some = some_of _ _ _ c.in_ok-rows.ensures.value in
+    let added = subst (Added max_rows c.args.self.rows c.args.word.now c.args.table.now c.add_alone.new.table) some c.add_alone.ensures in
     value-table_after (answer-next _ _ _ (word_admitted (goal.at.returns c).In_default) _ _ added c.add_alone.auto.table)

@@ -11,7 +11,7 @@ use Rattle.parts.proofs.Part.search_eight.Goals as goal
 use Rattle.parts.proofs.Part.search_eight.Goals.{Then-replay}
 
 pub replay-requires : goal.replay-requires
-replay-requires c = rest_replayable c.requires.1 (search rules) c.table.ensures
+replay-requires c = rest_replayable c.requires.1 c.table.ensures
 
 -- where the replay says so, each place permits the word
 permits : (c : Then-replay) → let s = c.args.self.now.search in (j : ℕ) → j < eight s c.args.first → (i : ℕ) → i < length s.word.now

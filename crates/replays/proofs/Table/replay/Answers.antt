@@ -10,7 +10,7 @@ pub step-requires : goal.step-requires
 step-requires c =
     let now = c.loop-event.invariant.2 in
     let event : c.from-event.result < max_events = omega (arith, c.requires.events c.loop-event.event-index) in
-    (omega (arith, now.event), omega arith, replaying_fits c.requires now _ _ (omega (arith, now.event)) (omega arith) (omega arith))
+    replaying_fits c.requires now _ _ (omega (arith, now.event)) (omega arith)
 
 pub loop-event-preserved : goal.loop-event-preserved
 loop-event-preserved c =
@@ -21,7 +21,7 @@ loop-event-preserved c =
     )
 
 pub step-requires-2 : goal.step-requires-2
-step-requires-2 c = let now = c.loop-event.invariant.2 in (omega (arith, now.event), omega arith, replaying_fits c.requires now _ _ (omega (arith, now.event)) (omega arith) (omega arith))
+step-requires-2 c = let now = c.loop-event.invariant.2 in replaying_fits c.requires now _ _ (omega (arith, now.event)) (omega arith)
 
 pub returns-clause-advanced : goal.returns-clause-advanced
 returns-clause-advanced c = replaying_end c.requires c.loop-event.invariant.2 (omega arith) _ c.step-2.ensures.stepped

@@ -9,8 +9,8 @@ returns c =
     let place = c.args.place in
     let put : length place.produced ≡ max_events = search rules in
     let took : length place.consumed ≡ max_events = search rules in
-    stored c.requires (omega arith)
+    stored (omega arith) (omega arith)
     (λ i. let f : Fits w16 (get_or place.produced i 0) = search rules in f.fits)
     (λ i. let f : Fits w16 (get_or place.consumed i 0) = search rules in f.fits)
     (get_or-eq_default place.produced 0 (omega arith), get_or-eq_default place.consumed 0 (omega arith))
-    c.loop-from.invariant c.write_changes-2.ensures
+    c.write-2.ensures c.loop-from.invariant

@@ -16,14 +16,14 @@ one_if a b = go (nat_eq a b)
     go false = refl
 
 pub loop-i-init : goal.loop-i-init
-loop-i-init c = (omega arith, sym (all_below-none _))
+loop-i-init c = sym (all_below-none _)
 
 pub loop-i-preserved : goal.loop-i-preserved
 loop-i-preserved c =
-    (omega arith, rw (c.loop-i.invariant.1, c.from-count.ensures, c.from.ensures, one_if) (sym (all_below-next _ _)))
+    rw (c.loop-i.invariant, c.from-count.ensures, c.from.ensures, one_if) (sym (all_below-next _ _))
 
 pub returns : goal.returns
 unfolding sums_hold
 returns c =
     let all : c.loop-i.i ≡ max_events = omega arith in
-    rw (c.loop-i.invariant.1, all)
+    rw (c.loop-i.invariant, all)
