@@ -1,10 +1,13 @@
 -- The code's struct for the places of a bundle, and what it keeps of them.
-use Rattle.std.specs.Prelude.{◌≡◌, ℕ, Ok, Err}
+use Rattle.std.specs.Prelude.{◌≡◌, List, ℕ, ◌≤◌, ◌<◌, length, Ok, Err}
+use Rattle.std.proofs.Props.{props}
 use Rattle.std.proofs.Common.{ap}
 use Rattle.refusals.specs.Answers.{Answer}
 use Rattle.bundles.specs.Reading as reading
 use Rattle.bundles.specs.Chains.{ReadAs, read_as, answer_in}
-use Rattle.bundles.specs.PlaceReading.{Kept, spot_of, end_of}
+use Rattle.places.specs.Machine.{place_at}
+use Rattle.places.specs.declared.Place.{Place}
+use Rattle.bundles.specs.PlaceReading.{Kept, spot_of, end_of, fields_at, machine_place}
 use Rattle.bundles.specs.declared.Reader.{Reader}
 use Rattle.bundles.specs.declared.net.Net.{Net}
 
@@ -19,6 +22,23 @@ place_spot net j = spot_of (kept net) j
 -- the offset behind the last place
 abbrev pub behind : Net → ℕ
 behind net = end_of (kept net)
+
+-- the code's place j
+abbrev pub code_place : Net → ℕ → Place
+code_place net j = machine_place (fields_at net.n net.bundle.now (place_spot net j))
+
+-- the places below k, by number
+abbrev pub PlacesBelow : Net → ℕ → List Place → Type 0
+PlacesBelow net k places = (j : ℕ) → j < k → place_at places j ≡ code_place net j
+
+-- all places, by number, and any behind them
+pub record PlacesOf (net : Net) (places : List Place) : Type 0 where
+  pub room : net.count ≤ length places
+  pub each : PlacesBelow net net.count places
+
+-- it has one proof at most
+pub PlacesOf-prop : (net : Net) (places : List Place) → IsProp (PlacesOf net places)
+PlacesOf-prop net places = hlevel props
 
 -- an answer, by the fields
 abbrev pub kept_answer : Answer Net → Answer Kept

@@ -48,17 +48,7 @@ fields_at n b at = record { initial = number_at b at; produced = numbers_at n b 
 abbrev pub place_on : ℕ → List ℕ → ℕ → theory.Place
 place_on n b at = to_place (fields_at n b at)
 
--- its numbers
-module _ (n : ℕ) (b : List ℕ) (at : ℕ) where
-  pub place-produced : (i : ℕ) → i < n → (place_on n b at).produced i ≡ number_at b (at + 2 + 2 * i)
-  unfolding to_place
-  place-produced i h = get_d_items 1 number_at n b (at + 2) i 0 h ∙ ap (λ (k : ℕ). number_at b (at + 2 + 2 * k)) (mul-one i)
-
-  pub place-consumed : (i : ℕ) → i < n → (place_on n b at).consumed i ≡ number_at b (at + 2 + 2 * n + 2 * i)
-  unfolding to_place
-  place-consumed i h = get_d_items 1 number_at n b (at + 2 + 2 * n) i 0 h ∙ ap (λ (k : ℕ). number_at b (at + 2 + 2 * n + 2 * k)) (mul-one i)
-
--- each of them is a `u16`
+-- each number is a `u16`
 module _ (b : List ℕ) (small : Bytes b) where
   number_small : (at : ℕ) → number_at b at < 65536
   unfolding number_at

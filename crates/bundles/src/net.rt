@@ -2,13 +2,12 @@
 ghost use Rattle.std.specs.Prelude.{◌≡◌, cond, ◌+◌, ◌*◌, ◌≤◌, ◌<◌, ltb, length};
 ghost use Rattle.laws.specs.Numbers.{number_at};
 ghost use Rattle.limits.specs.Limits.{max_events, max_places};
-ghost use Rattle.nets.specs.Nets.{place_permits};
 ghost use Rattle.bundles.specs.Readers.{places};
-ghost use Rattle.bundles.specs.PlaceReading.{place_size, numbers_at, fields_at, widened, machine_place, place_on, placed};
+ghost use Rattle.bundles.specs.PlaceReading.{place_size, numbers_at, fields_at, widened, machine_place, placed};
 
 use crate::Reader;
 use limits::{MAX_EVENTS, MAX_PLACES};
-use places::{Place, covers, gain};
+use places::Place;
 use refusals::{Cause, Refusal};
 use slices::number_at;
 
@@ -95,29 +94,8 @@ fn row_at(bundle: &[u8], at: usize, n: usize) -> [u16; MAX_EVENTS]
     row_within(bundle, at, n)
 }
 
-// Whether the place at an offset permits the event after the counts. The tokens are added as `Place::tokens` does, but straight from the bytes, since
-// building a place costs more than this one test of it. The index is an offset in the bytes, too.
-#[inline(always)]
-fn permits_at(bundle: &[u8], at: usize, n: usize, counts: &[u16], event: usize) -> bool
-    requires { (n ≤ max_events)
-        × (event < n)
-        × (at + 2 * place_size n ≤ length bundle.now)
-        × (n ≤ length counts.now) }
-    ensures { result ≡ place_permits n (place_on n bundle.now at) (record { row = counts.now; event = event }) }
-{
-    let produced = at + 2;
-    let consumed = produced + 2 * n;
-    let mut tokens = i64::from(number_at(bundle, at));
-    for i in 0..n {
-        let put = number_at(bundle, produced + 2 * i);
-        let took = number_at(bundle, consumed + 2 * i);
-        tokens += gain(counts[i], put, took);
-    }
-    covers(tokens, number_at(bundle, consumed + 2 * event))
-}
-
 impl<'a> Net<'a> {
-    ghost use Rattle.bundles.specs.Keeping.{place_spot};
+    ghost use Rattle.bundles.specs.Keeping.{place_spot, PlacesOf};
 
     // The offset of place j, or the one behind the last place.
     #[inline(always)]
@@ -152,18 +130,12 @@ impl<'a> Net<'a> {
         number_at(self.bundle, self.offset(j))
     }
 
-    // Whether place j permits the event after the counts.
-    pub fn permits(&self, j: usize, counts: &[u16], event: usize) -> bool
-        requires { (j < self.now.count) × (self.now.n ≤ length counts.now) × (event < self.now.n) }
-        ensures { result ≡ place_permits self.now.n (place_on self.now.n self.now.bundle.now (place_spot self.now j))
-            (record { row = counts.now; event = event }) }
+    // Writes the places to the front of a list, by number, so that each is read once.
+    pub fn read_places(&self, places: &mut [Place; MAX_PLACES])
+        ensures { PlacesOf self.now places.new }
     {
-        permits_at(
-            self.bundle,
-            self.offset(j),
-            usize::from(self.n),
-            counts,
-            event,
-        )
+        for (j, place) in places[..self.count].iter_mut().enumerate() {
+            *place = self.place(j);
+        }
     }
 }

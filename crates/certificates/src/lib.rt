@@ -27,8 +27,10 @@ fn check_place(step: &Step, reader: &mut Reader, number: usize) -> Result<(), Re
     ensures { ReadBy reader.old reader.new result (place_checked step.now number) }
 {
     let net = step.head.net;
-    let place = reader.byte(|j| usize::from(j) < net.count)?;
-    if net.permits(usize::from(place), step.counts(), usize::from(step.event)) {
+    let j = reader.byte(|j| usize::from(j) < net.count)?;
+    let place = step.head.places[usize::from(j)];
+    let counts = &step.counts()[..usize::from(net.n)];
+    if place.permits(counts, usize::from(step.event)) {
         return Err(Cause::PlacePermits.at(number));
     }
     Ok(())

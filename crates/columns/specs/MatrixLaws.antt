@@ -1,6 +1,6 @@
 -- The steps of the code that tests places side by side, as laws of the definitions in Matrix.
 use Rattle.std.specs.Prelude.{◌≡◌, refl, true, List, [], ◌∷◌, ◌++◌, zero, suc, T, ℤ, pos, ◌+ℤ◌, ◌-ℤ◌, ◌*ℤ◌, length, get_or, take, drop}
-use Rattle.std.proofs.Common.{sym, ◌∙◌, subst, add-one, add-mul, mul_comm, arith, length-set, get_or-set_same, get_or-set_other, get_or-take, get_or-drop}
+use Rattle.std.proofs.Common.{sym, ◌∙◌, subst, add-one, add-mul, mul_comm, arith, length-set, length-take-le, get_or-set_same, get_or-set_other, get_or-take, get_or-drop}
 use Rattle.std.proofs.Math.ListN.{get_or-append}
 use Rattle.std.proofs.Math.Path.{ap, ap₂}
 use Prim.Native.Nat.{ℕ, ◌+◌, ◌*◌, ◌≤◌, ◌<◌}
@@ -17,9 +17,12 @@ use Rattle.limits.specs.Limits.{max_events}
 use Rattle.nets.specs.Nets.{Place, Step, Counts, at, tokens, surplus, place_permits}
 use Rattle.nets.specs.Surplus.{given, taken, tokens-is, tokens-row, permits→le, le→permits, tokens-zeros}
 use Rattle.rows.specs.Rows.{row_size, Row, none, row_at}
-use Rattle.bundles.specs.PlaceReading.{Kept, place_there}
+use Rattle.places.specs.Machine.{place_of, place_at}
+use Rattle.places.specs.declared.Place as Declared
 use Rattle.bundles.specs.HeadReading.{HeadAt}
-use Rattle.bundles.specs.NextPlace.{place_is}
+use Rattle.bundles.specs.Keeping.{kept, PlacesOf}
+use Rattle.bundles.specs.NextPlace.{place_same}
+use Rattle.bundles.specs.declared.net.Net.{Net}
 use Rattle.columns.specs.declared.Matrix.{Matrix}
 use Rattle.columns.specs.RowFits.{row_fits, fits_rows}
 use Rattle.columns.specs.Matrix.{number, column, SamePlace, Marking, Covered, shifted, Shifted, Recounted, Beside, Columns, Filled}
@@ -271,6 +274,15 @@ written_next {place} {m} {m'} {j} below beside here = record {
       here;
 }
 
--- those that the code keeps of a bundle's head are the bundle's
-pub filled : {net : Kept} {m : Matrix} → HeadAt net → Columns (place_there net) m net.count → Filled net.bundle.now m net.count
-filled {net} {m} found written = record { places = λ j h. subst (SamePlace (column m j)) (sym (place_is found j h)) (written.places j h) }
+-- places by number
+abbrev pub numbered : List Declared.Place → ℕ → Place
+numbered places j = place_of (place_at places j)
+
+-- those of a net that was read are the bundle's
+pub filled : {net : Net} {places : List Declared.Place} {m : Matrix} → HeadAt (kept net) → PlacesOf net places
+    → Columns (numbered (take net.count places)) m (length (take net.count places)) → Filled net.bundle.now m net.count
+filled {net} {places} {m} found read written =
+    let size = length-take-le net.count places read.room in
+    record {
+      places = λ j h. subst (SamePlace (column m j)) (place_same found j h (get_or-take net.count places j _ h ∙ read.each j h)) (written.places j (omega (arith, h, size)));
+    }

@@ -1,16 +1,14 @@
 -- Whether a place fits the rows of a table: it permits the events of each row's mask after the row's counts.
-use Rattle.std.specs.Prelude.{◌≡◌, Bool, true, false, not, ◌&&◌, ◌||◌, List, ℕ, ◌+◌, ◌*◌, ◌≤◌, ◌<◌, ℤ, pos, ◌-ℤ◌, length, get_or, take, drop, ◌↔◌, MatchBool}
+use Rattle.std.specs.Prelude.{◌≡◌, Bool, true, false, not, ◌&&◌, ◌||◌, List, ℕ, ◌+◌, ◌*◌, ◌≤◌, ◌<◌, length, get_or, drop, ◌↔◌, MatchBool}
 use Rattle.std.proofs.Math.Path.{refl}
-use Rattle.std.proofs.Common.{sym, ap, ◌∙◌, arith, drop_of_length-le, get_or-take}
+use Rattle.std.proofs.Common.{sym, ap, ◌∙◌, arith, drop_of_length-le}
 use Rattle.std.proofs.lemmas.Bool.{false≢true}
-use Rattle.std.specs.Int.Signed.{non_neg}
 use Rattle.laws.specs.Bits.{bit}
 use Rattle.laws.specs.Booleans.{fails-exactly}
 use Rattle.laws.specs.Lists.{all, all-next, tabulate}
 use Rattle.laws.specs.Scans.{all-exactly}
 use Rattle.limits.specs.Limits.{max_events}
-use Rattle.nets.specs.Nets.{Place, tokens, surplus, place_permits}
-use Rattle.nets.specs.Surplus.{tokens-row}
+use Rattle.nets.specs.Nets.{Place, place_permits}
 use Rattle.rows.specs.Rows.{row_size, Row, row_at, rows_of}
 use Rattle.rows.specs.Flat.{length-rows, rows_at}
 
@@ -21,15 +19,6 @@ row_fits p r = all (λ e. not (bit r.mask e) || place_permits max_events p (reco
 -- a place permits what every row allows
 unfoldable pub fits_rows : Place → List Row → Bool
 fits_rows p rs = all (row_fits p) rs
-
--- what stands behind the twelve counts of a row does not matter
-pub tokens-front : (p : Place) (t : List ℕ) → tokens max_events p t ≡ tokens max_events p (take max_events t)
-tokens-front p t = tokens-row max_events p t (take max_events t) (λ i b. sym (get_or-take max_events t i 0 b))
-
-pub permits-front : (p : Place) (t : List ℕ) (e : ℕ)
-    → place_permits max_events p (record { row = t; event = e }) ≡ place_permits max_events p (record { row = take max_events t; event = e })
-unfolding place_permits surplus
-permits-front p t e = ap (λ (z : ℤ). non_neg (z -ℤ pos (p.consumed e))) (tokens-front p t)
 
 -- ---- the rows
 

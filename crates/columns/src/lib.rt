@@ -7,15 +7,12 @@ pub mod marking; // the tokens in the columns
 ghost use Rattle.std.specs.Prelude.{◌≡◌, true, ℕ, ◌*◌, ◌≤◌, ◌<◌, T, length, set};
 ghost use Rattle.laws.specs.Bits.{bit};
 ghost use Rattle.limits.specs.Limits.{max_events};
-ghost use Rattle.places.specs.Machine.{place_of};
+ghost use Rattle.places.specs.Machine.{place_of, place_at};
 ghost use Rattle.rows.specs.Rows.{row_size, none, rows_of};
-ghost use Rattle.bundles.specs.PlaceReading.{place_there};
-ghost use Rattle.bundles.specs.Keeping.{kept};
 ghost use Rattle.columns.specs.RowFits.{fits_rows};
 ghost use Rattle.columns.specs.Matrix.{matrix_width, block_width, clear_matrix, column, SamePlace, Beside, Columns};
 ghost use Rattle.columns.specs.Markings.{IsModerate, IsMarking, GoesOn, CoversEvent};
 
-use bundles::net::Net;
 use limits::{MAX_EVENTS, MAX_PLACES};
 use marking::{Marking, recount, start};
 use places::{Place, has_bit};
@@ -59,12 +56,13 @@ impl Matrix {
         }
     }
 
-    // Writes the places of a net into the columns.
-    pub fn write(&mut self, net: Net)
-        ensures { Columns (place_there (kept net.entry)) self.new net.entry.count }
+    // Writes places into the columns, by number.
+    pub fn write(&mut self, places: &[Place])
+        requires { length places.now ≤ matrix_width }
+        ensures { Columns (λ j. place_of (place_at places.now j)) self.new (length places.now) }
     {
-        for j in 0..net.count {
-            self.write_column(j, net.place(j));
+        for (j, place) in places.iter().enumerate() {
+            self.write_column(j, *place);
         }
     }
 }

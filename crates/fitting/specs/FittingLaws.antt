@@ -28,7 +28,8 @@ use Rattle.bundles.specs.HeadReading.{net-size}
 use Rattle.bundles.specs.NextPlace.{place_in}
 use Rattle.heads.specs.Heads.{HeadHeld}
 use Rattle.bundles.specs.declared.net.Net.{Net}
-use Rattle.columns.specs.RowFits.{row_fits, fits_rows, tokens-front}
+use Rattle.nets.specs.Surplus.{tokens-front}
+use Rattle.columns.specs.RowFits.{row_fits, fits_rows}
 use Rattle.columns.specs.declared.Matrix.{Matrix}
 use Rattle.columns.specs.Matrix.{column, Filled}
 use Rattle.columns.specs.MatrixLaws.{same-fits}
@@ -65,7 +66,7 @@ module _ (t : ℤ) (consumed : List ℕ) (mask : ℕ) where
 pub row_fits_lem : (p : Declared.Place) (t : List ℕ)
     → events_fit (tokens max_events (place_of p) t) p.consumed (get_or t max_events 0) ≡ row_fits (place_of p) (row_at t)
 unfolding row_fits events_fit event_fits row_at place_permits surplus
-row_fits_lem p t = ap (λ (z : ℤ). events_fit z p.consumed (get_or t max_events 0)) (tokens-front (place_of p) t)
+row_fits_lem p t = ap (λ (z : ℤ). events_fit z p.consumed (get_or t max_events 0)) (tokens-front max_events (place_of p) t)
 
 -- the same of row i of a table
 pub table_row_fits : (p : Declared.Place) (table : List ℕ) (i : ℕ) (t : ℤ) (counts : List ℕ)
@@ -75,7 +76,7 @@ unfolding row_at
 table_row_fits p table i t counts is same =
     let l = drop (row_size * i) table in
     ap₂ (λ (z : ℤ) (mask : ℕ). events_fit z p.consumed mask)
-    (is ∙ ap (tokens max_events (place_of p)) same ∙ sym (tokens-front (place_of p) l))
+    (is ∙ ap (tokens max_events (place_of p)) same ∙ sym (tokens-front max_events (place_of p) l))
     (sym (get_or-drop (row_size * i) table max_events 0))
     ∙ row_fits_lem p l
 

@@ -55,14 +55,15 @@ fn fits(place: &Place, table: &[u16], rows: usize) -> bool
 fn all_fit(head: &TakenHead) -> bool
     ensures { result ≡ true → head.now.net.count ≡ misfit_in head.now.net.bundle.now }
 {
-    let net = head.net;
-    if net.count < 8 && head.rows < 8 {
+    let count = head.net.count;
+    if count < 8 && head.rows < 8 {
         return false;
     }
+    let places = head.places;
     let mut matrix = Matrix::clear();
-    matrix.write(net);
+    matrix.write(&places[..count]);
     let mut marking = Marking::clear();
-    matrix.start(&mut marking, net.count);
+    matrix.start(&mut marking, count);
     matrix.fit(&mut marking, head.table, head.rows)
 }
 
@@ -71,7 +72,7 @@ fn place_fits(head: &TakenHead, j: usize) -> bool
     requires { j < head.now.net.count }
     ensures { result ≡ fits (events_in head.now.net.bundle.now) (log_in head.now.net.bundle.now) (place_in head.now.net.bundle.now j) }
 {
-    fits(&head.net.place(j), head.table, head.rows)
+    fits(&head.places[j], head.table, head.rows)
 }
 
 // The first place of a bundle that does not fit. Each is tested on its own.

@@ -6,11 +6,14 @@ ghost use Rattle.limits.specs.Limits.{max_events, max_log_events, max_rows};
 ghost use Rattle.laws.specs.Numbers.{Bytes};
 ghost use Rattle.logs.specs.Answers.{table_size};
 ghost use Rattle.rows.specs.Index.{IsIndex};
+ghost use Rattle.bundles.specs.Keeping.{PlacesOf, PlacesOf-prop};
 ghost use Rattle.heads.specs.Taken.{Fresh, TakesNext, AllTaken};
 ghost use Rattle.heads.specs.Heads.{HeadHeld, HeadHeld-prop, HeadIs};
 
 use bundles::Reader;
 use bundles::net::Net;
+use limits::MAX_PLACES;
+use places::Place;
 use refusals::{Cause, Refusal};
 use rows::index::Index;
 use taking::add_word;
@@ -76,13 +79,15 @@ fn take_words(reader: &mut Reader, n: u8, count: u8, table: &mut [u16]) -> Resul
     Ok(log.rows)
 }
 
-// A bundle up to its last place, and a table whose first rows are those of its log.
+// A bundle up to its last place, its places by number, and a table whose first rows are those of its log.
 #[derive(Clone, Copy)]
 pub struct TakenHead<'a> {
     pub net: Net<'a>,
+    pub places: &'a [Place; MAX_PLACES],
     pub rows: usize,
     pub table: &'a [u16],
     pub ghost held: { HeadHeld table.now net rows } by { HeadHeld-prop table.now net rows },
+    pub ghost read: { PlacesOf net places.now } by { PlacesOf-prop net places.now },
 }
 
 // Reads a bundle up to its last place, and takes its log into a table that has the row of the empty log. Returns the net, and how many rows the log

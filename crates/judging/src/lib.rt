@@ -13,8 +13,9 @@ ghost use Rattle.judging.specs.JudgeLaws.{afterwards, TableLeft};
 use certificates::certify;
 use fitting::first_misfit;
 use heads::{TakenHead, take_head};
-use limits::size_fits;
+use limits::{MAX_PLACES, size_fits};
 use logs::{TABLE, clear};
+use places::Place;
 use refusals::Cause;
 use verdicts::Verdict;
 
@@ -39,7 +40,14 @@ fn judge_fields(bundle: &[u8], table: &mut [u16]) -> Verdict
     ensures table_left { TableLeft (judging bundle.now 0) table.old table.new }
 {
     let (net, rows) = take_head(bundle, table)?;
-    judge_net(&TakenHead { net, rows, table })
+    let mut places = [Place::blank(); MAX_PLACES];
+    net.read_places(&mut places);
+    judge_net(&TakenHead {
+        net,
+        places: &places,
+        rows,
+        table,
+    })
 }
 
 // The verdict on a bundle: accepted with four counts, and then its log's rows are in the table; or refused.

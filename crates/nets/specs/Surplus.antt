@@ -1,6 +1,6 @@
 -- The surplus in natural numbers: a place permits a step exactly when the tokens that the step needs are at most those that were put there.
-use Rattle.std.specs.Prelude.{◌≡◌, ℕ, zero, suc, ◌+◌, ◌*◌, ◌≤◌, ◌<◌, ℤ, ◌+ℤ◌, ◌-ℤ◌, ◌*ℤ◌}
-use Rattle.std.proofs.Common.{sym, ap₂, ◌∙◌, add-zero, add_assoc, zero-mul, add-one, arith}
+use Rattle.std.specs.Prelude.{◌≡◌, ℕ, zero, suc, ◌+◌, ◌*◌, ◌≤◌, ◌<◌, ℤ, ◌+ℤ◌, ◌-ℤ◌, ◌*ℤ◌, take}
+use Rattle.std.proofs.Common.{sym, ap₂, ◌∙◌, add-zero, add_assoc, zero-mul, add-one, arith, get_or-take}
 use Rattle.std.proofs.Math.Path.{ap, subst}
 use Rattle.std.proofs.Math.Dec.{T}
 use Rattle.std.proofs.Math.IntN.{pos, sub_ℕ, +ℤ_assoc, zero-*ℤ}
@@ -72,6 +72,14 @@ unfolding tokens
 tokens-row n p u v h =
     ap (λ (z : ℤ). pos p.initial +ℤ z)
     (sumℤ-same n _ _ (λ i b. ap (λ (k : ℕ). pos k *ℤ (pos (p.produced i) -ℤ pos (p.consumed i))) (h i b)))
+
+-- what stands behind them does not matter
+pub tokens-front : (n : ℕ) (p : Place) (v : Counts) → tokens n p v ≡ tokens n p (take n v)
+tokens-front n p v = tokens-row n p v (take n v) (λ i b. sym (get_or-take n v i 0 b))
+
+pub permits-front : (n : ℕ) (p : Place) (v : Counts) (e : ℕ) → place_permits n p (record { row = v; event = e }) ≡ place_permits n p (record { row = take n v; event = e })
+unfolding place_permits surplus
+permits-front n p v e = ap (λ (z : ℤ). non_neg (z -ℤ pos (p.consumed e))) (tokens-front n p v)
 
 -- counts that are zero from n on add nothing
 pub tokens-wide : (n k : ℕ) (p : Place) (v : Counts) → ((i : ℕ) → n ≤ i → at v i ≡ 0) → tokens (n + k) p v ≡ tokens n p v

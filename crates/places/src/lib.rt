@@ -8,8 +8,8 @@ ghost use Rattle.laws.specs.Bits.{bit, with_bit};
 ghost use Rattle.laws.specs.Differences.{negative_part};
 ghost use Rattle.laws.specs.Lists.{all};
 ghost use Rattle.limits.specs.Limits.{max_events};
-ghost use Rattle.nets.specs.Nets.{tokens as tokens_after};
-ghost use Rattle.places.specs.Machine.{place_of, Held};
+ghost use Rattle.nets.specs.Nets.{place_permits, tokens as tokens_after};
+ghost use Rattle.places.specs.Machine.{place_of, blank_place, Held};
 ghost use Rattle.places.specs.Words.{bad_event};
 
 use limits::MAX_EVENTS;
@@ -23,10 +23,30 @@ pub struct Place {
 }
 
 impl Place {
+    // A place that holds no token, and gets and loses none. (Inner function.)
+    #[inline(always)]
+    pub fn blank() -> Self
+        ensures { result ≡ blank_place }
+    {
+        Place {
+            initial: 0,
+            produced: [0; MAX_EVENTS],
+            consumed: [0; MAX_EVENTS],
+        }
+    }
+
+    // Whether it permits an event after the events of `counts`: whether its surplus there is 0 or more. (Inner function.)
+    pub fn permits(self, counts: &[u16], event: usize) -> bool
+        requires { (length counts.now ≤ max_events) × (event < max_events) }
+        ensures { result ≡ place_permits (length counts.now) (place_of self) (record { row = counts.now; event = event }) }
+    {
+        covers(self.tokens(counts), self.consumed[event])
+    }
+
     // The tokens in the place after the events of `counts`: negative where it could not permit them all. (Inner function.)
     pub fn tokens(self, counts: &[u16]) -> i64
-        requires { max_events ≤ length counts.now }
-        ensures value { result ≡ tokens_after max_events (place_of self) counts.now }
+        requires { length counts.now ≤ max_events }
+        ensures value { result ≡ tokens_after (length counts.now) (place_of self) counts.now }
         ensures held { Held result }
     {
         let mut total = i64::from(self.initial);

@@ -133,7 +133,12 @@ impl Step<'_> {
         requires { count ≤ max_terms }
         ensures { ReadBy reader.old reader.new result (weighed_terms (holds_for self.now k) (times count (term self.now.head.now.net.n self.now.head.now.rows))) }
     {
-        let TakenHead { net, rows, table } = *self.head;
+        let TakenHead {
+            net,
+            rows,
+            table,
+            ..
+        } = *self.head;
         let mut sums = Sums {
             total: 0,
             before: [0; MAX_EVENTS],

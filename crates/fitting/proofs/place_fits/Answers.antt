@@ -10,4 +10,4 @@ pub returns : goal.returns
 returns c =
     let head = c.args.head.now in
     let b = head.net.bundle.now in
-    c.fits.ensures ∙ fits-held head.held _ ∙ ap (fits (events_in b) (log_in b)) (place_same head.held.found c.args.j c.requires c.place.ensures)
+    c.fits.ensures ∙ fits-held head.held _ ∙ ap (fits (events_in b) (log_in b)) (place_same head.held.found c.args.j c.requires (head.read.each c.args.j c.requires))

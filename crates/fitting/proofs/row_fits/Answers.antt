@@ -18,4 +18,4 @@ pub returns : goal.returns
 returns c =
     let a = c.args in
     let fits : SFits w64 c.tokens-tokens.result = search rules in
-    rw c.mask_of-mask.ensures at c.events_fit.ensures ∙ table_row_fits a.place.now a.table.now a.row _ _ (to_z-of_z fits ∙ c.tokens-tokens.ensures.value) c.counts_of.ensures.0
+    rw c.mask_of-mask.ensures at c.events_fit.ensures ∙ table_row_fits a.place.now a.table.now a.row _ _ (to_z-of_z fits ∙ rw c.counts_of.ensures.1 at c.tokens-tokens.ensures.value) c.counts_of.ensures.0

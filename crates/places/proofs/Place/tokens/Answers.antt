@@ -86,9 +86,9 @@ returns c =
     let end = YieldsList-end road c.loop-count.yielded _ c.loop-count.yielded_by _ c.next.new.self c.in-None.is c.next.ensures.steps in
     let inner = length-zip c.args.counts.now c.args.self.produced in
     let outer = length-zip (zip c.args.counts.now c.args.self.produced) c.args.self.consumed in
-    let all : length c.loop-count.yielded ≡ 12 = omega (arith, end.1, inner, outer) in
+    let all : length c.loop-count.yielded ≡ length c.args.counts.now = omega (arith, end.1, inner, outer) in
     let total = c.loop-count.invariant ∙ ap (λ (i : ℕ). tokens i (place_of c.args.self) c.args.counts.now) all in
     record {
       value = total;
-      held = rw total (tokens-held (place_of c.args.self) c.args.counts.now (small (goal.at.returns c).At-loop-count) 12 (omega arith));
+      held = rw total (tokens-held (place_of c.args.self) c.args.counts.now (small (goal.at.returns c).At-loop-count) (length c.args.counts.now) (omega arith));
     }
