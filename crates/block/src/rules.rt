@@ -20,7 +20,7 @@ fn all_zero(bytes: &[u8]) -> bool
     bytes.iter().all(|byte| *byte == 0)
 }
 
-// Whether a block may use `used` bytes. `last` says which rule is meant, as in its definition; there is one way to test both.
+// Whether a block may use `used` bytes. `last` is a fact about the block, as in the definition, and so it is where it is handed on to here.
 #[tactic(auto, unfolding(crate::specs::Block::right_count))]
 fn count_fits(used: u16, last: bool) -> bool
     ensures { result ≡ right_count last used }
@@ -51,7 +51,7 @@ fn sums_match(block: &Block) -> bool
     written == sums_of(block.first_chunk().unwrap())
 }
 
-// The first rule that a block breaks, if it does: an Option, since it is searched for here, and refused where the block's position is known.
+// The first rule that a block breaks, if it does: an Option of a cause, since `fault` of the definitions is the number of a cause alone.
 fn fault_of(block: &Block, number: usize, last: bool) -> Option<Cause>
     ensures { fault_number result ≡ fault last number block.now }
 {

@@ -70,8 +70,8 @@ impl Matrix {
 // The matrix is lent to the steps of a marking, and no field of it: where its address is read from memory that the tokens are written to, the
 // compiler asks before each loop whether the two overlap.
 impl Matrix {
-    // Makes a marking the one before any event: the initial tokens of so many columns, and of those behind them in the last block. A marking that a
-    // function makes and hands back is copied; so it is lent.
+    // Makes a marking the one before any event: the initial tokens of so many columns, and of those behind them in the last block. Made anew here it
+    // would be copied; so it is lent.
     pub fn start(&self, marking: &mut Marking, count: usize)
         requires { count ≤ matrix_width }
         ensures { IsMarking self.now marking.new × (count ≤ block_width * marking.new.blocks) × (marking.new.counts ≡ none) }
@@ -128,8 +128,8 @@ impl Matrix {
         (0..MAX_EVENTS).all(|e| self.covers_event(marking, mask, e))
     }
 
-    // Whether each column permits what the rows of a table allow. The table and the number of its rows are two parameters, as in `rows`: it may be
-    // any table that has so many.
+    // Whether each column permits what the rows of a table allow, where that is found out: false says nothing. The table and the number of its rows are
+    // two parameters: a `Rows` would be made for this one call.
     pub fn fit(&self, marking: &mut Marking, table: &[u16], rows: usize) -> bool
         requires marking { IsMarking self.now marking.old }
         requires rows_in_bounds { row_size * rows ≤ length table.now }

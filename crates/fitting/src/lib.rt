@@ -42,7 +42,7 @@ fn row_fits(place: &Place, table: &[u16], row: usize) -> bool
     events_fit(tokens, &place.consumed, mask)
 }
 
-// Whether a place permits what the rows of a table allow.
+// Whether a place permits what the rows of a table allow, which has so many, as in `Matrix::fit`.
 fn fits(place: &Place, table: &[u16], rows: usize) -> bool
     requires { row_size * rows ≤ length table.now }
     ensures { result ≡ fits_rows (place_of place.now) (rows_of rows table.now) }

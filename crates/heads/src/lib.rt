@@ -91,7 +91,7 @@ pub struct TakenHead<'a> {
 }
 
 // Reads a bundle up to its last place, and takes its log into a table that has the row of the empty log. Returns the net, and how many rows the log
-// has. `read_head` differs in the one line that takes the words: a closure for it would need a contract longer than the four lines. (Inner function.)
+// has. `Reader::head` differs in the one line of the words: a closure for it would need a contract longer than the four lines. (Inner function.)
 pub fn take_head<'a>(bundle: &'a [u8], table: &mut [u16]) -> Result<(Net<'a>, usize), Refusal>
     requires { Fresh table.old }
     ensures { HeadIs bundle.entry table.old table.new result }

@@ -52,7 +52,7 @@ struct Part<'a> {
 
 impl<'a> Part<'a> {
     // The first refused step of up to eight places from number `first` on, whose tokens behind the steps that are done are given. Where there is
-    // none, the tokens behind the word are left.
+    // none, the tokens behind the word are left: they are lent on to the replay, which moves them.
     fn search_eight(&self, first: usize, tokens: &mut [i64; WIDTH]) -> Option<Stop>
         requires { (first < self.now.search.net.count) × MarkedEight self.now.search first self.now.done tokens.old }
         ensures late { Late self.now.search self.now.done result }

@@ -98,7 +98,7 @@ fn all_below(word: &[u8], n: u8) -> bool
     word.iter().fold(true, |fit, event| fit & (*event < n))
 }
 
-// A word with fewer events is searched at once: it takes less time than a test of all.
+// A word with fewer events is searched event by event: that takes less time than a test of all.
 const SHORT: usize = 16;
 
 // The position of the first event that is not below n. Mostly there is none, which is faster to find out.
@@ -111,7 +111,7 @@ fn search_bad(word: &[u8], n: u8) -> Option<usize>
     word.iter().position(|event| n <= *event)
 }
 
-// The same for every n: all bytes are below one that is no byte. A `usize`, since C hands over that of a log's summary. (Inner function.)
+// The same for every n: above 255 no event is bad. A `usize`, since C hands over that of a log's summary. (Inner function.)
 pub fn first_bad(word: &[u8], n: usize) -> Option<usize>
     ensures { result ≡ bad_event n word.now }
 {

@@ -62,15 +62,15 @@ impl<'a> Marked<'a> {
         self.parts.front.len() + 1 + places + self.parts.certificates.len()
     }
 
-    // The new number of each place: how many before it are marked. An index: nothing is known of a list behind a `zip` over its `iter_mut`.
+    // The new number of each place: how many before it are marked.
     pub fn numbers(&self) -> [u8; MAX_PLACES]
         ensures { result ≡ tabulate max_places (rank (marked self.now.marks)) }
     {
         let mut numbers = [0; MAX_PLACES];
         let mut next = 0;
-        for (j, mark) in self.marks.iter().enumerate() {
-            numbers[j] = next;
-            next += u8::from(*mark);
+        for (j, number) in numbers.iter_mut().enumerate() {
+            *number = next;
+            next += u8::from(self.marks[j]);
         }
         numbers
     }

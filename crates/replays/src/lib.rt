@@ -80,8 +80,8 @@ impl Table {
         self.changes[MAX_EVENTS].write(j, 0, &place.consumed);
     }
 
-    // Replays a part of a word on the places of a table, whose tokens before it are given: leaves those behind it, and says whether no step of it
-    // lacks a token. A `bool`, and no `Option` of the tokens: it is not proved that false means a step that lacks one, so they count then, too.
+    // Replays a part of a word on the places of a table, whose tokens before it are given, and leaves those behind it. True says that no step of it
+    // lacks a token; false says nothing, and the tokens count then, too: so no `Option` of them.
     pub fn replay(&self, tokens: &mut [i64; WIDTH], part: &[u8]) -> bool
         requires { Replayable tokens.old self.now.changes part.now }
         ensures advanced { Advanced self.now.changes tokens.old tokens.new part.now }

@@ -81,7 +81,7 @@ fn number_rows(rows: &Rows, word: &[u8], numbers: &mut [u16]) -> usize
 {
     let mut prefix = Prefix::new();
     let mut next = rows.count;
-    // The prefixes are one more than the events. One call for all of them: then the compiler puts `number_row` into it.
+    // By number: the prefixes are one more than the events. One call for all of them: then the compiler puts `number_row` into it.
     for i in 0..=word.len() {
         next = number_row(rows, &prefix, next, &mut numbers[i]);
         if let Some(event) = word.get(i) {
@@ -120,9 +120,9 @@ fn write_word(table: &mut [u16], rows: usize, word: &[u8], numbers: &[u16]) -> u
     visit_row(table, k, counts, usize::from(numbers[word.len()]))
 }
 
-// Takes a word if there is room for its rows, and returns how many rows there are with them; if they are too many, the table is as it was.
+// Takes a word if there is room for its rows, and returns how many rows there are with them: `None` if they are too many, and the table is as it was.
 // There is no index for a short word. `numbers` is for the rows of its prefixes, that of the whole word behind the others. It is lent as a slice: with
-// an array for each of three sizes the compiler writes slower code. (Inner function.)
+// an array for each of three sizes the compiler writes slower code. `Takable` is a clause, since the table is lent on. (Inner function.)
 pub fn add_word(
     table: &mut [u16],
     rows: usize,

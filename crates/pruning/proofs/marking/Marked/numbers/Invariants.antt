@@ -8,5 +8,5 @@ use Rattle.pruning.proofs.marking.Marked.numbers.Given as goal
 abbrev pub invariant-loop-j : goal.invariant-loop-j
 invariant-loop-j l = record {
   next : l.next ≡ rank (marked l.self.marks) l.j;
-  numbers : l.numbers ≡ numbers_done (marked l.self.marks) l.j;
+  numbers : l.number-items ≡ numbers_done (marked l.self.marks) l.j;
 }
