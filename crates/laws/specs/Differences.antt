@@ -1,8 +1,8 @@
 -- Signed numbers as differences of two natural numbers, `sub_ℕ a b`: each law takes a statement on signed numbers to one on natural
 -- numbers, which `omega` reads.
 use Rattle.std.specs.Prelude.{◌≡◌, refl, Bool, true, false, not, cond, ◌↔◌, ℕ, zero, suc, ◌+◌, ◌-◌, ◌*◌, ◌≤◌, ◌<◌, T, eqb, ltb, ℤ, pos, negsuc, neg_ℤ, ◌+ℤ◌, ◌-ℤ◌, ◌*ℤ◌, ◌≤ℤ◌}
-use Rattle.std.proofs.Common.{sym, ap, ap₂, ◌∙◌, subst, zero-le, add-zero, zero-mul, suc-mul, arith, le→leb, leb→le, ltb-true, ltb-false, le-ltb, le-leb, ne_eqb}
-use Rattle.std.proofs.Math.IntN.{sub_ℕ, +ℤ_assoc, +ℤ_comm, +ℤ_idl, +ℤ_idr, neg_ℤ-+ℤ, zero-*ℤ, suc_ℤ-*ℤ}
+use Rattle.std.proofs.Common.{sym, ap, ap₂, ◌∙◌, subst, zero-le, add-zero, zero-mul, suc-mul, arith, eqb→eq, le→leb, leb→le, ltb-true, ltb-false, le-ltb, le-leb, ne_eqb}
+use Rattle.std.proofs.Math.IntN.{pos-ne-negsuc, sub_ℕ, +ℤ_assoc, +ℤ_comm, +ℤ_idl, +ℤ_idr, neg_ℤ-+ℤ, zero-*ℤ, suc_ℤ-*ℤ}
 use Rattle.std.specs.Int.Signed.{mag, non_neg, le_z, le_z_yes, yes_non_neg}
 use Rattle.laws.specs.Sums.{sum}
 
@@ -104,6 +104,18 @@ mag_difference a b h p q = go (ltb a b)
     go : (t : Bool) → mag (cond t (negsuc (b - suc a)) (pos (a - b))) < h
     go true = omega arith
     go false = omega arith
+
+-- ---- Zero
+
+-- whether a signed number is 0
+unfoldable pub is_zero_ℤ : ℤ → Bool
+is_zero_ℤ (pos n) = eqb n 0
+is_zero_ℤ (negsuc n) = false
+
+pub zero-exactly : (z : ℤ) → T (is_zero_ℤ z) ↔ (z ≡ pos 0)
+unfolding is_zero_ℤ
+zero-exactly (pos n) = ((λ t. ap pos (eqb→eq n 0 t)), λ e. subst (λ (z : ℤ). T (is_zero_ℤ z)) (sym e) tt)
+zero-exactly (negsuc n) = ((λ t. absurd t), λ e. absurd (pos-ne-negsuc 0 n (sym e)))
 
 -- ---- How far below 0
 

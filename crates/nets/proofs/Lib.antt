@@ -18,3 +18,5 @@ pub mod ParikhClosure
 pub mod Regions
 pub mod Screening
 pub mod TokenGame
+pub mod Entries
+pub mod Completed

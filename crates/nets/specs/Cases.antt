@@ -1,7 +1,7 @@
 -- The mistakes that the requirements name, as samples for the definitions: what is computed, with what is expected.
 use Rattle.std.specs.Prelude.{◌≡◌, true, false, cond, ℕ, eqb, length}
 use mathlib.Core.List.{List, [], ◌∷◌, map}
-use Rattle.nets.specs.Nets.{Log, Place, Weights, no_place, stopped, step_after, rows, allowed, traffic, allowed_steps, wrong_continuations, permits, screen, weights_hold}
+use Rattle.nets.specs.Nets.{Log, Entry, Place, Weights, no_place, stopped, words, completed_words, step_after, rows, allowed, traffic, allowed_steps, wrong_continuations, obeys, permits, screen, weights_hold}
 
 -- the log of I: prefixes 0 1 and 1 0 have the same counts, so 3 is allowed after 0 1
 abbrev log_i : Log
@@ -31,6 +31,14 @@ zero_k = record { k = 0; terms = [] }
 abbrev one_k : List ℕ → ℕ → ℕ → Weights
 one_k u f g = record { k = 1; terms = record { step = step_after 2 u f; weight = g } ∷ [] }
 
+-- a log in which 0 0 1 is completed, and 0 is not
+abbrev sales : List Entry
+sales = record { word = 0 ∷ 0 ∷ 1 ∷ []; completed = true } ∷ record { word = 0 ∷ []; completed = false } ∷ []
+
+-- a place that holds 3 tokens; event 0 puts 1 there, event 1 takes so many
+abbrev drained : ℕ → Place
+drained k = record { initial = 3; produced = λ i. cond (eqb i 0) 1 0; consumed = λ i. cond (eqb i 1) k 0 }
+
 -- what computing gives
 pub record Computed : Type 0 where
   -- prefixes are compared as counts: rows, allowed steps and wrong continuations of I, and 3 after 0 1
@@ -53,3 +61,8 @@ pub record Computed : Type 0 where
   pub total_fails : weights_hold 2 log01 (step_after 2 (0 ∷ []) 0) (one_k [] 0 2) ≡ false
   -- 1 at the start: the step of 1 after 0 would do, but it has a 0 before it
   pub before_fails : weights_hold 2 log01 (step_after 2 [] 1) (one_k (0 ∷ []) 1 1) ≡ false
+  -- a completed word leaves the tokens as they were: neither more nor fewer; a word that is not completed may leave others
+  pub returned : obeys 2 (drained 2 ∷ []) (completed_words sales) ≡ true
+  pub more_left : obeys 2 (drained 2 ∷ drained 1 ∷ []) (completed_words sales) ≡ false
+  pub fewer_left : obeys 2 (drained 3 ∷ drained 2 ∷ []) (completed_words sales) ≡ false
+  pub not_completed : obeys 2 (drained 2 ∷ []) (words sales) ≡ false

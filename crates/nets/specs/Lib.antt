@@ -21,5 +21,7 @@ pub mod Regions
 pub mod SeparationProblems
 pub mod RegionCertificates
 pub mod ParikhClosure
+pub mod Entries
+pub mod Completed
 pub mod Wide
 pub mod Pruning

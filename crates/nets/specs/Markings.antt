@@ -1,15 +1,16 @@
 -- The marking of a place along a word: its tokens at first, and behind one event more.
-use Rattle.std.specs.Prelude.{◌≡◌, refl, Bool, true, ℕ, ◌+◌, ◌-◌, ◌*◌, ◌≤◌, ◌<◌, T, ℤ, pos, ◌+ℤ◌, ◌-ℤ◌}
+use Rattle.std.specs.Prelude.{◌≡◌, refl, Bool, true, ℕ, ◌+◌, ◌-◌, ◌*◌, ◌≤◌, ◌<◌, T, ℤ, pos, ◌-ℤ◌}
 use Rattle.std.proofs.Math.Path.{sym, ap, ap₂}
 use Rattle.std.proofs.Common.{◌∙◌, subst, add_assoc, add-mul, arith}
 use mathlib.Core.List.{[], ◌∷◌, ◌++◌}
-use Rattle.std.proofs.Math.IntN.{sub_ℕ, +ℤ_comm}
+use Rattle.std.proofs.Math.Nat.{add-zero}
+use Rattle.std.proofs.Math.IntN.{sub_ℕ, ◌+ℤ◌, +ℤ_comm}
 use Rattle.std.specs.Int.Signed.{non_neg}
 use Rattle.laws.specs.Sums.{sum, sum-add, sum_same}
-use Rattle.laws.specs.Differences.{difference, difference-minus, pos_difference, non_neg_difference, pos_of_difference, negative_part}
-use Rattle.nets.specs.Nets.{Word, Place, at, same, occurrences, counts, step_after, tokens, surplus, place_permits, shortfall}
-use Rattle.nets.specs.CountLaws.{at-counts, occurrences_snoc}
-use Rattle.nets.specs.Surplus.{given, taken, tokens-is, tokens-zeros}
+use Rattle.laws.specs.Differences.{difference, difference-add, difference-minus, pos_difference, non_neg_difference, pos_of_difference, negative_part}
+use Rattle.nets.specs.Nets.{Word, Place, at, same, occurrences, counts, step_after, tokens, effect, surplus, place_permits, shortfall}
+use Rattle.nets.specs.CountLaws.{at-counts, occurrences-append}
+use Rattle.nets.specs.Surplus.{given, taken, effect_is, tokens-is, tokens-zeros}
 use Rattle.nets.specs.Weights.{pick}
 
 -- ---- One step on one place: tokens before, tokens behind
@@ -60,11 +61,28 @@ module _ (n : ℕ) where
   abbrev over : (ℕ → ℕ) → Word → ℕ
   over f u = sum n (λ i. at (counts n u) i * f i)
 
+  over-append : (f : ℕ → ℕ) (u x : Word) → over f (u ++ x) ≡ over f u + over f x
+  over-append f u x =
+      sum_same n _ _ (λ i b. ap (λ (k : ℕ). k * f i) (both i b) ∙ add-mul (at (counts n u) i) (at (counts n x) i) (f i))
+      ∙ sum-add n (λ i. at (counts n u) i * f i) (λ i. at (counts n x) i * f i)
+    where
+      both : (i : ℕ) → i < n → at (counts n (u ++ x)) i ≡ at (counts n u) i + at (counts n x) i
+      both i b = at-counts n (u ++ x) i b ∙ occurrences-append i u x ∙ sym (ap₂ ◌+◌ (at-counts n u i b) (at-counts n x i b))
+
   over_snoc : (f : ℕ → ℕ) (u : Word) (e : ℕ) → e < n → over f (u ++ e ∷ []) ≡ over f u + f e
-  over_snoc f u e h =
-      sum_same n _ _ (λ i b. ap (λ (k : ℕ). k * f i) (at-counts n (u ++ e ∷ []) i b ∙ occurrences_snoc i u e ∙ ap (λ (k : ℕ). k + same e i) (sym (at-counts n u i b))) ∙ add-mul (at (counts n u) i) (same e i) (f i))
-      ∙ sum-add n (λ i. at (counts n u) i * f i) (λ i. same e i * f i)
-      ∙ ap (λ (k : ℕ). over f u + k) (pick n e f h)
+  unfolding occurrences
+  over_snoc f u e h = over-append f u (e ∷ []) ∙ ap (λ (k : ℕ). over f u + k) (
+      sum_same n _ _ (λ i b. ap (λ (k : ℕ). k * f i) (at-counts n (e ∷ []) i b ∙ add-zero (same e i)))
+      ∙ pick n e f h)
+
+  -- the effects of two words, one behind the other, add up
+  pub effect-append : (p : Place) (w x : Word) → effect n p (counts n (w ++ x)) ≡ effect n p (counts n w) +ℤ effect n p (counts n x)
+  unfolding taken
+  effect-append p w x =
+      effect_is n p (counts n (w ++ x))
+      ∙ ap₂ sub_ℕ (over-append p.produced w x) (over-append p.consumed w x)
+      ∙ sym (difference-add (over p.produced w) (over p.consumed w) (over p.produced x) (over p.consumed x))
+      ∙ sym (ap₂ ◌+ℤ◌ (effect_is n p (counts n w)) (effect_is n p (counts n x)))
 
   -- at first the initial tokens
   pub tokens_none : (p : Place) → tokens n p (counts n []) ≡ pos p.initial

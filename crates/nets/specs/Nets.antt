@@ -4,7 +4,7 @@ use Rattle.std.specs.Prelude.{Bool, true, false, not, cond, ◌&&◌, ℕ, zero,
 use mathlib.Core.List.{List, [], ◌∷◌, ◌++◌, map, flat_map, foldl}
 use Rattle.std.specs.Int.Signed.{non_neg}
 use Rattle.laws.specs.Lists.{all, any, keep, tabulate, equal, member}
-use Rattle.laws.specs.Differences.{negative_part, sumℤ}
+use Rattle.laws.specs.Differences.{negative_part, is_zero_ℤ, sumℤ}
 use Rattle.laws.specs.Scans.{first_failing}
 
 -- ---- What there is
@@ -16,6 +16,11 @@ Word = List ℕ
 -- a log: words, in order
 abbrev pub Log : Type 0
 Log = List Word
+
+-- a word as a log lists it, and whether it is completed: a case that was brought to its end, not one that was broken off
+pub record Entry : Type 0 where
+  pub word : Word
+  pub completed : Bool
 
 -- a count vector v (Parikh vector): v(i) says how often event i occurs
 abbrev pub Counts : Type 0
@@ -78,6 +83,16 @@ pub data Answer : Type 0 where
   permitted : Answer
   -- the position of the first refused step, the lowest place that refuses it, and that place's shortfall there
   stopped : ℕ → ℕ → ℕ → Answer
+
+-- ---- Entries
+
+-- the log: the words of the entries, in order
+unfoldable pub words : List Entry → Log
+words entries = map (λ x. x.word) entries
+
+-- the completed words among them
+unfoldable pub completed_words : List Entry → Log
+completed_words entries = words (keep (λ x. x.completed) entries)
 
 -- ---- Counting
 
@@ -180,6 +195,10 @@ module _ (n : ℕ) where
   unfoldable pub tokens : Place → Counts → ℤ
   tokens p v = pos p.initial +ℤ sumℤ n (λ i. pos (at v i) *ℤ (pos (p.produced i) -ℤ pos (p.consumed i)))
 
+  -- the effect of counts u on a place: sum of u(i) × (in(i) − out(i))
+  unfoldable pub effect : Place → Counts → ℤ
+  effect p u = sumℤ n (λ i. pos (at u i) *ℤ (pos (p.produced i) -ℤ pos (p.consumed i)))
+
   -- the surplus at (v, e): m + sum of v(i) × (in(i) − out(i)) − out(e)
   unfoldable pub surplus : Place → Step → ℤ
   surplus p s = tokens p s.row -ℤ pos (p.consumed s.event)
@@ -212,6 +231,14 @@ module _ (n : ℕ) where
   -- a place fits (is a region of the log) when it permits every allowed step
   unfoldable pub fits : Log → Place → Bool
   fits log p = all (place_permits p) (allowed_steps log)
+
+  -- a place obeys completed words: the counts of each have the effect 0
+  unfoldable pub place_obeys : Log → Place → Bool
+  place_obeys completed p = all (λ w. is_zero_ℤ (effect p (counts w))) completed
+
+  -- a net obeys them when all its places do
+  unfoldable pub obeys : Net → Log → Bool
+  obeys net completed = all (place_obeys completed) net
 
   -- ---- Certificates
 

@@ -1,5 +1,5 @@
 -- The surplus in natural numbers: a place permits a step exactly when the tokens that the step needs are at most those that were put there.
-use Rattle.std.specs.Prelude.{◌≡◌, ℕ, zero, suc, ◌+◌, ◌*◌, ◌≤◌, ◌<◌, ℤ, ◌+ℤ◌, ◌-ℤ◌, ◌*ℤ◌, take}
+use Rattle.std.specs.Prelude.{◌≡◌, refl, ℕ, zero, suc, ◌+◌, ◌*◌, ◌≤◌, ◌<◌, ℤ, ◌+ℤ◌, ◌-ℤ◌, ◌*ℤ◌, take}
 use Rattle.std.proofs.Common.{sym, ap₂, ◌∙◌, add-zero, add_assoc, zero-mul, add-one, arith, get_or-take}
 use Rattle.std.proofs.Math.Path.{ap, subst}
 use Rattle.std.proofs.Math.Dec.{T}
@@ -7,7 +7,7 @@ use Rattle.std.proofs.Math.IntN.{pos, sub_ℕ, +ℤ_assoc, zero-*ℤ}
 use Rattle.std.specs.Int.Signed.{non_neg}
 use Rattle.laws.specs.Sums.{sum, sum-wide}
 use Rattle.laws.specs.Differences.{sumℤ, sumℤ-same, difference-sum, non_neg_difference, pos_difference, difference-minus}
-use Rattle.nets.specs.Nets.{Place, Step, Counts, at, tokens, surplus, place_permits}
+use Rattle.nets.specs.Nets.{Place, Step, Counts, at, tokens, effect, surplus, place_permits}
 
 module _ (n : ℕ) where
   -- the initial tokens, and those that the events of v put there
@@ -18,11 +18,28 @@ module _ (n : ℕ) where
   unfoldable pub taken : Place → Counts → ℕ
   taken p v = sum n (λ i. at v i * p.consumed i)
 
+  -- the tokens that they put there
+  abbrev pub put : Place → Counts → ℕ
+  put p v = sum n (λ i. at v i * p.produced i)
+
 pub tokens-is : (n : ℕ) (p : Place) (v : Counts) → tokens n p v ≡ sub_ℕ (given n p v) (taken n p v)
 unfolding tokens given taken
 tokens-is n p v =
     ap (λ (t : ℤ). pos p.initial +ℤ t) (difference-sum n (at v) p.produced p.consumed)
     ∙ pos_difference p.initial (sum n (λ i. at v i * p.produced i)) (sum n (λ i. at v i * p.consumed i))
+
+-- ---- The effect of counts
+
+pub effect_is : (n : ℕ) (p : Place) (v : Counts) → effect n p v ≡ sub_ℕ (put n p v) (taken n p v)
+unfolding effect taken
+effect_is n p v = difference-sum n (at v) p.produced p.consumed
+
+-- it is what they add to the initial tokens
+pub tokens-effect : (n : ℕ) (p : Place) (v : Counts) → tokens n p v ≡ pos p.initial +ℤ effect n p v
+unfolding tokens effect
+tokens-effect n p v = refl
+
+-- ---- The tokens
 
 -- with one event more
 pub given-next : (n : ℕ) (p : Place) (v : Counts) → given (n + 1) p v ≡ given n p v + at v n * p.produced n

@@ -111,6 +111,11 @@ abbrev pub Run : Places → Marking → Word → Marking → Type 0
 Run N M [] M' = (p : Place) → N p → M' p ≡ M p
 Run N M (e ∷ w) M' = (M'' : Marking) × Transition N M e M'' × Run N M'' w M'
 
+-- where it ends counts on the places of N only
+pub run_end : (N : Places) (w : Word) (M M' M'' : Marking) → ((p : Place) → N p → M'' p ≡ M' p) → Run N M w M' → Run N M w M''
+run_end N [] M M' M'' same r = λ p m. same p m ∙ r p m
+run_end N (e ∷ w) M M' M'' same r = (r.0, r.1, run_end N w r.0 M' M'' same r.2)
+
 module _ (n : ℕ) (N : Places) where
   -- M is the marking after the events of u, by equation (1)
   abbrev pub Reached : Marking → Word → Type 0

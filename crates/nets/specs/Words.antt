@@ -8,7 +8,7 @@ use mathlib.Core.List.{List, [], ◌∷◌, ◌++◌, append-nil, append_assoc, 
 use Rattle.std.proofs.Math.Seq.{append_snoc}
 use Rattle.std.specs.Float.Ieee.Fits.{and_i, and_l, and_r}
 use Rattle.laws.specs.Lists.{all-member, all_intro, any_witness, any_intro, equal, equal→eq, eq→equal, member, member→, →member, flat_map-member, flat_map_intro}
-use Rattle.nets.specs.Nets.{Word, Log, Net, Step, counts, step_after, net_permits, permits_after, permits, permits_log, beginnings, prefixes, allowed}
+use Rattle.nets.specs.Nets.{Word, Log, Entry, Net, Step, words, completed_words, counts, step_after, net_permits, permits_after, permits, permits_log, obeys, beginnings, prefixes, allowed}
 
 -- ---- prefixes
 
@@ -84,9 +84,17 @@ prefix-shorter log u s m = ⊎_elim (nil u) longer (prefix→ log (u ++ s) m)
 abbrev pub PermitsLog : ℕ → Net → Log → Type 0
 PermitsLog n net log = T (permits_log n net log)
 
+-- a net obeys completed words
+abbrev pub Obeys : ℕ → Net → Log → Type 0
+Obeys n net completed = T (obeys n net completed)
+
 -- every net that permits the log permits the word: every finite list of places, with numbers of any size
 abbrev pub EveryNetPermits : ℕ → Log → Word → Type 0
 EveryNetPermits n log w = (net : Net) → PermitsLog n net log → T (permits n net w)
+
+-- every net that permits the log and obeys its completed words
+abbrev pub EveryObeyingNetPermits : ℕ → List Entry → Word → Type 0
+EveryObeyingNetPermits n entries w = (net : Net) → PermitsLog n net (words entries) → Obeys n net (completed_words entries) → T (permits n net w)
 
 module _ (n : ℕ) (net : Net) (log : Log) where
   pub permits-word : PermitsLog n net log → (w : Word) → Memᴰ w log → T (permits n net w)
