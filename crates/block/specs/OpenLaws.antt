@@ -1,10 +1,10 @@
 -- Laws of opening: the parts of a sound file, the lowest fault, and one law for each way that opening ends.
 use Rattle.std.specs.Prelude.{◌≡◌, cond, List, [], ◌∷◌, ◌++◌, take, drop, leb}
 use Rattle.std.proofs.Math.Path.{refl, sym, ap}
-use Rattle.std.proofs.Common.{◌∙◌, eq-or-lt_of_le, mul-zero, length-append, length-take, length-drop, drop-drop}
+use Rattle.std.proofs.Common.{◌∙◌, eq-or-lt_of_le, length-append, length-take, length-drop, drop-drop}
 use Rattle.std.proofs.Math.Bool.{Bool, true, false}
 use Rattle.std.proofs.Math.Logic.{⊎_elim}
-use Prim.Native.Nat.{ℕ, zero, suc, ◌+◌, ◌-◌, ◌*◌, ◌/◌, ◌%◌, ◌≤◌, ◌<◌}
+use Prim.Native.Nat.{ℕ, ◌+◌, ◌-◌, ◌*◌, ◌/◌, ◌%◌, ◌≤◌, ◌<◌}
 use native.Mathlib.Omega.{arith}
 use Rattle.std.specs.Simd.{first_chunks}
 use Rattle.std.proofs.Math.ListN.{length, get_or}
@@ -17,6 +17,7 @@ use Rattle.laws.specs.Pieces.{joined, joined-next, length-joined}
 use Rattle.laws.specs.Scans.{first_false-all, first_false-at, first_false-none, first_false-fails, first_false-most}
 use Rattle.limits.specs.Limits.{max_file_size}
 use Rattle.refusals.specs.Table.{file_length_number}
+use Rattle.laws.specs.Chunks.{chunk, length-chunks}
 use Rattle.refusals.specs.Results.{value, refused, passes, fails, passed}
 use Rattle.refusals.specs.Answers.{refusal}
 use Rattle.block.specs.Block.{is_zero, used_count, used_contents, right_count}
@@ -25,22 +26,10 @@ use Rattle.block.specs.BlockLaws.{Rules, rules, right_count-most}
 
 -- ---- The blocks of a file, as the library cuts them
 
--- a piece of n elements among the first k
-chunk : (n k : ℕ) (l : List ℕ) (i : ℕ) (d : List ℕ) → i < k → get_or (first_chunks n k l) i d ≡ take n (drop (n * i) l)
-chunk n zero l i d h = absurd (omega arith)
-chunk n (suc k) l zero d h = rw mul-zero refl
-chunk n (suc k) l (suc i) d h =
-    let next : n + n * i ≡ n * suc i = omega arith in
-    chunk n k (drop n l) i d (omega arith) ∙ ap (take n) (drop-drop (n * i) n l ∙ ap (λ (m : ℕ). drop m l) next)
-
-chunk-count : (n k : ℕ) (l : List ℕ) → length (first_chunks n k l) ≡ k
-chunk-count n zero l = refl
-chunk-count n (suc k) l = ap suc (chunk-count n k (drop n l))
-
 module _ (file : List ℕ) (blocks : List (List ℕ)) (cut : blocks ≡ first_chunks 512 (length file / 512) file) where
   pub blocks-count : length blocks ≡ block_count file
   unfolding block_count
-  blocks-count = ap length cut ∙ chunk-count 512 (length file / 512) file
+  blocks-count = ap length cut ∙ length-chunks 512 (length file / 512) file
 
   pub blocks_at : (k : ℕ) (d : List ℕ) → k < block_count file → get_or blocks k d ≡ block_at file k
   unfolding block_count block_at

@@ -1,5 +1,5 @@
 // The places of a net. Any two bytes are a number, so they are there when so many numbers are. All are inner functions.
-ghost use Rattle.std.specs.Prelude.{◌≡◌, cond, ◌+◌, ◌*◌, ◌≤◌, ◌<◌, ltb, length};
+ghost use Rattle.std.specs.Prelude.{◌≡◌, cond, ◌+◌, ◌*◌, ◌≤◌, ◌<◌, ltb, length, drop};
 ghost use Rattle.laws.specs.Numbers.{number_at};
 ghost use Rattle.limits.specs.Limits.{max_events, max_places};
 ghost use Rattle.bundles.specs.Readers.{places};
@@ -132,7 +132,8 @@ impl<'a> Net<'a> {
 
     // Writes the places to the front of a list, by number, so that each is read once.
     pub fn read_places(&self, places: &mut [Place; MAX_PLACES])
-        ensures { PlacesOf self.now places.new }
+        ensures listed { PlacesOf self.now places.new }
+        ensures rest { drop self.now.count places.new ≡ drop self.now.count places.old }
     {
         for (j, place) in places[..self.count].iter_mut().enumerate() {
             *place = self.place(j);

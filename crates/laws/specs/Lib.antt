@@ -8,6 +8,7 @@ pub mod Distinct
 pub mod Sorting
 pub mod Parts
 pub mod Pieces
+pub mod Chunks
 pub mod Scans
 pub mod Sums
 pub mod Distance

@@ -4,11 +4,11 @@ use mathlib.Core.List.{flat_map}
 use Rattle.laws.specs.Lists.{all, any, keep, tabulate, equal}
 use Rattle.laws.specs.Scans.{first_failing}
 use Rattle.laws.specs.Differences.{negative_part, is_zero_ℤ, sumℤ}
-use Rattle.nets.specs.Nets.{words, completed_words, effect, place_obeys, obeys, same, occurrences, weighed, beginnings, prefixes, add_row, counts, rows, allowed, passes, traffic, row_steps, continuations, allowed_steps, wrong_continuations, tokens, surplus, place_permits, shortfall, net_permits, permits_after, permits, first_refusing, shortfall_of, stopped_at, screen_after, screen, weighs_before, weighs_after, weights_hold}
+use Rattle.nets.specs.Nets.{words, completed_words, place_obeys, obeys, same, occurrences, weighed, beginnings, prefixes, add_row, counts, rows, allowed, passes, traffic, row_steps, continuations, allowed_steps, wrong_continuations, tokens, surplus, place_permits, shortfall, net_permits, permits_after, permits, first_refusing, shortfall_of, stopped_at, screen_after, screen, weighs_before, weighs_after, weights_hold}
 use Rattle.nets.specs.Cases.{Computed}
 
 pub computed : Computed
-unfolding all any keep tabulate equal first_failing negative_part is_zero_ℤ sumℤ words completed_words effect place_obeys obeys same occurrences weighed beginnings prefixes add_row counts rows allowed passes traffic row_steps continuations allowed_steps wrong_continuations tokens surplus place_permits shortfall net_permits permits_after permits first_refusing shortfall_of stopped_at screen_after screen weighs_before weighs_after weights_hold flat_map
+unfolding all any keep tabulate equal first_failing negative_part is_zero_ℤ sumℤ words completed_words place_obeys obeys same occurrences weighed beginnings prefixes add_row counts rows allowed passes traffic row_steps continuations allowed_steps wrong_continuations tokens surplus place_permits shortfall net_permits permits_after permits first_refusing shortfall_of stopped_at screen_after screen weighs_before weighs_after weights_hold flat_map
 computed = record {
   rows_i = refl;
   allowed_i = refl;

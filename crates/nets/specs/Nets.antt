@@ -191,13 +191,13 @@ module _ (n : ℕ) where
 
   -- ---- Places and nets
 
+  -- the effect of counts u on a place: sum of u(i) × (in(i) − out(i))
+  abbrev pub effect : Place → Counts → ℤ
+  effect p u = sumℤ n (λ i. pos (at u i) *ℤ (pos (p.produced i) -ℤ pos (p.consumed i)))
+
   -- the tokens in a place after counts v (its marking): m + sum of v(i) × (in(i) − out(i))
   unfoldable pub tokens : Place → Counts → ℤ
-  tokens p v = pos p.initial +ℤ sumℤ n (λ i. pos (at v i) *ℤ (pos (p.produced i) -ℤ pos (p.consumed i)))
-
-  -- the effect of counts u on a place: sum of u(i) × (in(i) − out(i))
-  unfoldable pub effect : Place → Counts → ℤ
-  effect p u = sumℤ n (λ i. pos (at u i) *ℤ (pos (p.produced i) -ℤ pos (p.consumed i)))
+  tokens p v = pos p.initial +ℤ effect p v
 
   -- the surplus at (v, e): m + sum of v(i) × (in(i) − out(i)) − out(e)
   unfoldable pub surplus : Place → Step → ℤ

@@ -10,17 +10,17 @@ use Rattle.laws.specs.Differences.{sumℤ, sumℤ-same, difference-sum, non_neg_
 use Rattle.nets.specs.Nets.{Place, Step, Counts, at, tokens, effect, surplus, place_permits}
 
 module _ (n : ℕ) where
-  -- the initial tokens, and those that the events of v put there
+  -- the tokens that the events of v put there
+  abbrev pub put : Place → Counts → ℕ
+  put p v = sum n (λ i. at v i * p.produced i)
+
+  -- these and the initial tokens
   unfoldable pub given : Place → Counts → ℕ
-  given p v = p.initial + sum n (λ i. at v i * p.produced i)
+  given p v = p.initial + put p v
 
   -- the tokens that the events of v took away
   unfoldable pub taken : Place → Counts → ℕ
   taken p v = sum n (λ i. at v i * p.consumed i)
-
-  -- the tokens that they put there
-  abbrev pub put : Place → Counts → ℕ
-  put p v = sum n (λ i. at v i * p.produced i)
 
 pub tokens-is : (n : ℕ) (p : Place) (v : Counts) → tokens n p v ≡ sub_ℕ (given n p v) (taken n p v)
 unfolding tokens given taken
@@ -31,12 +31,12 @@ tokens-is n p v =
 -- ---- The effect of counts
 
 pub effect_is : (n : ℕ) (p : Place) (v : Counts) → effect n p v ≡ sub_ℕ (put n p v) (taken n p v)
-unfolding effect taken
+unfolding taken
 effect_is n p v = difference-sum n (at v) p.produced p.consumed
 
 -- it is what they add to the initial tokens
 pub tokens-effect : (n : ℕ) (p : Place) (v : Counts) → tokens n p v ≡ pos p.initial +ℤ effect n p v
-unfolding tokens effect
+unfolding tokens
 tokens-effect n p v = refl
 
 -- ---- The tokens

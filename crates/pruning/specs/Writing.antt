@@ -1,7 +1,7 @@
 -- The parts of a pruned bundle, as the code writes them: places, then certificates.
 use Rattle.std.specs.Prelude.{◌≡◌, Bool, ℕ, ◌+◌, ◌*◌, ◌≤◌, ◌<◌, ltb, set, replicate}
 use Rattle.std.proofs.Math.Path.{refl, sym, ap}
-use Rattle.std.proofs.Common.{◌∙◌, ⊎_elim, arith, eqb-true, ltb-true, ltb-false, lt-ltb, le-ltb, length-append}
+use Rattle.std.proofs.Common.{◌∙◌, ⊎_elim, arith, eqb-true, ltb-true, ltb-false, lt-ltb, le-ltb, length-append, drop, take}
 use Rattle.std.proofs.Math.Bool.{true, false, cond}
 use mathlib.Core.List.{List, [], ◌∷◌, ◌++◌, flat_map, append_assoc}
 use Rattle.std.proofs.lemmas.Bool.{eqb-false}
@@ -15,12 +15,13 @@ use Rattle.laws.specs.Spans.{set-tabulate}
 use Rattle.limits.specs.Limits.{max_places}
 use Rattle.bundles.specs.Layout.{PlaceFields, CertificateFields, Contents, InLimits, place_bytes, certificate_bytes, front_bytes, bytes_of}
 use Rattle.bundles.specs.PlaceReading.{place_size}
-use Rattle.contents.specs.Contents.{bytes-parts, places-length}
+use Rattle.contents.specs.Contents.{contents_of, bytes-parts, places-length}
 use Rattle.contents.specs.Certificates.{place, weights, piece_of, place-back, weights-back}
 use Rattle.pruning.specs.Pruning.{named, renumbered, pruned}
 use Rattle.pruning.specs.PruneLaws.{certificates-length, pruned-head}
 use Rattle.pruning.specs.Marking.{marks_of, marked, marks-named}
 use Rattle.pruning.specs.Pushing.{HasRoom, Pushed, room_behind, pushed-next}
+use Rattle.pruning.specs.declared.marking.Marked.{Marked}
 use Rattle.pruning.specs.declared.writing.Writer.{Writer}
 
 -- ---- places
@@ -32,6 +33,14 @@ place_piece c j p = cond (named c.certificates j) (place_bytes p) []
 pub places-all : (c : Contents) → rewritten (place_piece c) c.head.places ≡ flat_map place_bytes (pruned c).head.places
 unfolding pruned
 places-all c = rewritten-kept place_bytes (named c.certificates) c.head.places
+
+-- k places are behind: what is left of their bytes, cut into so many, and of their marks, and what was written of them
+pub record PlacesBehind (self : Marked) (k size : ℕ) (bytes : List ℕ) (marks : List Bool) (before after : Writer) : Type 0 where
+  pub most : k ≤ length (contents_of self.parts.bundle.now).head.places
+  pub size_is : size ≡ self.parts.place_size
+  pub rest : bytes ≡ drop (k * self.parts.place_size) self.parts.places.now
+  pub marks_left : marks ≡ drop k self.marks
+  pub pushed : Pushed before after (rewritten (place_piece (contents_of self.parts.bundle.now)) (take k (contents_of self.parts.bundle.now).head.places))
 
 -- ---- numbers
 

@@ -1,25 +1,13 @@
-use Rattle.std.proofs.Common.{◌≡◌, refl, sym, ap, subst, ◌∙◌, List, ℕ, zero, suc, ◌+◌, ◌-◌, ◌*◌, ◌/◌, ◌%◌, ◌<◌, length, take, drop, get_or, reverse, mul-zero, length-append, length-drop, take_all, rules, arith}
-use Rattle.std.proofs.Math.Seq.{drop-drop}
+use Rattle.std.proofs.Common.{◌≡◌, refl, sym, ap, subst, ◌∙◌, List, ℕ, ◌+◌, ◌-◌, ◌*◌, ◌/◌, ◌%◌, ◌<◌, length, take, drop, get_or, reverse, length-append, length-drop, take_all, rules, arith}
 use Rattle.std.specs.Simd.{first_chunks}
 use Rattle.std.proofs.lemmas.List.{get_or-reverse, length-reverse}
 use Rattle.std.proofs.lemmas.Iterator.Adapters.{YieldsList-from_rev_slice}
 use Rattle.std.proofs.lemmas.Iterator.Consumers.{YieldsList-turn, YieldsList-end}
+use Rattle.laws.specs.Chunks.{chunk, length-chunks}
 use Rattle.sums.specs.Checksums.{plain_sum, position_sum}
 use Rattle.sums.specs.Adding.{RowsAdded, last-room, last-added, row_room, row-added, all_narrow, all_plain, all-position}
 use Rattle.sums.proofs.sums_of.Goals as goal
 use Rattle.sums.proofs.sums_of.Goals.{In-Some, In-None}
-
--- a chunk among the first ones
-chunk : (n k : ℕ) (l : List ℕ) (i : ℕ) (d : List ℕ) → i < k → get_or (first_chunks n k l) i d ≡ take n (drop (n * i) l)
-chunk n zero l i d h = absurd (omega arith)
-chunk n (suc k) l zero d h = rw mul-zero refl
-chunk n (suc k) l (suc i) d h =
-    let next : n + n * i ≡ n * suc i = omega arith in
-    chunk n k (drop n l) i d (omega arith) ∙ ap (take n) (drop-drop (n * i) n l ∙ ap (λ (m : ℕ). drop m l) next)
-
-chunks-size : (n k : ℕ) (l : List ℕ) → length (first_chunks n k l) ≡ k
-chunks-size n zero l = refl
-chunks-size n (suc k) l = ap suc (chunks-size n k (drop n l))
 
 module _ (bytes : List ℕ) (size : length bytes ≡ 508) where
   -- the bytes behind the rows
@@ -31,7 +19,7 @@ module _ (bytes : List ℕ) (size : length bytes ≡ 508) where
       → row ≡ get_or (reverse rows) k row → (k < 15) × (row ≡ take 32 (drop (32 * (15 - k - 1)) bytes))
   row_is rows k row are inside e =
       let all : rows ≡ first_chunks 32 15 bytes = are ∙ rw size refl in
-      let count : length rows ≡ 15 = ap length all ∙ chunks-size 32 15 bytes in
+      let count : length rows ≡ 15 = ap length all ∙ length-chunks 32 15 bytes in
       let within : k < 15 = omega (arith, inside, length-reverse rows, count) in
       let place : length rows - 1 - k ≡ 15 - k - 1 = omega (arith, count) in (
         within,
