@@ -4,10 +4,12 @@
     python3 examples/write_bundle.py OUT N WORD...
 
 N is the event count, and each WORD its events joined by commas, as 0,0,1; an
-empty string is the empty word. Finds places and weights for the log, writes the
-sealed file to OUT, and prints how many rows, allowed steps, places and
-certificates it has. Needs Python 3.9 or later, and nothing else. docs/FORMAT.md
-says what the bytes mean, and how places and weights are found.
+empty string is the empty word. A dot at the end, as in 0,0,1. marks a word as
+completed: after it each place has its initial tokens again. Finds places and
+weights for the log, writes the sealed file to OUT, in the new edition where a word
+is completed, and prints how many rows, allowed steps, places and certificates it
+has. Needs Python 3.9 or later, and nothing else. docs/FORMAT.md says what the bytes
+mean, and how places and weights are found.
 
 Ends with 0 when the file is written, 1 when the log or the numbers found for it
 are beyond the limits of the format, 2 for wrong arguments, 3 when OUT cannot be
@@ -21,8 +23,8 @@ import sys
 from fractions import Fraction
 
 MAX_EVENTS, MAX_WORDS, MAX_LENGTH, MAX_LOG_EVENTS, MAX_ROWS = 12, 255, 255, 1_024, 256
-MAX_PLACES, MAX_NUMBER, MAX_BUNDLE = 64, 65_535, 64_512
-CONTENTS, MODULUS = 504, 65_521
+MAX_PLACES, MAX_NUMBER, MAX_SIGNED, MAX_BUNDLE = 64, 65_535, 32_767, 64_512
+CONTENTS, MODULUS, NEW_EDITION = 504, 65_521, 128
 
 
 class Usage(Exception):
@@ -43,13 +45,23 @@ def within(number, most, what):
 def rows_of(n, words):
     """The rows by first occurrence: the counts, and the events that follow them."""
     rows = {(0,) * n: set()}
-    for word in words:
+    for events, _ in words:
         counts = (0,) * n
-        for event in word:
+        for event in events:
             rows[counts].add(event)
             counts = tuple(count + (i == event) for i, count in enumerate(counts))
             rows.setdefault(counts, set())
     return rows
+
+
+def completed_of(n, words):
+    """The completed words, each as its number and its counts, equal counts once."""
+    first = {}
+    for number, (events, completed) in enumerate(words):
+        counts = tuple(events.count(i) for i in range(n))
+        if completed and any(counts):
+            first.setdefault(counts, number)
+    return [(number, counts) for counts, number in first.items()]
 
 
 def steps(rows, allowed):
@@ -67,6 +79,16 @@ def slopes(counts, event):
     return [1, *counts, *(-count - (i == event) for i, count in enumerate(counts))]
 
 
+def change_slopes(counts, sign=1):
+    """How m, each in(i) and each out(i) count in what a word with these counts leaves."""
+    return [0, *(sign * count for count in counts), *(-sign * count for count in counts)]
+
+
+def change(place, counts):
+    """The sum of u(i) * (in(i) - out(i)): 0 where a place obeys the completed word."""
+    return sum(x * slope for x, slope in zip(place, change_slopes(counts)))
+
+
 def surplus(place, counts, event):
     """m + the sum of v(i) * (in(i) - out(i)) - out(e): below 0 where e is refused."""
     return sum(x * slope for x, slope in zip(place, slopes(counts, event)))
@@ -79,6 +101,8 @@ def solve(allowed, wrong):
     with a surplus of 0 or more at each allowed step. Over it, minus the surplus at the
     wrong step is unbounded, along a ray that is such a place, or at most 0: then that
     surplus is a sum of allowed ones and of numbers x, with no negative weight.
+    An equality is two lines, of which one is the negative of the other: the weight of
+    the first less that of the second is free.
 
     This is the simplex method. Each line says how a basic variable depends on the
     free ones; at first the numbers x are free, and the surpluses are basic. Taking
@@ -139,34 +163,42 @@ def small(place):
     return up + [number * MAX_NUMBER // largest for number in place[ups:]]
 
 
-def weights_hold(k, terms, v, e):
+def weights_hold(k, terms, pairs, v, e):
     """The three inequalities of a certificate of kind 1; f == i is [f = i]."""
     return sum(g for _, _, _, g in terms) <= k and all(
-        sum(g * u[i] for _, u, _, g in terms) <= k * v[i]
-        and sum(g * (u[i] + (f == i)) for _, u, f, g in terms) >= k * (v[i] + (e == i))
+        sum(g * u[i] for _, u, _, g in terms) + of_pairs <= k * v[i]
+        and sum(g * (u[i] + (f == i)) for _, u, f, g in terms) + of_pairs >= k * (v[i] + (e == i))
         for i in range(len(v))
+        for of_pairs in [sum(h * u[i] for _, u, h in pairs)]
     )
 
 
-def certify(places, allowed, counts, event):
-    """The certificate of a wrong continuation: the number of a place, or k and terms.
+def certify(places, allowed, completed, counts, event):
+    """The certificate of a wrong continuation: a place's number, or k, terms and pairs.
 
-    A new place is added to the places. A term is an allowed step and its weight. At
-    most 2n + 1 weights are not 0, one for each free variable: never too many terms.
+    A new place is added to the places. A term is an allowed step and its weight, a pair
+    a completed word and its weight. At most 2n + 1 weights are not 0, one for each free
+    variable: never too many terms or pairs.
     """
     for number, place in enumerate(places):
         if surplus(place, counts, event) < 0:
             return number
     lines = [slopes(u, f) for _, u, f in allowed]
+    lines += [change_slopes(u, sign) for _, u in completed for sign in (1, -1)]
     place, weights = solve(lines, slopes(counts, event))
     if place is None:
         k, weights = whole(weights)
         terms = [(*step, g) for step, g in zip(allowed, weights) if g > 0]
-        assert k >= 1 and weights_hold(k, terms, counts, event)
-        return k, terms
+        signed = weights[len(allowed) :]
+        signed = [up - down for up, down in zip(signed[::2], signed[1::2])]
+        pairs = [(*word, h) for word, h in zip(completed, signed) if h]
+        assert k >= 1 and weights_hold(k, terms, pairs, counts, event)
+        return k, terms, pairs
     places.append(small(place))
     assert all(surplus(places[-1], u, f) >= 0 for _, u, f in allowed)
-    if surplus(places[-1], counts, event) >= 0:
+    # A place that was rounded may refuse no longer, or not obey.
+    obeys = all(change(places[-1], u) == 0 for _, u in completed)
+    if surplus(places[-1], counts, event) >= 0 or not obeys:
         raise Limit(f"a number of a place: no place was found with at most {MAX_NUMBER}")
     return len(places) - 1
 
@@ -176,25 +208,38 @@ def two_bytes(number, what="a number"):
     return within(number, MAX_NUMBER, what).to_bytes(2, "little")
 
 
-def certificate_bytes(certificate):
-    """A certificate of kind 0, or of kind 1."""
+def signed_bytes(number, what):
+    """A signed number of two bytes, in two's complement."""
+    within(max(number, -number - 1), MAX_SIGNED, what)
+    return number.to_bytes(2, "little", signed=True)
+
+
+def certificate_bytes(certificate, is_new):
+    """A certificate of kind 0, or of kind 1; in the new edition this has its pairs."""
     if isinstance(certificate, int):
         return bytes([0, certificate])
-    k, terms = certificate
+    k, terms, pairs = certificate
     written = b"\1" + two_bytes(k, "k") + bytes([len(terms)])
     for row, _, event, weight in terms:
         written += two_bytes(row) + bytes([event]) + two_bytes(weight, "a weight")
+    if is_new:
+        written += bytes([len(pairs)])
+        for word, _, weight in pairs:
+            written += bytes([word]) + signed_bytes(weight, "a weight of a word")
     return written
 
 
 def bundle_of(n, words, places, certificates):
-    """The bytes of the bundle."""
+    """The bytes of the bundle: in the new edition where a word is completed."""
     within(len(places), MAX_PLACES, "places")
-    parts = [bytes([n, len(words)])]
-    parts += [bytes([len(word), *word]) for word in words]
+    is_new = any(completed for _, completed in words)
+    parts = [bytes([n + NEW_EDITION * is_new, len(words)])]
+    for events, completed in words:
+        mark = [completed] if is_new else []
+        parts.append(bytes([len(events), *mark, *events]))
     parts.append(bytes([len(places)]))
     parts += [two_bytes(number) for place in places for number in place]
-    parts += [certificate_bytes(certificate) for certificate in certificates]
+    parts += [certificate_bytes(certificate, is_new) for certificate in certificates]
     return b"".join(parts)
 
 
@@ -224,15 +269,17 @@ def replace(path, contents):
 
 
 def read_arguments(arguments):
-    """OUT, N and the words."""
+    """OUT, N and the words, each as its events and whether it is completed."""
     if len(arguments) < 2 or not re.fullmatch("[0-9]{1,3}", arguments[1]):
         raise Usage("usage: write_bundle.py OUT N WORD...")
     out, n, words = arguments[0], int(arguments[1]), []
     for text in arguments[2:]:
-        if not re.fullmatch("([0-9]{1,3}(,[0-9]{1,3})*)?", text):
+        if not re.fullmatch("([0-9]{1,3}(,[0-9]{1,3})*)?[.]?", text):
             raise Usage(f"no word of events joined by commas: {text!r}")
-        words.append([int(event) for event in text.split(",")] if text else [])
-        if any(event >= n for event in words[-1]):
+        joined = text.rstrip(".")
+        events = [int(event) for event in joined.split(",")] if joined else []
+        words.append((events, text.endswith(".")))
+        if any(event >= n for event in events):
             raise Usage(f"an event is not below {n}: {text!r}")
     return out, n, words
 
@@ -242,12 +289,16 @@ def write(out, n, words):
     if not 1 <= n <= MAX_EVENTS:
         raise Limit(f"the event count: {n}, and 1 to {MAX_EVENTS} is allowed")
     within(len(words), MAX_WORDS, "words")
-    within(max(map(len, words), default=0), MAX_LENGTH, "events of a word")
-    within(sum(map(len, words)), MAX_LOG_EVENTS, "events of the log")
+    lengths = [len(events) for events, _ in words]
+    within(max(lengths, default=0), MAX_LENGTH, "events of a word")
+    within(sum(lengths), MAX_LOG_EVENTS, "events of the log")
     rows = rows_of(n, words)
     within(len(rows), MAX_ROWS, "rows")
     allowed, wrong, places = steps(rows, True), steps(rows, False), []
-    certificates = [certify(places, allowed, counts, event) for _, counts, event in wrong]
+    completed = completed_of(n, words)
+    certificates = [
+        certify(places, allowed, completed, counts, event) for _, counts, event in wrong
+    ]
     replace(out, seal(bundle_of(n, words, places, certificates)))
     by_place = sum(isinstance(certificate, int) for certificate in certificates)
     return (

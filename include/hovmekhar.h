@@ -27,18 +27,23 @@
  *
  * These set bits are the allowed steps. A pair of a row and an event below n
  * with its bit clear is a wrong continuation; they are numbered from 0, by row
- * and then by event. A bundle that is judged holds in this order:
+ * and then by event. A bundle that is judged has one of two editions, which every
+ * call that takes a bundle reads. It holds in this order:
  *
- *   1 byte         n, 1 to 12
+ *   1 byte         n, 1 to 12; in the new edition HOV_NEW_EDITION + n
  *   1 byte         the number of words
- *   each word      its length (1 byte), then its events
+ *   each word      its length (1 byte), in the new edition then its mark (1 byte,
+ *                  0 partial or 1 completed), then its events
  *   1 byte         the number of places, 0 to 64
  *   each place     m, its initial tokens, then n numbers in(i), then n numbers
  *                  out(i), all of two bytes
  *   a certificate  for each wrong continuation, of kind 0: 0 and the number of a
  *                  place (1 byte each); or of kind 1: 1 (1 byte), k (2 bytes, at
  *                  least 1), the number of terms (1 byte, 0 to 64), and for each
- *                  term a row (2 bytes), an event (1 byte), a weight (2 bytes)
+ *                  term a row (2 bytes), an event (1 byte), a weight (2 bytes);
+ *                  in the new edition then the number of pairs (1 byte, 0 to 64),
+ *                  and for each pair a word's number (1 byte, from 0) and a signed
+ *                  weight (2 bytes, in two's complement)
  *
  * A place permits event e after the counts v when its surplus is 0 or more:
  * m + the sum of v(i) * (in(i) - out(i)) - out(e). It fits when it permits every
@@ -46,7 +51,14 @@
  * e after v. One of kind 1, with weights g on allowed steps (u, f), holds when
  * the sum of g is at most k and, for each event i, the sum of g * u(i) is at
  * most k * v(i) and the sum of g * (u(i) + [f = i]) is at least
- * k * (v(i) + [e = i]), where [ ] is 1 if true, else 0.
+ * k * (v(i) + [e = i]), where [ ] is 1 if true, else 0. In the new edition, with
+ * signed weights h on completed words with the counts u, the sum of h * u(i) is
+ * added to the left side of these two, for each event i. A pair may not name a
+ * partial word.
+ *
+ * A place obeys the completed words of a log when the sum of u(i) * (in(i) - out(i))
+ * is 0 for the counts u of each: it has its initial tokens again. In the old edition
+ * no word is completed.
  *
  * A place is idle when no certificate of kind 0 names it. Pruning leaves the idle
  * places of an accepted bundle out.
@@ -88,9 +100,9 @@ extern "C" {
 #endif
 
 /** The version, as text and in its three numbers. */
-#define HOV_VERSION "0.9.0"
+#define HOV_VERSION "0.10.0"
 #define HOV_VERSION_MAJOR 0
-#define HOV_VERSION_MINOR 9
+#define HOV_VERSION_MINOR 10
 #define HOV_VERSION_PATCH 0
 
 /** Bytes of a block. */
@@ -132,6 +144,12 @@ extern "C" {
 
 /** The largest number of terms in a certificate of kind 1. */
 #define HOV_MAX_TERMS 64
+
+/** The largest number of pairs in a certificate of kind 1 of the new edition. */
+#define HOV_MAX_PAIRS 64
+
+/** By how much the first byte of a bundle of the new edition is above n. */
+#define HOV_NEW_EDITION 128
 
 /** The largest number of events in a word that is screened. */
 #define HOV_MAX_WORD_EVENTS 65535
@@ -199,7 +217,7 @@ enum hov_refusal {
 
     /**
      * take, judge, prune, screen, screen_joined: a value is outside its range, or
-     * names a row, event or place that is not there.
+     * names a row, event, place or word that is not there.
      * Spot: the offset of the field; in a lent word, the position in the word.
      * As it was: from take, the table; from prune, the output. The judge, refusing
      * with any number but 4 and 5, leaves the table's numbers 0 to 3,583 zero and
@@ -235,8 +253,8 @@ enum hov_refusal {
     HOV_PLACE_PERMITS = 11,
 
     /**
-     * judge, prune: a certificate of kind 1 does not hold, or the step of one of
-     * its terms is not allowed.
+     * judge, prune: a certificate of kind 1 does not hold, the step of one of its
+     * terms is not allowed, or one of its pairs names a partial word.
      * Spot: the certificate's number. As it was: as for HOV_PLACE_MISFIT.
      */
     HOV_WEIGHTS = 12,
@@ -283,7 +301,13 @@ enum hov_refusal {
      * screen_joined: the event counts of the two bundles are not the same.
      * Spot: 0. As it was: the inputs.
      */
-    HOV_EVENT_COUNTS = 19
+    HOV_EVENT_COUNTS = 19,
+
+    /**
+     * judge, prune: a place does not obey the completed words; all places fit.
+     * Spot: the lowest such place. As it was: as for HOV_PLACE_MISFIT.
+     */
+    HOV_PLACE_DISOBEYS = 20
 };
 
 /**
@@ -363,8 +387,8 @@ uint32_t hov_take(size_t n, size_t rows, size_t events,
                   uint64_t answer[4]);
 
 /**
- * Judges a bundle: it is accepted when every place fits and every certificate
- * holds. table_len counts numbers, not bytes.
+ * Judges a bundle: it is accepted when every place fits and obeys the completed
+ * words, and every certificate holds. table_len counts numbers, not bytes.
  *
  * Returns HOV_OK when it is accepted, with four counts in answer[0] to
  * answer[3]: the rows, the allowed steps, the certificates of kind 0 and those
@@ -377,9 +401,10 @@ uint32_t hov_take(size_t n, size_t rows, size_t events,
  * HOV_NUMBERS_SHORT; they leave the table as it was. Then the others come in the
  * order of the bundle, and leave the first HOV_TABLE_SIZE numbers of the table
  * zero and the rest as it was. A word's length byte is followed by HOV_EVENTS,
- * then by its events one by one, with HOV_BUNDLE_END or HOV_VALUE at the first
- * that is missing or wrong, then by HOV_ROWS. HOV_PLACE_MISFIT comes after the last
- * place. A certificate is read whole before HOV_PLACE_PERMITS or HOV_WEIGHTS.
+ * then by its mark, where it has one, and its events one by one, with HOV_BUNDLE_END
+ * or HOV_VALUE at the first that is missing or wrong, then by HOV_ROWS.
+ * HOV_PLACE_MISFIT comes after the last place, then HOV_PLACE_DISOBEYS. A certificate
+ * is read whole before HOV_PLACE_PERMITS or HOV_WEIGHTS.
  */
 uint32_t hov_judge(const uint8_t *bundle, size_t bundle_len,
                    uint16_t *table, size_t table_len,
@@ -393,11 +418,12 @@ uint32_t hov_judge(const uint8_t *bundle, size_t bundle_len,
  *
  * The other places keep their order, and a certificate of kind 0 names its place by
  * the new number: how many places that stay stand before it. All else is the same
- * byte for byte: n, the words and the certificates of kind 1. So the result is
- * accepted with the same four counts and leaves the same table, and it is never
- * longer. A prefix of the log with one event added is permitted by the new net when
- * the old one permits it, and only then; a word that leaves the log earlier may be
- * permitted although it was not. Pruning the result once more changes nothing.
+ * byte for byte: the edition and n, the words with their marks, and the certificates
+ * of kind 1 with their pairs. So the result is accepted with the same four counts and
+ * leaves the same table, and it is never longer. A prefix of the log with one event
+ * added is permitted by the new net when the old one permits it, and only then; a
+ * word that leaves the log earlier may be permitted although it was not. Pruning the
+ * result once more changes nothing.
  *
  * Returns HOV_OK, with the length of the result in answer[0]. Or returns the first
  * refusal that applies, with its spot in answer[0]: those of hov_judge in its order,
@@ -429,8 +455,9 @@ uint32_t hov_prune(const uint8_t *bundle, size_t bundle_len,
  * answer[1] to answer[3] stay as they were. HOV_WORD_LENGTH comes first, then
  * HOV_BUNDLE_LENGTH. Then HOV_BUNDLE_END, HOV_VALUE and HOV_EVENTS come in the
  * order of the bundle, up to its last place: a word's length byte is followed by
- * HOV_EVENTS, then by its events one by one. HOV_WORD_EVENT comes last, for the
- * first event of the screened word that is not below n.
+ * HOV_EVENTS, then by its mark, where it has one, and its events one by one.
+ * HOV_WORD_EVENT comes last, for the first event of the screened word that is not
+ * below n.
  *
  * Both inputs stay as they were.
  */
@@ -439,10 +466,10 @@ uint32_t hov_screen(const uint8_t *bundle, size_t bundle_len,
                     uint64_t answer[4]);
 
 /**
- * Screens a word with the places of two bundles of the same event count: replays
- * its events on the places of the first, and behind them those of the second. Each
- * bundle is read as hov_screen reads one, and need not be one that hov_judge
- * accepts. No bundle is written.
+ * Screens a word with the places of two bundles of the same event count, whatever
+ * their editions: replays its events on the places of the first, and behind them
+ * those of the second. Each bundle is read as hov_screen reads one, and need not be
+ * one that hov_judge accepts. No bundle is written.
  *
  * Returns HOV_OK when every place of both permits every step of the word, and
  * HOV_STOPPED when some step is refused, with answer as from hov_screen. The places
@@ -484,8 +511,8 @@ static inline const char *hov_refusal_text(uint32_t number)
     case HOV_BUNDLE_END:
         return "the bundle ends before or inside a field";
     case HOV_VALUE:
-        return "a value is outside its range, or names a row, event or "
-               "place that is not there";
+        return "a value is outside its range, or names a row, event, place "
+               "or word that is not there";
     case HOV_EVENTS:
         return "the events would pass 1,024";
     case HOV_ROWS:
@@ -495,8 +522,9 @@ static inline const char *hov_refusal_text(uint32_t number)
     case HOV_PLACE_PERMITS:
         return "a certificate of kind 0 whose place permits the step";
     case HOV_WEIGHTS:
-        return "a certificate of kind 1 whose weights do not hold, or "
-               "with a step that is not allowed";
+        return "a certificate of kind 1 whose weights do not hold, with a "
+               "step that is not allowed, or with a word that is not "
+               "completed";
     case HOV_BYTES_FOLLOW:
         return "bytes follow the last certificate";
     case HOV_WORD_LENGTH:
@@ -513,6 +541,9 @@ static inline const char *hov_refusal_text(uint32_t number)
                "zero";
     case HOV_EVENT_COUNTS:
         return "the event counts of the two bundles are not the same";
+    case HOV_PLACE_DISOBEYS:
+        return "a place does not return to its initial tokens after a "
+               "completed word";
     default:
         return "no refusal has this number";
     }

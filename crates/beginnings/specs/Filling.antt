@@ -35,7 +35,7 @@ pub record Fills {A : Type 0} (Half : ℕ → Type 0) (r : Reader A) (P : A → 
 
 module _ {Size : ℕ → Type 0} {A B : Type 0} {r : Reader A} (local : Local Size r) where
   -- the first is filled, then the second
-  filled-then : (f : A → Reader B) (b : List ℕ) (at : ℕ) (s : Filled r b at) → Filled (f s.item) (b ++ s.more) (length (b ++ s.more))
+  pub filled-then : (f : A → Reader B) (b : List ℕ) (at : ℕ) (s : Filled r b at) → Filled (f s.item) (b ++ s.more) (length (b ++ s.more))
       → Filled (r >>= f) b at
   unfolding bind onward
   filled-then f b at s t =
@@ -80,7 +80,7 @@ module _ {Size : ℕ → Type 0} {A B : Type 0} {r : Reader A} (local : Local Si
           ((rest s.item (first.holds (b ++ s.more) s.bytes at s.item _ s.read)).starts (b ++ s.more) s.bytes)
 
 -- no more is needed
-nothing-more : {A : Type 0} {r : Reader A} (b : List ℕ) → Bytes b → (x : A) → r b (length b) ≡ got x (length b) → Filled r b (length b)
+pub nothing-more : {A : Type 0} {r : Reader A} (b : List ℕ) → Bytes b → (x : A) → r b (length b) ≡ got x (length b) → Filled r b (length b)
 nothing-more {r = r} b bytes x e = record {
   more = [];
   bytes = rw append-nil bytes;
@@ -117,12 +117,13 @@ module _ {Half : ℕ → Type 0} where
     fills_each [] before p = fills_give before p
     fills_each (s ∷ ss) before p = fills_then (local s before) (every s before p) (λ x q. fills_each ss (before ++ x ∷ []) q)
 
+  -- whatever it reads
+  pub fills_less : {A : Type 0} {r : Reader A} {P : A → Type 0} → Fills Half r P → Fills Half r (λ x. Unit {0})
+  fills_less f = record { holds = λ b bytes at x next e. tt; starts = f.starts; ends = f.ends }
+
   pub fills_times : {Size : ℕ → Type 0} {A : Type 0} {r : Reader A} {P : A → Type 0} → Local Size r → Fills Half r P → (k : ℕ)
       → Fills Half (times k r) (λ xs. Unit {0})
-  fills_times {r = r} local one k = fills_each {P = λ xs. Unit {0}} (λ s before. local) (λ s before u. less one) _ [] tt
-    where
-      less : {Q : _ → Type 0} → Fills Half r Q → Fills Half r (λ x. Unit {0})
-      less f = record { holds = λ b bytes at x next e. tt; starts = f.starts; ends = f.ends }
+  fills_times local one k = fills_each {P = λ xs. Unit {0}} (λ s before. local) (λ s before u. fills_less one) _ [] tt
 
 -- ---- by the law of a reader: a valid value is written behind the bundle
 

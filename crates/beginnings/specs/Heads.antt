@@ -12,10 +12,10 @@ use Rattle.laws.specs.Lists.{any, among}
 use Rattle.laws.specs.Numbers.{Bytes, bytes_take}
 use Rattle.refusals.specs.Table.{bundle_end_number, rows_number}
 use Rattle.refusals.specs.Results.{Result, value, refused, bind}
-use Rattle.nets.specs.Nets.{Word, Log, event_count}
+use Rattle.nets.specs.Nets.{Log, Entry, words, event_count}
 use Rattle.bundles.specs.Reading.{Read, item, onward, and_then, give, require, each}
-use Rattle.bundles.specs.Layout.{Head, HeadInLimits, head_bytes}
-use Rattle.bundles.specs.Readers.{first_byte, word_after, word, head_after, head, any_rows}
+use Rattle.bundles.specs.Layout.{First, Head, HeadInLimits, head_bytes}
+use Rattle.bundles.specs.Readers.{any_rows, entry_after, entry, first, head_after, head}
 use Rattle.bundles.specs.ReadingLaws.{Law, law-same}
 use Rattle.bundles.specs.LayoutLaws.{law-head}
 use Rattle.bundles.specs.Limits.{head→limits, limits→head, got→front, front→got}
@@ -51,32 +51,34 @@ module _ {A B : Type 0} where
       nine e = let n : number ≡ rows_number = cc in let s : at ≡ spot = cc in rw (n, s)
 
 module _ (rows_fit : ℕ → Log → Bool) (b : List ℕ) where
-  unlimited_word : (n : ℕ) (log : Log) (at : ℕ) → Unlimited (word (rows_fit n) n log b at) (word (any_rows n) n log b at)
-  unfolding word bind onward require
-  unlimited_word n log at = unlimited_bind (word_after n (event_count log) b at) (word_after n (event_count log) b at) _ _ (inl refl)
-      (elim [ item w next ↦ tested w next (rows_fit n (log ++ w ∷ [])) ])
+  unlimited_entry : (f : First) (before : List Entry) (at : ℕ)
+      → Unlimited (entry (rows_fit f.events) f before b at) (entry (any_rows f.events) f before b at)
+  unfolding entry bind onward require
+  unlimited_entry f before at =
+      let read = entry_after f (event_count (words before)) b at in
+      unlimited_bind read read _ _ (inl refl) (elim [ item x next ↦ tested x next (rows_fit f.events (words (before ++ x ∷ []))) ])
     where
-      tested : (w : Word) (next : ℕ) (ok : Bool)
-          → Unlimited (and_then (require ok rows_number at b next) (λ u. give w) b) (and_then (require true rows_number at b next) (λ u. give w) b)
-      tested w next true = inl refl
-      tested w next false = inr (at, refl)
+      tested : (x : Entry) (next : ℕ) (ok : Bool)
+          → Unlimited (and_then (require ok rows_number at b next) (λ u. give x) b) (and_then (require true rows_number at b next) (λ u. give x) b)
+      tested x next true = inl refl
+      tested x next false = inr (at, refl)
 
-  unlimited_each : (n : ℕ) {S : Type 0} (ss : List S) (log : Log) (at : ℕ)
-      → Unlimited (each (λ s. word (rows_fit n) n) ss log b at) (each (λ s. word (any_rows n) n) ss log b at)
+  unlimited_each : (f : First) {S : Type 0} (ss : List S) (before : List Entry) (at : ℕ)
+      → Unlimited (each (λ s. entry (rows_fit f.events) f) ss before b at) (each (λ s. entry (any_rows f.events) f) ss before b at)
   unfolding each onward
-  unlimited_each n [] log at = inl refl
-  unlimited_each n (s ∷ ss) log at = unlimited_bind (word (rows_fit n) n log b at) (word (any_rows n) n log b at) _ _ (unlimited_word n log at)
-      (elim [ item w next ↦ unlimited_each n ss (log ++ w ∷ []) next ])
+  unlimited_each f [] before at = inl refl
+  unlimited_each f (s ∷ ss) before at = unlimited_bind _ _ _ _ (unlimited_entry f before at)
+      (elim [ item x next ↦ unlimited_each f ss (before ++ x ∷ []) next ])
 
   unlimited_head : (at : ℕ) → Unlimited (head rows_fit b at) (head any_rows b at)
   unfolding head head_after onward
   unlimited_head at =
-      unlimited_bind (first_byte b at) (first_byte b at) _ _ (inl refl)
+      unlimited_bind (first b at) (first b at) _ _ (inl refl)
       (elim [
-        | item n next ↦ unlimited_bind _ _ _ _ (inl refl)
+        | item f next ↦ unlimited_bind _ _ _ _ (inl refl)
             (elim [
-              | item count next ↦ unlimited_bind _ _ _ _ (unlimited_each n _ [] next)
-                  (elim [ item log next ↦ inl refl ])
+              | item count next ↦ unlimited_bind _ _ _ _ (unlimited_each f _ [] next)
+                  (elim [ item entries next ↦ inl refl ])
             ])
       ])
 

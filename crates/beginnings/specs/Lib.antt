@@ -5,6 +5,8 @@ pub mod Filling
 pub mod Fillings
 pub mod Stops
 pub mod Heads
+pub mod Weights
+pub mod Pairs
 pub mod Certificates
 pub mod Words
 pub mod HeadOffsets

@@ -171,7 +171,8 @@ module _ {Size : ℕ → Type 0} where
           record {
             from = omega (arith, q.0);
             to = omega (arith, q.0, h);
-            cut = λ c same end. (field-refused size (v c at) in_range c at bundle_end_number spot).1 (q.0, inl (refl, omega (arith, q.0, end, some)));
+            cut = λ c same end.
+                (field-refused size (v c at) in_range c at bundle_end_number spot).1 (q.0, inl (refl, omega (arith, q.0, end, some)));
             half = λ other c same end. ⊎_elim
                 (λ (six, short). absurd (other six))
                 (λ (seven, there, bad). ⊎_elim

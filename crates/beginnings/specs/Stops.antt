@@ -1,6 +1,7 @@
 -- Where a reader stops, by the bytes that it should read: from its law (what it reads is what is written), its being local and its being filled.
 use Rattle.std.specs.Prelude.{◌≡◌, refl, List, ◌++◌, ℕ, ◌+◌, ◌≤◌, length, take, drop}
-use Rattle.std.proofs.Common.{sym, ap, ◌∙◌, subst, inl, inr, ⊎_elim, append_assoc, append-nil, add_assoc, arith, length-append, take-append-drop, length-take-le}
+use Rattle.std.proofs.Common.{sym, ap, ◌∙◌, subst, inl, inr, ⊎_elim, append_assoc, append-nil, add_assoc, arith}
+use Rattle.std.proofs.Common.{length-append, take-append-drop, length-take-le}
 use Rattle.std.proofs.Math.Seq.{drop-length, drop-append_seam, take-append-add}
 use Rattle.laws.specs.Booleans.{impossible, lt_or_le}
 use Rattle.laws.specs.Numbers.{Bytes, bytes-append}

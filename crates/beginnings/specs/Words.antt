@@ -1,33 +1,31 @@
 -- A head that is refused with 8 or 9: the word that is due passes 1,024 events, or the rows of the log do not fit with it.
-use Rattle.std.specs.Prelude.{◌≡◌, Bool, false, ◌&&◌, ◌↔◌, T}
+use Rattle.std.specs.Prelude.{◌≡◌, Bool, false, ◌↔◌, T}
 use Rattle.std.proofs.Math.Path.{refl, sym, ap, subst}
-use Rattle.std.proofs.Common.{◌∙◌, add-zero, le→leb, length-drop, drop-cons, drop-drop, get_or-drop}
+use Rattle.std.proofs.Common.{◌∙◌, add-zero, length-drop, drop-cons, drop-drop, get_or-drop}
 use Rattle.std.proofs.lemmas.Bool.{false≢true}
 use mathlib.Core.Logic.Iff
 use Rattle.std.proofs.Math.Logic.{⊎_elim}
 use mathlib.Core.List.{List, [], ◌∷◌, ◌++◌, flat_map}
 use Prim.Native.Nat.{ℕ, suc, ◌+◌, ◌-◌, ◌≤◌, ◌<◌}
 use native.Mathlib.Omega.{arith}
-use Rattle.std.proofs.Math.Dec.{leb, leb→le}
-use Rattle.std.specs.Float.Ieee.Fits.{and_i, and_l, and_r}
 use Rattle.std.proofs.Math.ListN.{length, get_or, drop, replicate, length-append}
 use Rattle.std.proofs.lemmas.List.{length-replicate, replicate-append-replicate}
 use Rattle.std.proofs.Math.Seq.{drop-append_seam}
 use Rattle.laws.specs.Booleans.{less}
 use Rattle.laws.specs.Lists.{any, among}
 use Rattle.laws.specs.Numbers.{Bytes}
-use Rattle.limits.specs.Limits.{max_events, max_log_events, max_rows}
+use Rattle.limits.specs.Limits.{max_log_events, max_rows}
 use Rattle.refusals.specs.Table.{bundle_end_number, value_number, events_number, rows_number}
 use Rattle.refusals.specs.Results.{refused, bind}
-use Rattle.nets.specs.Nets.{Log, event_count, rows}
+use Rattle.nets.specs.Nets.{Log, Entry, words, event_count, rows}
 use Rattle.bundles.specs.Reading.{got, Reader, onward, ◌>>=◌, give, byte, following}
-use Rattle.bundles.specs.Layout.{Head, word_bytes}
-use Rattle.bundles.specs.Readers.{anything, first_byte, word, place, places, head_after, head, rows_in_limit}
+use Rattle.bundles.specs.Layout.{First, Head, first_of, entry_bytes}
+use Rattle.bundles.specs.Readers.{anything, entry, place, places, first, head_after, head, rows_in_limit}
 use Rattle.bundles.specs.ReadingLaws.{Part, part-front, part-append, part_left, part_right, EachValid, Following, law-byte, law-each, law-following}
-use Rattle.bundles.specs.LayoutLaws.{WordValid, law-word, law-word_after}
-use Rattle.bundles.specs.Limits.{words→limits, limits→words}
+use Rattle.bundles.specs.LayoutLaws.{EntryValid, law-first, law-entry, law-entry_after}
+use Rattle.bundles.specs.Limits.{entries→limits, limits→entries}
 use Rattle.bundles.specs.Refusing.{ReaderRefuses, reader_byte, reader_number, reader_then, reader_times, reader_give}
-use Rattle.bundles.specs.Causes.{and_then-refused, each-refused, word_8, word_9}
+use Rattle.bundles.specs.Causes.{and_then-refused, each-refused, entry-8, entry-9}
 use Rattle.beginnings.specs.Beginnings.{WordDue, length_byte, EventsPass, RowsPass}
 
 -- the places of a head are refused with 6 and 7 only
@@ -53,88 +51,88 @@ module _ (rows_fit : ℕ → Log → Bool) (none : (n : ℕ) → T (rows_fit n [
     (other : among k (bundle_end_number ∷ value_number ∷ []) ≡ false) where
   -- the word that is due is refused
   abbrev WordStops : Type 0
-  WordStops = (n : ℕ) × (log : Log) × (rest : List ℕ) × WordDue b n log rest × T (rows_fit n log)
-      × (word (rows_fit n) n log b (length_byte log) ≡ refused k spot)
+  WordStops = (f : First) × (before : List Entry) × (rest : List ℕ) × WordDue b f before rest × T (rows_fit f.events (words before))
+      × (entry (rows_fit f.events) f before b (length_byte f before) ≡ refused k spot)
 
   never : {A : Type 0} {r : Reader A} → ReaderRefuses (bundle_end_number ∷ value_number ∷ []) r → (at : ℕ) → r b at ≡ refused k spot → ⊥
   never r at e = false≢true (sym other ∙ (r.only b at).only k spot e)
 
-  behind-words : (n : ℕ) → Log → Reader Head
-  behind-words n log = places n >>= λ ps. give (record { events = n; log = log; places = ps })
+  behind-words : First → List Entry → Reader Head
+  behind-words f xs = places f.events >>= λ ps. give (record { is_new = f.is_new; events = f.events; entries = xs; places = ps })
 
   to : head rows_fit b 0 ≡ refused k spot → WordStops
-  unfolding head head_after behind-words flat_map event_count any
+  unfolding head head_after first behind-words flat_map words event_count any
   to e = ⊎_elim
-      (λ q. absurd (never (reader_byte refl refl _) 0 q))
-      (λ (n, m1, is1, e1). ⊎_elim
+      (λ q. absurd (never (reader_then (reader_byte refl refl _) (λ x. reader_give _)) 0 q))
+      (λ (f, m1, is1, e1). ⊎_elim
       (λ q. absurd (never (reader_byte refl refl anything) m1 q))
       (λ (count, m2, is2, e2). ⊎_elim
-      (λ q. found n m1 is1 count m2 is2 q)
-      (λ (log, m3, is3, q). absurd (never (reader_then (reader_places n) (λ ps. reader_give _)) m3 q))
-      ((and_then-refused b (following count (word (rows_fit n) n) b m2) (behind-words n) k spot).0 e2))
+      (λ q. found f m1 is1 count m2 is2 q)
+      (λ (xs, m3, is3, q). absurd (never (reader_then (reader_places f.events) (λ ps. reader_give _)) m3 q))
+      ((and_then-refused b (following count (entry (rows_fit f.events) f) b m2) (behind-words f) k spot).0 e2))
       ((and_then-refused b (byte anything b m1) _ k spot).0 e1))
-      ((and_then-refused b (first_byte b 0) (head_after rows_fit) k spot).0 e)
+      ((and_then-refused b (first b 0) (head_after rows_fit) k spot).0 e)
     where
-      found : (n m1 : ℕ) → first_byte b 0 ≡ got n m1 → (count m2 : ℕ) → byte anything b m1 ≡ got count m2
-          → following count (word (rows_fit n) n) b m2 ≡ refused k spot → WordStops
-      found n m1 is1 count m2 is2 q =
-          let l1 = (law-byte b bytes (λ n. leb 1 n && leb n max_events)).sound 0 n m1 is1 in
+      found : (f : First) (m1 : ℕ) → first b 0 ≡ got f m1 → (count m2 : ℕ) → byte anything b m1 ≡ got count m2
+          → following count (entry (rows_fit f.events) f) b m2 ≡ refused k spot → WordStops
+      found f m1 is1 count m2 is2 q =
+          let fit = rows_fit f.events in
+          let l1 = (law-first b bytes).sound 0 f m1 is1 in
           let l2 = (law-byte b bytes anything).sound m1 count m2 is2 in
-          let some = leb→le 1 n (and_l (leb 1 n) (leb n max_events) l1.0.0) in
-          let most = leb→le n max_events (and_r (leb 1 n) (leb n max_events) l1.0.0) in
-          let w = (each-refused (λ s. word (rows_fit n) n) b k spot (replicate count tt) [] m2).0 q in
-          let l3 = (law-each b (λ s. law-word b bytes (rows_fit n) n (omega (arith, most))) w.first).sound m2 w.items w.mid w.read in
-          let f = each-following (WordValid (rows_fit n) n) w.first [] w.items l3.0 in
-          let v = words→limits n (rows_fit n) (fewer n) [] w.items (omega arith) (none n) f.1 in
-          let words = flat_map word_bytes w.items in
-          let later = part-append b m1 m2 w.mid (count ∷ []) words l2.1 l3.1 in
-          let whole = part-append b 0 m1 w.mid (n ∷ []) (count ∷ words) l1.1 later in
-          let end : w.mid ≡ length_byte w.items = omega (arith, whole.end) in
+          let w = (each-refused (λ s. entry fit f) b k spot (replicate count tt) [] m2).0 q in
+          let l3 = (law-each b (λ s. law-entry b bytes fit f (omega (arith, l1.0.1))) w.first).sound m2 w.items w.mid w.read in
+          let each = each-following (EntryValid fit f) w.first [] w.items l3.0 in
+          let v = entries→limits f fit (fewer f.events) [] w.items (omega arith) (none f.events) each.1 in
+          let entries = flat_map (entry_bytes f.is_new) w.items in
+          let later = part-append b m1 m2 w.mid (count ∷ []) entries l2.1 l3.1 in
+          let whole = part-append b 0 m1 w.mid (first_of f ∷ []) (count ∷ entries) l1.1 later in
+          let end : w.mid ≡ length_byte f w.items = omega (arith, whole.end) in
           let size : count ≡ length w.first + suc (length w.more) =
           sym (length-replicate count tt) ∙ ap length w.split ∙ length-append w.first (w.this ∷ w.more) in (
-            n,
+            f,
             w.items,
             drop w.mid b,
             record {
-              events = (some, most);
+              events = l1.0;
               count = count;
               layout = whole.bytes;
-              fewer = omega (arith, f.0, size);
-              words = v.0;
+              fewer = omega (arith, each.0, size);
+              entries = v.0;
               log_events = v.1;
             },
             v.2,
-            ap (word (rows_fit n) n w.items b) (sym end) ∙ w.stops,
+            ap (entry fit f w.items b) (sym end) ∙ w.stops,
           )
 
   from : WordStops → head rows_fit b 0 ≡ refused k spot
   unfolding head head_after bind onward
-  from (n, log, rest, d, fit, stops) =
+  from (f, before, rest, d, fits, stops) =
+      let fit = rows_fit f.events in
       let count = d.count in
-      let words = flat_map word_bytes log in
-      let size : length (n ∷ count ∷ words) ≡ length_byte log = omega arith in
-      let whole = subst (Part b 0 (n ∷ count ∷ words)) size (part-front b (n ∷ count ∷ words) rest d.layout) in
-      let later = part_right b 0 (length_byte log) (n ∷ []) (count ∷ words) whole in
-      let p1 = part_left b 0 (length_byte log) (n ∷ []) (count ∷ words) whole in
-      let p2 = part_left b 1 (length_byte log) (count ∷ []) words later in
-      let p3 = part_right b 1 (length_byte log) (count ∷ []) words later in
+      let entries = flat_map (entry_bytes f.is_new) before in
+      let end = length_byte f before in
+      let size : length (first_of f ∷ count ∷ entries) ≡ end = omega arith in
+      let whole = subst (Part b 0 (first_of f ∷ count ∷ entries)) size (part-front b (first_of f ∷ count ∷ entries) rest d.layout) in
+      let later = part_right b 0 end (first_of f ∷ []) (count ∷ entries) whole in
+      let p1 = part_left b 0 end (first_of f ∷ []) (count ∷ entries) whole in
+      let p2 = part_left b 1 end (count ∷ []) entries later in
+      let p3 = part_right b 1 end (count ∷ []) entries later in
       let small : count < 256 = subst (λ (l : List ℕ). get_or l 1 0 < 256) d.layout (bytes 1) in
-      let range = and_i (leb 1 n) (leb n max_events) (le→leb 1 n d.events.0) (le→leb n max_events d.events.1) in
-      let r1 = (law-byte b bytes (λ n. leb 1 n && leb n max_events)).complete 0 n 1 (range, omega (arith, d.events.1)) p1 in
+      let r1 = (law-first b bytes).complete 0 f 1 d.events p1 in
       let r2 = (law-byte b bytes anything).complete 1 count 2 (tt, small) p2 in
-      let v = limits→words n (rows_fit n) (fewer n) [] log d.words d.log_events fit in
-      let law = law-word b bytes (rows_fit n) n (omega (arith, d.events.1)) in
-      let r3 = (law-following b law (length log)).complete 2 log (length_byte log) (refl, v) p3 in
-      let total : count ≡ length log + suc (count - length log - 1) = omega (arith, d.fewer) in
-      let split : replicate count (tt {0}) ≡ replicate (length log) tt ++ tt ∷ replicate (count - length log - 1) tt =
-      ap (λ (m : ℕ). replicate m (tt {0})) total ∙ sym (replicate-append-replicate (length log) (suc (count - length log - 1)) tt) in
-      let q = (each-refused (λ s. word (rows_fit n) n) b k spot (replicate count tt) [] 2).1 (record {
-        first = replicate (length log) tt;
+      let v = limits→entries f fit (fewer f.events) [] before d.entries d.log_events fits in
+      let law = law-entry b bytes fit f (omega (arith, d.events.1)) in
+      let r3 = (law-following b law (length before)).complete 2 before end (refl, v) p3 in
+      let total : count ≡ length before + suc (count - length before - 1) = omega (arith, d.fewer) in
+      let split : replicate count (tt {0}) ≡ replicate (length before) tt ++ tt ∷ replicate (count - length before - 1) tt =
+      ap (λ (m : ℕ). replicate m (tt {0})) total ∙ sym (replicate-append-replicate (length before) (suc (count - length before - 1)) tt) in
+      let q = (each-refused (λ s. entry fit f) b k spot (replicate count tt) [] 2).1 (record {
+        first = replicate (length before) tt;
         this = tt;
-        more = replicate (count - length log - 1) tt;
+        more = replicate (count - length before - 1) tt;
         split = split;
-        items = log;
-        mid = length_byte log;
+        items = before;
+        mid = end;
         read = r3;
         stops = stops;
       }) in
@@ -147,87 +145,92 @@ module _ (rows_fit : ℕ → Log → Bool) (none : (n : ℕ) → T (rows_fit n [
 
 module _ (b : List ℕ) (bytes : Bytes b) (spot : ℕ) where
   -- what follows the words stands at the length byte
-  behind : (n : ℕ) (log : Log) (rest : List ℕ) → WordDue b n log rest → drop (length_byte log) b ≡ rest
-  behind n log rest d =
-      let front = n ∷ d.count ∷ flat_map word_bytes log in
-      let size : length front ≡ length_byte log = omega arith in
+  behind : (f : First) (before : List Entry) (rest : List ℕ) → WordDue b f before rest → drop (length_byte f before) b ≡ rest
+  behind f before rest d =
+      let front = first_of f ∷ d.count ∷ flat_map (entry_bytes f.is_new) before in
+      let size : length front ≡ length_byte f before = omega arith in
       ap (λ (i : ℕ). drop i b) (sym size) ∙ ap (drop (length front)) d.layout ∙ drop-append_seam front rest
 
-  module _ (rows_fit : Log → Bool) (n : ℕ) (log : Log) where
+  module _ (rows_fit : Log → Bool) (f : First) (before : List Entry) where
     -- a word is due, and its reader refuses with this number
     abbrev Refuses : ℕ → Type 0
-    Refuses k = (rest : List ℕ) × WordDue b n log rest × (word rows_fit n log b (length_byte log) ≡ refused k spot)
+    Refuses k = (rest : List ℕ) × WordDue b f before rest × (entry rows_fit f before b (length_byte f before) ≡ refused k spot)
 
-    events_pass : Refuses events_number ↔ EventsPass b n log spot
+    events_pass : Refuses events_number ↔ EventsPass b f before spot
     events_pass = (to, from)
       where
-        to : Refuses events_number → EventsPass b n log spot
+        to : Refuses events_number → EventsPass b f before spot
         to (rest, d, stops) =
-            let c = (word_8 n b (length_byte log) rows_fit log spot).0 stops in
-            let first = sym (behind n log rest d) ∙ drop-cons b (length_byte log) 0 (omega (arith, c.1)) in
+            let at = length_byte f before in
+            let c = (entry-8 f b at rows_fit before spot).0 stops in
+            let first = sym (behind f before rest d) ∙ drop-cons b at 0 (omega (arith, c.1)) in
             record {
-              size = get_or b (length_byte log) 0;
-              rest = drop (suc (length_byte log)) b;
-              due = subst (WordDue b n log) first d;
+              size = get_or b at 0;
+              rest = drop (suc at) b;
+              due = subst (WordDue b f before) first d;
               over = c.2;
               offset = c.0;
             }
 
-        from : EventsPass b n log spot → Refuses events_number
+        from : EventsPass b f before spot → Refuses events_number
         from e =
-            let stands = behind n log (e.size ∷ e.rest) e.due in
-            let long : length_byte log + 1 ≤ length b = omega (arith, length-drop (length_byte log) b, ap length stands) in
-            let value : get_or b (length_byte log) 0 ≡ e.size =
-            ap (λ (i : ℕ). get_or b i 0) (sym (add-zero (length_byte log))) ∙ sym (get_or-drop (length_byte log) b 0 0)
-            ∙ ap (λ (l : List ℕ). get_or l 0 0) stands in
-            let over = subst (λ (x : ℕ). max_log_events < event_count log + x) (sym value) e.over in
-            (e.size ∷ e.rest, e.due, (word_8 n b (length_byte log) rows_fit log spot).1 (e.offset, long, over))
+            let at = length_byte f before in
+            let stands = behind f before (e.size ∷ e.rest) e.due in
+            let long : at + 1 ≤ length b = omega (arith, length-drop at b, ap length stands) in
+            let value : get_or b at 0 ≡ e.size =
+            ap (λ (i : ℕ). get_or b i 0) (sym (add-zero at)) ∙ sym (get_or-drop at b 0 0) ∙ ap (λ (l : List ℕ). get_or l 0 0) stands in
+            let over = subst (λ (x : ℕ). max_log_events < event_count (words before) + x) (sym value) e.over in
+            (e.size ∷ e.rest, e.due, (entry-8 f b at rows_fit before spot).1 (e.offset, long, over))
 
-  module _ (n : ℕ) (log : Log) where
-    rows_pass : Refuses (rows_in_limit n) n log rows_number ↔ RowsPass b n log spot
+  module _ (f : First) (before : List Entry) where
+    rows_pass : Refuses (rows_in_limit f.events) f before rows_number ↔ RowsPass b f before spot
     rows_pass = (to, from)
       where
-        to : Refuses (rows_in_limit n) n log rows_number → RowsPass b n log spot
+        to : Refuses (rows_in_limit f.events) f before rows_number → RowsPass b f before spot
         to (rest, d, stops) =
-            let (here, (w, next, is, over)) = (word_9 n b (length_byte log) (rows_in_limit n) log spot).0 stops in
-            let l = (law-word_after b bytes n (omega (arith, d.events.1)) (event_count log)).sound (length_byte log) w next is in
+            let at = length_byte f before in
+            let (here, (x, next, is, over)) = (entry-9 f b at (rows_in_limit f.events) before spot).0 stops in
+            let l = (law-entry_after b bytes f (omega (arith, d.events.1)) (event_count (words before))).sound at x next is in
             record {
-              word = w;
+              entry = x;
               rest = drop next b;
-              due = subst (WordDue b n log) (sym (behind n log rest d) ∙ l.1.bytes) d;
+              due = subst (WordDue b f before) (sym (behind f before rest d) ∙ l.1.bytes) d;
               limits = l.0.0;
               events = l.0.1;
-              over = (less (length (rows n (log ++ w ∷ []))) max_rows).0 over;
+              over = (less (length (rows f.events (words (before ++ x ∷ [])))) max_rows).0 over;
               offset = here;
             }
 
-        from : RowsPass b n log spot → Refuses (rows_in_limit n) n log rows_number
+        from : RowsPass b f before spot → Refuses (rows_in_limit f.events) f before rows_number
         from r =
-            let w = word_bytes r.word in
-            let next = length_byte log + length w in
-            let stands = behind n log (w ++ r.rest) r.due in
+            let at = length_byte f before in
+            let x = entry_bytes f.is_new r.entry in
+            let next = at + length x in
+            let stands = behind f before (x ++ r.rest) r.due in
             let after : drop next b ≡ r.rest =
-            sym (drop-drop (length w) (length_byte log) b) ∙ ap (drop (length w)) stands ∙ drop-append_seam w r.rest in
-            let p : Part b (length_byte log) w next = record { bytes = stands ∙ ap (λ (l : List ℕ). w ++ l) (sym after); end = refl } in
-            let law = law-word_after b bytes n (omega (arith, r.due.events.1)) (event_count log) in
-            let is = law.complete (length_byte log) r.word next (r.limits, r.events) p in
-            let over = (less (length (rows n (log ++ r.word ∷ []))) max_rows).1 r.over in
-            (w ++ r.rest, r.due, (word_9 n b (length_byte log) (rows_in_limit n) log spot).1 (r.offset, (r.word, next, is, over)))
+            sym (drop-drop (length x) at b) ∙ ap (drop (length x)) stands ∙ drop-append_seam x r.rest in
+            let p : Part b at x next = record { bytes = stands ∙ ap (λ (l : List ℕ). x ++ l) (sym after); end = refl } in
+            let law = law-entry_after b bytes f (omega (arith, r.due.events.1)) (event_count (words before)) in
+            let is = law.complete at r.entry next (r.limits, r.events) p in
+            let over = (less (length (rows f.events (words (before ++ r.entry ∷ [])))) max_rows).1 r.over in
+            (x ++ r.rest, r.due, (entry-9 f b at (rows_in_limit f.events) before spot).1 (r.offset, (r.entry, next, is, over)))
 
   -- 8: the events would pass 1,024
   module _ (rows_fit : ℕ → Log → Bool) (none : (n : ℕ) → T (rows_fit n [])) (fewer : Fewer rows_fit) where
-    pub head_8 : (head rows_fit b 0 ≡ refused events_number spot) ↔ ((n : ℕ) × (log : Log) × T (rows_fit n log) × EventsPass b n log spot)
+    pub head_8 : (head rows_fit b 0 ≡ refused events_number spot)
+        ↔ ((f : First) × (before : List Entry) × T (rows_fit f.events (words before)) × EventsPass b f before spot)
     unfolding any
     head_8 = Iff.trans (word-stops rows_fit none fewer b bytes events_number spot refl) (
-      (λ (n, log, rest, d, fit, stops). (n, log, fit, (events_pass (rows_fit n) n log).0 (rest, d, stops))),
-      (λ (n, log, fit, e). let (rest, d, stops) = (events_pass (rows_fit n) n log).1 e in (n, log, rest, d, fit, stops)),
+      (λ (f, before, rest, d, fit, stops). (f, before, fit, (events_pass (rows_fit f.events) f before).0 (rest, d, stops))),
+      (λ (f, before, fit, e). let (rest, d, stops) = (events_pass (rows_fit f.events) f before).1 e in (f, before, rest, d, fit, stops)),
     )
 
   -- 9: the rows would pass 256
   module _ (none : (n : ℕ) → T (rows_in_limit n [])) (fewer : Fewer rows_in_limit) where
-    pub head_9 : (head rows_in_limit b 0 ≡ refused rows_number spot) ↔ ((n : ℕ) × (log : Log) × T (rows_in_limit n log) × RowsPass b n log spot)
+    pub head_9 : (head rows_in_limit b 0 ≡ refused rows_number spot)
+        ↔ ((f : First) × (before : List Entry) × T (rows_in_limit f.events (words before)) × RowsPass b f before spot)
     unfolding any
     head_9 = Iff.trans (word-stops rows_in_limit none fewer b bytes rows_number spot refl) (
-      (λ (n, log, rest, d, fit, stops). (n, log, fit, (rows_pass n log).0 (rest, d, stops))),
-      (λ (n, log, fit, e). let (rest, d, stops) = (rows_pass n log).1 e in (n, log, rest, d, fit, stops)),
+      (λ (f, before, rest, d, fit, stops). (f, before, fit, (rows_pass f before).0 (rest, d, stops))),
+      (λ (f, before, fit, e). let (rest, d, stops) = (rows_pass f before).1 e in (f, before, rest, d, fit, stops)),
     )

@@ -1,5 +1,5 @@
 -- Exactly when a reader refuses: a field, a test, one reader behind another, an item for each of a list.
-use Rattle.std.specs.Prelude.{◌≡◌, Bool, cond, ◌↔◌, ◌⊎◌, leb, length, get_or}
+use Rattle.std.specs.Prelude.{◌≡◌, Bool, cond, ◌↔◌, ◌⊎◌, leb, ltb, length, get_or}
 use Rattle.std.proofs.Math.Path.{refl, sym}
 use Rattle.std.proofs.Common.{ap, ◌∙◌, subst, inl, inr, arith, leb-true, leb-false, le-leb}
 use Rattle.std.proofs.Math.Bool.{true, false}
@@ -7,7 +7,6 @@ use Rattle.std.proofs.lemmas.Bool.{false≢true, lt-leb}
 use Rattle.std.proofs.Math.Logic.{⊎_elim}
 use mathlib.Core.List.{List, [], ◌∷◌, ◌++◌}
 use Prim.Native.Nat.{ℕ, ◌+◌, ◌≤◌, ◌<◌}
-use Rattle.std.proofs.Math.Dec.{ltb}
 use Rattle.laws.specs.Booleans.{impossible}
 use Rattle.laws.specs.Lists.{any}
 use Rattle.limits.specs.Limits.{max_log_events}
@@ -15,10 +14,11 @@ use Rattle.refusals.specs.Table.{bundle_end_number, value_number, events_number,
 use Rattle.refusals.specs.Results.{value, refused, bind}
 use Rattle.refusals.specs.Results as results
 use Rattle.refusals.specs.Exactly.{exactly-here}
-use Rattle.nets.specs.Nets.{Word, Log, event_count}
-use Rattle.bundles.specs.Reading.{Read, got, item, Reader, onward, and_then, ◌>>◌, give, require, field, byte, each, times}
-use Rattle.bundles.specs.Readers.{anything, word_after, word}
-use Rattle.bundles.specs.Refusing.{reader_byte, reader_times, reader_word_after}
+use Rattle.nets.specs.Nets.{Log, Entry, words, event_count}
+use Rattle.bundles.specs.Reading.{Read, got, item, Reader, onward, and_then, ◌>>◌, give, require, field, byte, each}
+use Rattle.bundles.specs.Layout.{First}
+use Rattle.bundles.specs.Readers.{anything, marked_after, entry_after, entry}
+use Rattle.bundles.specs.Refusing.{ReaderRefuses, reader_byte, reader_times, reader_give, reader_then, reader-mark, reader-entry_after}
 use Rattle.bundles.specs.ReadingLaws.{and_then-got, field-got}
 
 -- the first reader refuses, or the second does behind it
@@ -51,12 +51,14 @@ require-chain false number spot r b at = refl
 -- a field: 6 where it is not there whole, 7 where its value is outside its range, at its offset
 pub field-refused : (size x : ℕ) (in_range : ℕ → Bool) (b : List ℕ) (at number spot : ℕ)
     → (field size x in_range b at ≡ refused number spot)
-    ↔ ((spot ≡ at) × (((number ≡ bundle_end_number) × (length b < at + size)) ⊎ ((number ≡ value_number) × (at + size ≤ length b) × (in_range x ≡ false))))
+    ↔ ((spot ≡ at)
+    × (((number ≡ bundle_end_number) × (length b < at + size)) ⊎ ((number ≡ value_number) × (at + size ≤ length b) × (in_range x ≡ false))))
 unfolding field
 field-refused size x in_range b at number spot = (to (leb (at + size) (length b)) refl (in_range x) refl, from)
   where
     Cause : Type 0
-    Cause = (spot ≡ at) × (((number ≡ bundle_end_number) × (length b < at + size)) ⊎ ((number ≡ value_number) × (at + size ≤ length b) × (in_range x ≡ false)))
+    Cause = (spot ≡ at)
+        × (((number ≡ bundle_end_number) × (length b < at + size)) ⊎ ((number ≡ value_number) × (at + size ≤ length b) × (in_range x ≡ false)))
 
     to : (p : Bool) → leb (at + size) (length b) ≡ p → (q : Bool) → in_range x ≡ q
         → cond p (cond q (got x (at + size)) (refused value_number at)) (refused bundle_end_number at) ≡ refused number spot → Cause
@@ -124,27 +126,30 @@ module _ {S A : Type 0} (r : S → List A → Reader A) (b : List ℕ) (number s
         (→each w.first w.this w.more before at w.items w.mid w.read w.stops)),
   )
 
--- ---- A word, behind those of `log`: 8 and 9, at the offset of its length byte
+-- ---- An entry, behind those before: 8 and 9, at the offset of its length byte
 
-module _ (n : ℕ) (b : List ℕ) (at : ℕ) where
+module _ (f : First) (b : List ℕ) (at : ℕ) where
   -- 8: its events would pass 1,024
-  word_after_8 : (count spot : ℕ) → (word_after n count b at ≡ refused events_number spot)
+  entry_after-8 : (count spot : ℕ) → (entry_after f count b at ≡ refused events_number spot)
       ↔ ((spot ≡ at) × (at + 1 ≤ length b) × (max_log_events < count + get_or b at 0))
-  unfolding word_after byte field bind onward any
-  word_after_8 count spot = (to, from)
+  unfolding entry_after byte field bind onward any
+  entry_after-8 count spot = (to, from)
     where
-      rest : ℕ → Reader Word
-      rest size = require (leb (count + size) max_log_events) events_number at >> times size (byte (λ e. ltb e n))
+      rest : ℕ → Reader Entry
+      rest size = require (leb (count + size) max_log_events) events_number at >> marked_after f size
+
+      only : (size : ℕ) → ReaderRefuses (bundle_end_number ∷ value_number ∷ []) (marked_after f size)
+      only size = reader_then (reader-mark refl refl f.is_new)
+          (λ m. reader_then (reader_times size (reader_byte refl refl (λ e. ltb e f.events))) (λ w. reader_give _))
 
       tested : (size next : ℕ) → (rest size b next ≡ refused events_number spot) ↔ ((spot ≡ at) × (leb (count + size) max_log_events ≡ false))
       tested size next =
-          let chain = require-chain (leb (count + size) max_log_events) events_number at (times size (byte (λ e. ltb e n))) b next in
+          let chain = require-chain (leb (count + size) max_log_events) events_number at (marked_after f size) b next in
           let line = (exactly-here (leb (count + size) max_log_events) events_number at
-          (times size (byte (λ e. ltb e n)) b next) {numbers = bundle_end_number ∷ value_number ∷ []}
-          ((reader_times size (reader_byte refl refl (λ e. ltb e n))).only b next) refl).line spot in
+          (marked_after f size b next) {numbers = bundle_end_number ∷ value_number ∷ []} ((only size).only b next) refl).line spot in
           ((λ e. line.0 (sym chain ∙ e)), (λ c. chain ∙ line.1 c))
 
-      to : word_after n count b at ≡ refused events_number spot → (spot ≡ at) × (at + 1 ≤ length b) × (max_log_events < count + get_or b at 0)
+      to : entry_after f count b at ≡ refused events_number spot → (spot ≡ at) × (at + 1 ≤ length b) × (max_log_events < count + get_or b at 0)
       to e = ⊎_elim
           (λ q. ⊎_elim (λ (six, _). absurd (omega (arith, six))) (λ (seven, _, _). absurd (omega (arith, seven)))
           ((field-refused 1 (get_or b at 0) anything b at events_number spot).0 q).1)
@@ -154,7 +159,7 @@ module _ (n : ℕ) (b : List ℕ) (at : ℕ) where
           (t.0, g.0, subst (λ (k : ℕ). max_log_events < count + k) (sym g.2) (leb-false (count + size) max_log_events t.1)))
           ((and_then-refused b (byte anything b at) rest events_number spot).0 e)
 
-      from : (spot ≡ at) × (at + 1 ≤ length b) × (max_log_events < count + get_or b at 0) → word_after n count b at ≡ refused events_number spot
+      from : (spot ≡ at) × (at + 1 ≤ length b) × (max_log_events < count + get_or b at 0) → entry_after f count b at ≡ refused events_number spot
       from (here, there, over) =
           (and_then-refused b (byte anything b at) rest events_number spot).1
           (inr (
@@ -165,39 +170,40 @@ module _ (n : ℕ) (b : List ℕ) (at : ℕ) where
                 (here, lt-leb (count + get_or b at 0) max_log_events over),
           ))
 
-  module _ (rows_fit : Log → Bool) (log : Log) (spot : ℕ) where
-    rows-tested : Word → Reader Word
-    rows-tested w = require (rows_fit (log ++ w ∷ [])) rows_number at >> give w
+  module _ (rows_fit : Log → Bool) (before : List Entry) (spot : ℕ) where
+    rows-tested : Entry → Reader Entry
+    rows-tested x = require (rows_fit (words (before ++ x ∷ []))) rows_number at >> give x
 
-    rows-refused : (w : Word) (next number : ℕ) → (rows-tested w b next ≡ refused number spot)
-        ↔ ((number ≡ rows_number) × (spot ≡ at) × (rows_fit (log ++ w ∷ []) ≡ false))
+    rows-refused : (x : Entry) (next number : ℕ) → (rows-tested x b next ≡ refused number spot)
+        ↔ ((number ≡ rows_number) × (spot ≡ at) × (rows_fit (words (before ++ x ∷ [])) ≡ false))
     unfolding rows-tested require bind onward
-    rows-refused w next number = (to (rows_fit (log ++ w ∷ [])), λ (n, here, fails). rw (n, here, fails))
+    rows-refused x next number = (to (rows_fit (words (before ++ x ∷ []))), λ (n, here, fails). rw (n, here, fails))
       where
-        to : (ok : Bool) → (require ok rows_number at >> give w) b next ≡ refused number spot → (number ≡ rows_number) × (spot ≡ at) × (ok ≡ false)
+        to : (ok : Bool) → (require ok rows_number at >> give x) b next ≡ refused number spot → (number ≡ rows_number) × (spot ≡ at) × (ok ≡ false)
         to true e = impossible cc
         to false e = let n : rows_number ≡ number = cc in let s : at ≡ spot = cc in (sym n, sym s, refl)
 
-    pub word_8 : (word rows_fit n log b at ≡ refused events_number spot)
-        ↔ ((spot ≡ at) × (at + 1 ≤ length b) × (max_log_events < event_count log + get_or b at 0))
-    unfolding word rows-tested bind onward
-    word_8 =
-        let law = and_then-refused b (word_after n (event_count log) b at) rows-tested events_number spot in
-        let inner = word_after_8 (event_count log) spot in (
-          (λ e. inner.0 (⊎_elim (λ q. q) (λ (w, next, is, q). absurd (omega (arith, ((rows-refused w next events_number).0 q).0))) (law.0 e))),
+    pub entry-8 : (entry rows_fit f before b at ≡ refused events_number spot)
+        ↔ ((spot ≡ at) × (at + 1 ≤ length b) × (max_log_events < event_count (words before) + get_or b at 0))
+    unfolding entry rows-tested bind onward
+    entry-8 =
+        let law = and_then-refused b (entry_after f (event_count (words before)) b at) rows-tested events_number spot in
+        let inner = entry_after-8 (event_count (words before)) spot in (
+          (λ e. inner.0 (⊎_elim (λ q. q) (λ (x, next, is, q). absurd (omega (arith, ((rows-refused x next events_number).0 q).0))) (law.0 e))),
           (λ c. law.1 (inl (inner.1 c))),
         )
 
     -- 9: its rows would pass 256
-    pub word_9 : (word rows_fit n log b at ≡ refused rows_number spot)
-        ↔ ((spot ≡ at) × ((w : Word) × (next : ℕ) × (word_after n (event_count log) b at ≡ got w next) × (rows_fit (log ++ w ∷ []) ≡ false)))
-    unfolding word rows-tested bind onward any
-    word_9 =
-        let law = and_then-refused b (word_after n (event_count log) b at) rows-tested rows_number spot in (
+    pub entry-9 : (entry rows_fit f before b at ≡ refused rows_number spot)
+        ↔ ((spot ≡ at) × ((x : Entry) × (next : ℕ) × (entry_after f (event_count (words before)) b at ≡ got x next)
+        × (rows_fit (words (before ++ x ∷ [])) ≡ false)))
+    unfolding entry rows-tested bind onward any
+    entry-9 =
+        let law = and_then-refused b (entry_after f (event_count (words before)) b at) rows-tested rows_number spot in (
           (λ e. ⊎_elim
-              (λ q. absurd (false≢true (((reader_word_after {numbers = bundle_end_number ∷ value_number ∷ events_number ∷ []} refl refl refl n
-              (event_count log)).only b at).only rows_number spot q)))
-              (λ (w, next, is, q). let r = (rows-refused w next rows_number).0 q in (r.1, (w, next, is, r.2)))
+              (λ q. absurd (false≢true (((reader-entry_after {numbers = bundle_end_number ∷ value_number ∷ events_number ∷ []} refl refl refl f
+              (event_count (words before))).only b at).only rows_number spot q)))
+              (λ (x, next, is, q). let r = (rows-refused x next rows_number).0 q in (r.1, (x, next, is, r.2)))
               (law.0 e)),
-          (λ (here, (w, next, is, fails)). law.1 (inr (w, next, is, (rows-refused w next rows_number).1 (refl, here, fails)))),
+          (λ (here, (x, next, is, fails)). law.1 (inr (x, next, is, (rows-refused x next rows_number).1 (refl, here, fails)))),
         )

@@ -74,6 +74,18 @@ module _ {A B : Type 0} {means : A → B} {old new : Reader} {reader : reading.R
   unfolding read_as
   →refused same e = record { bytes = same; read = sym e }
 
+-- a value made of a value that was made of what was read
+module _ {A B C : Type 0} (r : reading.Reader A) (f : A → B) {old new : Reader} where
+  pub remapped : (g : B → C) {y : B} → ReadBy old new (Ok y) (mapped f r) → ReadBy old new (Ok (g y)) (mapped (λ x. g (f x)) r)
+  unfolding map_read
+  remapped g {y} read =
+      let m = map_read-got f (r old.bytes.now old.at) y new.at (read_got read) in
+      →got read.bytes (rw m.1 (ap (λ (z : B). got (g z) new.at) m.2))
+
+  pub remapped-refused : (h : A → C) {e : Refusal} → ReadBy old new (Err e) (mapped f r) → ReadBy old new (Err e) (mapped h r)
+  unfolding map_read
+  remapped-refused h {e} read = →refused read.bytes (rw (map_read-failed f (r old.bytes.now old.at) e.number e.spot (read-refused read)))
+
 -- the answer alone
 pub read_answer : {A : Type 0} {old new : Reader} {result : Answer A} {reader : reading.Reader A}
     → ReadBy old new result reader → result ≡ answer_in (reader old.bytes.now old.at)
@@ -101,7 +113,8 @@ module _ {A B C D : Type 0} {means : A → B} {also : C → D} {r : reading.Read
 
 -- a test before a read
 module _ {A B : Type 0} {means : A → B} (r : reading.Reader B) {ok : Bool} (number spot : ℕ) where
-  pub then_passed : {old new : Reader} {result : Answer A} → ok ≡ true → ReadAs means old new result r → ReadAs means old new result (require ok number spot >> r)
+  pub then_passed : {old new : Reader} {result : Answer A} → ok ≡ true
+      → ReadAs means old new result r → ReadAs means old new result (require ok number spot >> r)
   unfolding require bind onward
   then_passed passed read = record { bytes = read.bytes; read = read.read ∙ sym (rw passed) }
 

@@ -56,7 +56,9 @@ module _ (p : ℕ → Bool) (b : List ℕ) (at : ℕ) where
   unfolding field ranged
   field-ranged size v x next e = go (leb (at + size) (length b)) e
     where
-      go : (there : Bool) → cond there (got v (at + size)) (refused bundle_end_number at) ≡ got x next → cond there (cond (p v) (got v (at + size)) (refused value_number at)) (refused bundle_end_number at) ≡ cond (p x) (got x next) (refused value_number at)
+      go : (there : Bool) → cond there (got v (at + size)) (refused bundle_end_number at) ≡ got x next
+          → cond there (cond (p v) (got v (at + size)) (refused value_number at)) (refused bundle_end_number at)
+          ≡ cond (p x) (got x next) (refused value_number at)
       go true q =
           let value : v ≡ x = cc in
           let end : at + size ≡ next = cc in
@@ -67,7 +69,8 @@ module _ (p : ℕ → Bool) (b : List ℕ) (at : ℕ) where
   unfolding field
   field-refused size v refusal spot e = go (leb (at + size) (length b)) e
     where
-      go : (there : Bool) → cond there (got v (at + size)) (refused bundle_end_number at) ≡ refused refusal spot → cond there (cond (p v) (got v (at + size)) (refused value_number at)) (refused bundle_end_number at) ≡ refused refusal spot
+      go : (there : Bool) → cond there (got v (at + size)) (refused bundle_end_number at) ≡ refused refusal spot
+          → cond there (cond (p v) (got v (at + size)) (refused value_number at)) (refused bundle_end_number at) ≡ refused refusal spot
       go true q = impossible cc
       go false q = q
 
@@ -96,7 +99,8 @@ between_true low most x e = go (leb low x) refl (leb x most) refl e
     go false p t q r = impossible cc
 
 -- a byte that was read: its value is in range, and it is the one at the offset
-pub byte-got : (in_range : ℕ → Bool) (b : List ℕ) (at x next : ℕ) → byte in_range b at ≡ got x next → (in_range x ≡ true) × (x ≡ get_or b at 0) × (next ≡ at + 1) × (next ≤ length b)
+pub byte-got : (in_range : ℕ → Bool) (b : List ℕ) (at x next : ℕ) → byte in_range b at ≡ got x next
+    → (in_range x ≡ true) × (x ≡ get_or b at 0) × (next ≡ at + 1) × (next ≤ length b)
 unfolding byte field
 byte-got in_range b at x next e = go (leb (at + 1) (length b)) refl (in_range (get_or b at 0)) refl e
   where
@@ -123,7 +127,8 @@ module _ (old : Reader) where
   pub number_missing : length old.bytes.now < old.at + 2 → ReadBy old old (Err (refusal bundle_end_number old.at)) (number anything)
   number_missing short = →refused refl (number-missing anything old.bytes.now old.at short)
 
-  pub number_read : old.at + 2 ≤ length old.bytes.now → ReadBy old (record old { at = old.at + 2 }) (Ok (number_at old.bytes.now old.at)) (number anything)
+  pub number_read : old.at + 2 ≤ length old.bytes.now
+      → ReadBy old (record old { at = old.at + 2 }) (Ok (number_at old.bytes.now old.at)) (number anything)
   unfolding ranged
   number_read there = →got refl (number-there anything old.bytes.now old.at there)
 
@@ -154,7 +159,8 @@ module _ {old new : Reader} (p : ℕ → Bool) where
   pub byte_untested : {e : Refusal} → ReadBy old new (Err e) (byte anything) → ReadBy old new (Err e) (byte p)
   byte_untested r = →refused r.bytes (byte-refused p old.bytes.now old.at (read-refused r))
 
-  pub number_tested : {x : ℕ} → ReadBy old new (Ok x) (number anything) → ReadBy old new (cond (p x) (Ok x) (Err (refusal value_number old.at))) (number p)
+  pub number_tested : {x : ℕ} → ReadBy old new (Ok x) (number anything)
+      → ReadBy old new (cond (p x) (Ok x) (Err (refusal value_number old.at))) (number p)
   unfolding ranged
   number_tested {x} r = go (p x) refl
     where

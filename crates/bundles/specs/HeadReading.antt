@@ -1,5 +1,5 @@
 -- A bundle up to its last place: its head as the code reads it, and the answer of a call that reads it and does not judge.
-use Rattle.std.specs.Prelude.{◌≡◌, Bool, cond, List, [], ◌∷◌, ℕ, ◌+◌, ◌-◌, ◌*◌, ◌≤◌, ◌<◌, length, drop, Ok, Err}
+use Rattle.std.specs.Prelude.{◌≡◌, Bool, cond, List, [], ◌∷◌, ℕ, ◌+◌, ◌-◌, ◌*◌, ◌%◌, ◌≤◌, ◌<◌, length, drop, Ok, Err}
 use Rattle.std.proofs.Math.Path.{refl, ap, ap₂}
 use Rattle.std.proofs.Props.{props}
 use Rattle.std.proofs.Common.{sym, ◌∙◌, subst, arith}
@@ -9,32 +9,36 @@ use Rattle.std.proofs.Math.ListN.{length-map}
 use Rattle.laws.specs.Booleans.{impossible}
 use Rattle.laws.specs.Numbers.{Bytes}
 use Rattle.laws.specs.Lists.{any}
-use Rattle.limits.specs.Limits.{max_events, max_places, right_size}
+use Rattle.limits.specs.Limits.{max_events, max_places, new_edition, right_size}
 use Rattle.refusals.specs.Table.{bundle_length_number, bundle_end_number, value_number, events_number}
 use Rattle.refusals.specs.Results.{value, refused, bind, Result, Refuses, refuses-value, refuses-test, refuses-then}
 use Rattle.refusals.specs.Results as results
 use Rattle.refusals.specs.Exactly.{Exactly, exactly-here, exactly-later}
 use Rattle.refusals.specs.declared.Refusal.{Refusal}
-use Rattle.nets.specs.Nets.{Log}
+use Rattle.nets.specs.Nets.{Log, Entry}
 use Rattle.bundles.specs.Reading.{Read, got, item, ◌>>=◌, and_then, give, require, byte, following, onward, item_in}
-use Rattle.bundles.specs.Layout.{head_bytes, HeadInFront, PlaceFields, Head, to_place, to_net}
-use Rattle.bundles.specs.Readers.{first_byte, anything, word, places, head_after, head, any_rows, bundle_size, bundle_head, head_in, head_of, net_in, read_head, events_in}
+use Rattle.bundles.specs.Layout.{head_bytes, HeadInFront, PlaceFields, First, Head, to_place, to_net}
+use Rattle.bundles.specs.Readers.{first_byte, to_first, first, anything, entry, places, head_after, head, any_rows, bundle_size, bundle_head, head_in, head_of, net_in, read_head, events_in}
 use Rattle.bundles.specs.FieldReading.{between, between_true, byte-got}
 use Rattle.bundles.specs.ReadingLaws.{and_then-got, require-got}
 use Rattle.bundles.specs.NumberReading.{items_at, items-length}
-use Rattle.bundles.specs.WordReading.{words_unlimited}
+use Rattle.bundles.specs.WordReading.{events_of, entries-unlimited}
 use Rattle.bundles.specs.PlaceReading.{Kept, place_size, spot_of, end_of, fields_at, kept_places, places_read, placed, place_inside, PlacesAt, places-got}
 use Rattle.bundles.specs.Limits.{got→front, front→got}
 use Rattle.bundles.specs.Refusing.{reader_head}
 use Rattle.std.specs.Borrow.{Bor}
-use Rattle.nets.specs.Nets.{event_count}
 use Rattle.refusals.specs.Answers.{Answer}
 use Rattle.bundles.specs.Reading as reading
 use Rattle.bundles.specs.Chains.{answer_in, mapped, map_read}
 
--- a first byte that was read is 1 to 12
-pub first-limits : (b : List ℕ) (at n next : ℕ) → first_byte b at ≡ got n next → (1 ≤ n) × (n ≤ max_events)
-first-limits b at n next e = between_true 1 max_events n (byte-got (between 1 max_events) b at n next e).0
+-- a first byte that was read says 1 to 12 events
+pub first-limits : (b : List ℕ) (at : ℕ) (f : First) (next : ℕ) → first b at ≡ got f next → (1 ≤ f.events) × (f.events ≤ max_events)
+unfolding first to_first
+first-limits b at f next e =
+    let m = and_then-got b (first_byte b at) (λ x. give (to_first x)) f next e in
+    let said : to_first m.0 ≡ f = cc m.3 in
+    let in_range = between_true 1 max_events (m.0 % new_edition) (byte-got (λ x. between 1 max_events (x % new_edition)) b at m.0 m.1 m.2).0 in
+    subst (λ (g : First). (1 ≤ g.events) × (g.events ≤ max_events)) said in_range
 
 -- what the code keeps of a head: the event count, and where the places are
 unfoldable pub net_read : Bor (List ℕ) → Read Head → Read Kept
@@ -52,59 +56,65 @@ head_read bundle m = answer_in (net_read bundle m)
 -- ---- the laws
 
 module _ (rows_fit : ℕ → Log → Bool) (b : List ℕ) where
-  pub head-failed : (start : ℕ) {number spot : ℕ} → first_byte b start ≡ refused number spot → head rows_fit b start ≡ refused number spot
+  pub head-failed : (start : ℕ) {number spot : ℕ} → first b start ≡ refused number spot → head rows_fit b start ≡ refused number spot
   unfolding head bind onward
   head-failed start e = rw e
 
-  pub head-got : (start : ℕ) {n at : ℕ} → first_byte b start ≡ got n at → head rows_fit b start ≡ head_after rows_fit n b at
+  pub head-got : (start : ℕ) {f : First} {at : ℕ} → first b start ≡ got f at → head rows_fit b start ≡ head_after rows_fit f b at
   unfolding head bind onward
   head-got start e = rw e
 
-  module _ (n at : ℕ) where
-    pub after-failed : {number spot : ℕ} → byte anything b at ≡ refused number spot → head_after rows_fit n b at ≡ refused number spot
+  module _ (f : First) (at : ℕ) where
+    pub after-failed : {number spot : ℕ} → byte anything b at ≡ refused number spot → head_after rows_fit f b at ≡ refused number spot
     unfolding head_after bind onward
     after-failed e = rw e
 
     module _ {words start : ℕ} (counted : byte anything b at ≡ got words start) where
-      pub words-failed : {number spot : ℕ} → following words (word (rows_fit n) n) b start ≡ refused number spot → head_after rows_fit n b at ≡ refused number spot
+      pub words-failed : {number spot : ℕ} → following words (entry (rows_fit f.events) f) b start ≡ refused number spot
+          → head_after rows_fit f b at ≡ refused number spot
       unfolding head_after bind onward
       words-failed e = rw (counted, e)
 
--- what the code keeps of a head, by the reads that it makes: behind the words, the word count and the event count
-module _ (bundle : Bor (List ℕ)) (rows_fit : ℕ → Log → Bool) (n : ℕ) where
+-- what the code keeps of a head, by the reads that it makes: behind the words, the word count and the first byte
+module _ (bundle : Bor (List ℕ)) (rows_fit : ℕ → Log → Bool) (f : First) where
   abbrev pub behind_words : ℕ → reading.Reader Kept
-  behind_words events = placed bundle n (places n)
+  behind_words events = placed bundle f.events (places f.events)
 
   abbrev pub behind_count : ℕ → reading.Reader Kept
-  behind_count count = mapped event_count (following count (word (rows_fit n) n)) >>= behind_words
+  behind_count count = mapped events_of (following count (entry (rows_fit f.events) f)) >>= behind_words
 
-  abbrev pub behind_n : reading.Reader Kept
-  behind_n = byte anything >>= behind_count
+  abbrev pub behind_first : reading.Reader Kept
+  behind_first = byte anything >>= behind_count
 
 pub head_chain : (bundle : Bor (List ℕ)) (rows_fit : ℕ → Log → Bool) (b : List ℕ) (at : ℕ)
-    → headed bundle (head rows_fit) b at ≡ (first_byte >>= behind_n bundle rows_fit) b at
+    → headed bundle (head rows_fit) b at ≡ (first >>= behind_first bundle rows_fit) b at
 unfolding head head_after bind onward net_read places_read map_read
-head_chain bundle rows_fit b at = by_n (first_byte b at)
+head_chain bundle rows_fit b at = by_first (first b at)
   where
-    by_places : (n : ℕ) (log : Log) (m : Read (List PlaceFields)) → net_read bundle (and_then m (λ ps. give (record { events = n; log = log; places = ps })) b) ≡ places_read bundle n m
-    by_places n log (value (item ps next)) = refl
-    by_places n log (refused number spot) = refl
+    made : First → List Entry → List PlaceFields → Head
+    made f xs ps = record { is_new = f.is_new; events = f.events; entries = xs; places = ps }
 
-    by_words : (n : ℕ) (m : Read Log)
-        → net_read bundle (and_then m (λ log. places n >>= λ ps. give (record { events = n; log = log; places = ps })) b)
-        ≡ and_then (map_read event_count m) (behind_words bundle rows_fit n) b
-    by_words n (value (item log next)) = by_places n log (places n b next)
-    by_words n (refused number spot) = refl
+    by_places : (f : First) (xs : List Entry) (m : Read (List PlaceFields))
+        → net_read bundle (and_then m (λ ps. give (made f xs ps)) b) ≡ places_read bundle f.events m
+    by_places f xs (value (item ps next)) = refl
+    by_places f xs (refused number spot) = refl
 
-    by_count : (n : ℕ) (m : Read ℕ)
-        → net_read bundle (and_then m (λ count. following count (word (rows_fit n) n) >>= λ log. places n >>= λ ps. give (record { events = n; log = log; places = ps })) b)
-        ≡ and_then m (behind_count bundle rows_fit n) b
-    by_count n (value (item count next)) = by_words n (following count (word (rows_fit n) n) b next)
-    by_count n (refused number spot) = refl
+    by_words : (f : First) (m : Read (List Entry))
+        → net_read bundle (and_then m (λ xs. places f.events >>= λ ps. give (made f xs ps)) b)
+        ≡ and_then (map_read events_of m) (behind_words bundle rows_fit f) b
+    by_words f (value (item xs next)) = by_places f xs (places f.events b next)
+    by_words f (refused number spot) = refl
 
-    by_n : (m : Read ℕ) → net_read bundle (and_then m (head_after rows_fit) b) ≡ and_then m (behind_n bundle rows_fit) b
-    by_n (value (item n next)) = by_count n (byte anything b next)
-    by_n (refused number spot) = refl
+    by_count : (f : First) (m : Read ℕ)
+        → net_read bundle
+        (and_then m (λ count. following count (entry (rows_fit f.events) f) >>= λ xs. places f.events >>= λ ps. give (made f xs ps)) b)
+        ≡ and_then m (behind_count bundle rows_fit f) b
+    by_count f (value (item count next)) = by_words f (following count (entry (rows_fit f.events) f) b next)
+    by_count f (refused number spot) = refl
+
+    by_first : (m : Read First) → net_read bundle (and_then m (head_after rows_fit) b) ≡ and_then m (behind_first bundle rows_fit) b
+    by_first (value (item f next)) = by_count f (byte anything b next)
+    by_first (refused number spot) = refl
 
 -- behind the bundle's length
 module _ (b : List ℕ) where
@@ -148,32 +158,34 @@ module _ {net : Kept} (found : HeadAt net) where
   pub place_within : (j : ℕ) → j < net.count → spot_of net j + 2 * place_size net.n ≤ length net.bundle.now
   place_within j h = place_inside net.n net.first net.count j (length net.bundle.now) h found.inside
 
-module _ (rows_fit : ℕ → Log → Bool) (b : List ℕ) (n : ℕ) (h : Head) (next : ℕ) where
+module _ (rows_fit : ℕ → Log → Bool) (b : List ℕ) (f : First) (h : Head) (next : ℕ) where
   -- what the last reader of a head says of its places
-  last-got : (log : Log) (at : ℕ) (m : Read (List PlaceFields)) → places n b at ≡ m → and_then m (λ ps. give (record { events = n; log = log; places = ps })) b ≡ got h next
-      → (h.events ≡ n) × PlacesAt n b h.places next
+  last-got : (xs : List Entry) (at : ℕ) (m : Read (List PlaceFields)) → places f.events b at ≡ m
+      → and_then m (λ ps. give (record { is_new = f.is_new; events = f.events; entries = xs; places = ps })) b ≡ got h next
+      → (h.events ≡ f.events) × PlacesAt f.events b h.places next
   unfolding bind onward
-  last-got log at (value (item ps end)) is e =
-      let same : record { events = n; log = log; places = ps } ≡ h = cc in
+  last-got xs at (value (item ps end)) is e =
+      let same : record { is_new = f.is_new; events = f.events; entries = xs; places = ps } ≡ h = cc in
       let ends : end ≡ next = cc in
-      (sym (ap (λ (x : Head). x.events) same), places-got n b at h.places next (is ∙ ap₂ got (ap (λ (x : Head). x.places) same) ends))
-  last-got log at (refused number spot) is e = impossible cc
+      (sym (ap (λ (x : Head). x.events) same), places-got f.events b at h.places next (is ∙ ap₂ got (ap (λ (x : Head). x.places) same) ends))
+  last-got xs at (refused number spot) is e = impossible cc
 
-  after-got : (at : ℕ) → head_after rows_fit n b at ≡ got h next → (h.events ≡ n) × PlacesAt n b h.places next
+  after-got : (at : ℕ) → head_after rows_fit f b at ≡ got h next → (h.events ≡ f.events) × PlacesAt f.events b h.places next
   unfolding head_after
   after-got at e =
       let words = and_then-got b (byte anything b at) _ h next e in
-      let log = and_then-got b (following words.0 (word (rows_fit n) n) b words.1) _ h next words.3 in
-      last-got log.0 log.1 (places n b log.1) refl log.3
+      let xs = and_then-got b (following words.0 (entry (rows_fit f.events) f) b words.1) _ h next words.3 in
+      last-got xs.0 xs.1 (places f.events b xs.1) refl xs.3
 
 -- the event count's limits, and the places
-head-parts : (rows_fit : ℕ → Log → Bool) (b : List ℕ) (h : Head) (next : ℕ) → head rows_fit b 0 ≡ got h next → ((1 ≤ h.events) × (h.events ≤ max_events)) × PlacesAt h.events b h.places next
-head-parts rows_fit b h next e = go (first_byte b 0) refl
+head-parts : (rows_fit : ℕ → Log → Bool) (b : List ℕ) (h : Head) (next : ℕ) → head rows_fit b 0 ≡ got h next
+    → ((1 ≤ h.events) × (h.events ≤ max_events)) × PlacesAt h.events b h.places next
+head-parts rows_fit b h next e = go (first b 0) refl
   where
-    go : (m : Read ℕ) → first_byte b 0 ≡ m → ((1 ≤ h.events) × (h.events ≤ max_events)) × PlacesAt h.events b h.places next
-    go (value (item n at)) is =
-        let rest = after-got rows_fit b n h next at (sym (head-got rows_fit b 0 is) ∙ e) in
-        let limits = first-limits b 0 n at is in
+    go : (m : Read First) → first b 0 ≡ m → ((1 ≤ h.events) × (h.events ≤ max_events)) × PlacesAt h.events b h.places next
+    go (value (item f at)) is =
+        let rest = after-got rows_fit b f h next at (sym (head-got rows_fit b 0 is) ∙ e) in
+        let limits = first-limits b 0 f at is in
         ((omega (arith, limits, rest.0), omega (arith, limits, rest.0)), subst (λ (k : ℕ). PlacesAt k b h.places next) (sym rest.0) rest.1)
     go (refused number spot) is = let never : refused number spot ≡ got h next = sym (head-failed rows_fit b 0 is) ∙ e in impossible cc
 
@@ -183,11 +195,12 @@ head-parts rows_fit b h next e = go (first_byte b 0) refl
 pub head_unlimited : (rows_fit : ℕ → Log → Bool) (b : List ℕ) (h : Head) (next : ℕ) → head rows_fit b 0 ≡ got h next → head any_rows b 0 ≡ got h next
 unfolding head head_after bind onward
 head_unlimited rows_fit b h next e =
-    let n = and_then-got b (first_byte b 0) (head_after rows_fit) h next e in
-    let behind = λ (log : Log). places n.0 >>= (λ (ps : List PlaceFields). give (record { events = n.0; log = log; places = ps })) in
-    let count = and_then-got b (byte anything b n.1) (λ (count : ℕ). following count (word (rows_fit n.0) n.0) >>= behind) h next n.3 in
-    let log = and_then-got b (following count.0 (word (rows_fit n.0) n.0) b count.1) behind h next count.3 in
-    rw (n.2, count.2, words_unlimited (rows_fit n.0) n.0 b count.0 [] count.1 log.0 log.1 log.2) log.3
+    let f = and_then-got b (first b 0) (head_after rows_fit) h next e in
+    let behind = λ (xs : List Entry). places f.0.events
+    >>= (λ (ps : List PlaceFields). give (record { is_new = f.0.is_new; events = f.0.events; entries = xs; places = ps })) in
+    let count = and_then-got b (byte anything b f.1) (λ (count : ℕ). following count (entry (rows_fit f.0.events) f.0) >>= behind) h next f.3 in
+    let xs = and_then-got b (following count.0 (entry (rows_fit f.0.events) f.0) b count.1) behind h next count.3 in
+    rw (f.2, count.2, entries-unlimited (rows_fit f.0.events) f.0 b count.0 [] count.1 xs.0 xs.1 xs.2) xs.3
 
 pub head-of : (b : List ℕ) (h : Head) (next : ℕ) → head any_rows b 0 ≡ got h next → head_of b ≡ h
 unfolding head_of head_in
@@ -211,7 +224,9 @@ kept_of bundle h next is same =
         events = ap (λ (x : Head). x.events) same;
         limits = parts.0;
         few = omega (arith, size, p.few);
-        places = ap (λ (x : Head). x.places) same ∙ p.items ∙ ap₂ (λ (k at : ℕ). items_at (place_size n) (fields_at n) k b at) (sym size) (sym first);
+        places = ap (λ (x : Head). x.places) same
+            ∙ p.items
+            ∙ ap₂ (λ (k at : ℕ). items_at (place_size n) (fields_at n) k b at) (sym size) (sym first);
         inside = omega (arith, p.end, p.within, product);
       },
       end,
@@ -261,7 +276,8 @@ module _ (b : List ℕ) where
   unfolding read_head bundle_head bundle_size require results.require bind onward
   chain = go (right_size (length b))
     where
-      go : (ok : Bool) → bind (bind (cond ok (got (tt {0}) 0) (refused bundle_length_number 0)) (onward (λ u. head any_rows) b)) (λ i. value (item_in i))
+      go : (ok : Bool)
+          → bind (bind (cond ok (got (tt {0}) 0) (refused bundle_length_number 0)) (onward (λ u. head any_rows) b)) (λ i. value (item_in i))
           ≡ bind (cond ok (value (tt {0})) (refused bundle_length_number 0)) (λ u. rest)
       go true = refl
       go false = refl
@@ -337,6 +353,7 @@ module _ (bundle : Bor (List ℕ)) where
       go (value (item h next)) q = impossible cc
       go (refused number spot) q = let same : record { number = number; spot = spot } ≡ r = cc in ap (λ (r : Refusal). refused r.number r.spot) same
 
-  pub kept_read : (net : Kept) → head_read bundle (bundle_head bundle.now 0) ≡ Ok net → HeadAt net × (net.bundle.now ≡ bundle.now) × HeadIsRead bundle.now
+  pub kept_read : (net : Kept) → head_read bundle (bundle_head bundle.now 0) ≡ Ok net
+      → HeadAt net × (net.bundle.now ≡ bundle.now) × HeadIsRead bundle.now
   unfolding read_head bind item_in
   kept_read net e = let found = head-kept bundle net e in (found.0, found.1, rw found.2)

@@ -1,4 +1,4 @@
--- The code's struct for the places of a bundle, and what it keeps of them.
+-- The code's structs for what it reads of a head: what the first byte says, a word with its mark, the places; and what they stand for.
 use Rattle.std.specs.Prelude.{◌≡◌, List, ℕ, ◌≤◌, ◌<◌, length, Ok, Err}
 use Rattle.std.proofs.Props.{props}
 use Rattle.std.proofs.Common.{ap}
@@ -10,8 +10,20 @@ use Rattle.places.specs.declared.Place.{Place}
 use Rattle.bundles.specs.PlaceReading.{Kept, spot_of, end_of, fields_at, machine_place}
 use Rattle.bundles.specs.declared.Reader.{Reader}
 use Rattle.bundles.specs.declared.net.Net.{Net}
+use Rattle.bundles.specs.declared.First.{First}
+use Rattle.bundles.specs.declared.words.Entry.{Entry}
+use Rattle.bundles.specs.Layout as layout
+use Rattle.nets.specs.Nets as nets
 
--- its fields
+-- what the first byte says
+abbrev pub said : First → layout.First
+said f = record { is_new = f.is_new; events = f.n }
+
+-- a word with its mark
+abbrev pub marked : Entry → nets.Entry
+marked x = record { word = x.word.now; completed = x.completed }
+
+-- the places of a net
 abbrev pub kept : Net → Kept
 kept net = record { bundle = net.bundle; n = net.n; count = net.count; first = net.first }
 

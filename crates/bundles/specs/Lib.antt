@@ -1,7 +1,9 @@
 pub mod Reading
 pub mod Layout
+pub mod SignCases
 pub mod Readers
 pub mod ReadingLaws
+pub mod Editions
 pub mod LayoutLaws
 pub mod Limits
 pub mod Bytes

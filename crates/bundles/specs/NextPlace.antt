@@ -26,7 +26,8 @@ module _ {n first count spot j : ℕ} (next : Next n first count spot j) (h : j 
   next-there size inside = omega (arith, place_inside n first count j size h inside, next.offset)
 
   -- the code's place there is place j from `first` on
-  pub next_place : (b : List ℕ) {q : Declared.Place} → q ≡ machine_place (fields_at n b spot) → place_of q ≡ place_on n b (first + 2 * (j * place_size n))
+  pub next_place : (b : List ℕ) {q : Declared.Place} → q ≡ machine_place (fields_at n b spot)
+      → place_of q ≡ place_on n b (first + 2 * (j * place_size n))
   next_place b e = ap place_of e ∙ place_means (fields_at n b spot) ∙ ap (place_on n b) next.offset
 
   pub next-again : Next n first count (spot + 2 * place_size n) (j + 1)

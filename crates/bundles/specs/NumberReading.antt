@@ -32,7 +32,8 @@ spans_number = record {
 }
 
 -- the same in other words
-pub spans_same : {A : Type 0} {r : Reader A} {j k : ℕ} {v w : List ℕ → ℕ → A} → j ≡ k → ((b : List ℕ) (at : ℕ) → v b at ≡ w b at) → Spans r j v → Spans r k w
+pub spans_same : {A : Type 0} {r : Reader A} {j k : ℕ} {v w : List ℕ → ℕ → A}
+    → j ≡ k → ((b : List ℕ) (at : ℕ) → v b at ≡ w b at) → Spans r j v → Spans r k w
 spans_same {j = j} {k} {v} {w} e same s = record {
   there = λ b at h. s.there b at (omega arith) ∙ ap₂ got (same b at) (ap (λ (i : ℕ). at + 2 * i) e);
   missing = λ b at h. s.missing b at (omega arith);
@@ -53,7 +54,8 @@ spans_then {A} {B} {r} {f} {j} {k} {v} {w} s t = record { there = there; missing
         let end : at + 2 * j + 2 * k ≡ at + 2 * (j + k) = omega arith in
         rw (s.there b at first) ((t (v b at)).there b (at + 2 * j) second ∙ rw end)
 
-    missing : (b : List ℕ) (at : ℕ) → numbers_left b at < j + k → (numbers_left b at < j) ⊎ (j ≤ numbers_left b at) → and_then (r b at) f b ≡ refused bundle_end_number (at + 2 * numbers_left b at)
+    missing : (b : List ℕ) (at : ℕ) → numbers_left b at < j + k → (numbers_left b at < j) ⊎ (j ≤ numbers_left b at)
+        → and_then (r b at) f b ≡ refused bundle_end_number (at + 2 * numbers_left b at)
     missing b at h (inl less) = rw (s.missing b at less)
     missing b at h (inr more) =
         let second : numbers_left b (at + 2 * j) < k = omega arith in
@@ -74,7 +76,8 @@ module _ {A : Type 0} (size : ℕ) (value : List ℕ → ℕ → A) where
   items-length (suc k) b at = ap suc (items-length k b (at + 2 * size))
 
   -- one item more, behind the others
-  pub items_snoc : (k : ℕ) (b : List ℕ) (at : ℕ) → items_at size value (suc k) b at ≡ items_at size value k b at ++ value b (at + 2 * (k * size)) ∷ []
+  pub items_snoc : (k : ℕ) (b : List ℕ) (at : ℕ)
+      → items_at size value (suc k) b at ≡ items_at size value k b at ++ value b (at + 2 * (k * size)) ∷ []
   unfolding items_at
   items_snoc zero b at = let here : at + 2 * (0 * size) ≡ at = omega (arith, zero-mul size) in rw here
   items_snoc (suc k) b at =
@@ -82,9 +85,13 @@ module _ {A : Type 0} (size : ℕ) (value : List ℕ → ℕ → A) where
       ap {B = List A} (λ l. value b at ∷ l) (items_snoc k b (at + 2 * size) ∙ rw here)
 
   -- those behind the first j
-  pub items-append : (j k : ℕ) (b : List ℕ) (at : ℕ) → items_at size value (j + k) b at ≡ items_at size value j b at ++ items_at size value k b (at + 2 * (j * size))
+  pub items-append : (j k : ℕ) (b : List ℕ) (at : ℕ)
+      → items_at size value (j + k) b at ≡ items_at size value j b at ++ items_at size value k b (at + 2 * (j * size))
   unfolding items_at
-  items-append zero k b at = let here : at + 2 * (0 * size) ≡ at = omega (arith, zero-mul size) in let none : 0 + k ≡ k = omega arith in rw (here, none)
+  items-append zero k b at =
+      let here : at + 2 * (0 * size) ≡ at = omega (arith, zero-mul size) in
+      let none : 0 + k ≡ k = omega arith in
+      rw (here, none)
   items-append (suc j) k b at =
       let here : at + 2 * size + 2 * (j * size) ≡ at + 2 * (suc j * size) = omega (arith, suc-mul j size) in
       let more : suc j + k ≡ suc (j + k) = omega arith in
@@ -109,7 +116,8 @@ module _ {A : Type 0} (size : ℕ) (value : List ℕ → ℕ → A) where
         let others : k * size ≤ numbers_left b (at + 2 * size) = omega arith in
         let end : at + 2 * size + 2 * (k * size) ≡ at + 2 * (suc k * size) = omega arith in
         rw (s.there b at first)
-        (each-there k (before ++ value b at ∷ []) b (at + 2 * size) others ∙ ap₂ got (append_assoc before (value b at ∷ []) (items_at size value k b (at + 2 * size))) end)
+        (each-there k (before ++ value b at ∷ []) b (at + 2 * size) others
+        ∙ ap₂ got (append_assoc before (value b at ∷ []) (items_at size value k b (at + 2 * size))) end)
 
     each-missing : (k : ℕ) (before : List A) (b : List ℕ) (at : ℕ) → numbers_left b at < k * size
         → each (λ (u : Unit {0}) items. r) (replicate k (tt {0})) before b at ≡ refused bundle_end_number (at + 2 * numbers_left b at)
@@ -118,8 +126,10 @@ module _ {A : Type 0} (size : ℕ) (value : List ℕ → ℕ → A) where
     each-missing (suc k) before b at h = go (lt_or_le (numbers_left b at) size) (each-missing k)
       where
         go : (numbers_left b at < size) ⊎ (size ≤ numbers_left b at)
-            → ((items : List A) (b' : List ℕ) (at' : ℕ) → numbers_left b' at' < k * size → each (λ (u : Unit {0}) before'. r) (replicate k (tt {0})) items b' at' ≡ refused bundle_end_number (at' + 2 * numbers_left b' at'))
-            → and_then (r b at) (λ x. each (λ (u : Unit {0}) items. r) (replicate k (tt {0})) (before ++ x ∷ [])) b ≡ refused bundle_end_number (at + 2 * numbers_left b at)
+            → ((items : List A) (b' : List ℕ) (at' : ℕ) → numbers_left b' at' < k * size
+            → each (λ (u : Unit {0}) before'. r) (replicate k (tt {0})) items b' at' ≡ refused bundle_end_number (at' + 2 * numbers_left b' at'))
+            → and_then (r b at) (λ x. each (λ (u : Unit {0}) items. r) (replicate k (tt {0})) (before ++ x ∷ [])) b
+            ≡ refused bundle_end_number (at + 2 * numbers_left b at)
         go (inl less) below = rw (s.missing b at less)
         go (inr more) below =
             let product = suc-mul k size in

@@ -57,16 +57,21 @@ module _ (b : List ℕ) (small : Bytes b) where
   numbers-small : (n at e : ℕ) → get_or (numbers_at n b at) e 0 < 65536
   numbers-small n at e = ⊎_elim
       (λ h. subst (λ (x : ℕ). x < 65536) (sym (get_d_items 1 number_at n b at e 0 h)) (number_small (at + 2 * (e * 1))))
-      (λ h. subst (λ (x : ℕ). x < 65536) (sym (get_or-eq_default (numbers_at n b at) 0 (omega (arith, items-length 1 number_at n b at)))) (omega arith))
+      (λ h. subst (λ (x : ℕ). x < 65536)
+      (sym (get_or-eq_default (numbers_at n b at) 0 (omega (arith, items-length 1 number_at n b at)))) (omega arith))
       (lt_or_le e n)
 
-  pub place-small : (n at : ℕ) → ((place_on n b at).initial < 65536) × ((e : ℕ) → (place_on n b at).produced e < 65536) × ((e : ℕ) → (place_on n b at).consumed e < 65536)
+  pub place-small : (n at : ℕ)
+      → ((place_on n b at).initial < 65536) × ((e : ℕ) → (place_on n b at).produced e < 65536) × ((e : ℕ) → (place_on n b at).consumed e < 65536)
   unfolding to_place
   place-small n at = (number_small at, numbers-small n (at + 2), numbers-small n (at + 2 + 2 * n))
 
 pub spans_place : (n : ℕ) → Spans (place n) (place_size n) (fields_at n)
 unfolding place
-spans_place n = spans_same (omega (arith, mul-one n)) (λ b at. rw (mul-one n)) (spans_then spans_number (λ m. spans_then numbers (λ ins. spans_then numbers (λ outs. spans_give (record { initial = m; produced = ins; consumed = outs })))))
+spans_place n =
+    spans_same (omega (arith, mul-one n)) (λ b at. rw (mul-one n))
+    (spans_then spans_number (λ m. spans_then numbers (λ ins.
+    spans_then numbers (λ outs. spans_give (record { initial = m; produced = ins; consumed = outs })))))
   where
     numbers : Spans (times n (number anything)) (n * 1) (numbers_at n)
     numbers = spans_times 1 number_at spans_number n
@@ -139,7 +144,8 @@ module _ (n : ℕ) (b : List ℕ) (at : ℕ) where
       go true e = row-start b at
       go false e = let none : n ≡ 0 = omega (arith, ltb-false 0 n e) in rw none (row-start b at)
 
-  pub kept_next : (i : ℕ) → i < max_events → n ≤ max_events → set (kept_numbers i) i (cond (ltb i n) (number_at b (at + 2 * i)) 0) ≡ kept_numbers (i + 1)
+  pub kept_next : (i : ℕ) → i < max_events → n ≤ max_events
+      → set (kept_numbers i) i (cond (ltb i n) (number_at b (at + 2 * i)) 0) ≡ kept_numbers (i + 1)
   unfolding kept_numbers
   kept_next i h few = go (ltb i n) refl (ltb (i + 1) n) refl
     where
@@ -197,12 +203,14 @@ module _ (n : ℕ) (b : List ℕ) (at : ℕ) where
     unfolding places bind onward
     places-missing h = rw (e) ((spans_times (place_size n) (fields_at n) (spans_place n) count).missing b first h)
 
-    pub places-there : count * place_size n ≤ numbers_left b first → places n b at ≡ got (items_at (place_size n) (fields_at n) count b first) (first + 2 * (count * place_size n))
+    pub places-there : count * place_size n ≤ numbers_left b first
+        → places n b at ≡ got (items_at (place_size n) (fields_at n) count b first) (first + 2 * (count * place_size n))
     unfolding places bind onward
     places-there h = rw (e) ((spans_times (place_size n) (fields_at n) (spans_place n) count).there b first h)
 
     pub places-kept : (bundle : Bor (List ℕ)) → count * place_size n ≤ numbers_left b first
-        → places_read bundle n (places n b at) ≡ got (record { bundle = bundle; n = n; count = count; first = first }) (first + 2 * (count * place_size n))
+        → places_read bundle n (places n b at)
+        ≡ got (record { bundle = bundle; n = n; count = count; first = first }) (first + 2 * (count * place_size n))
     unfolding places_read
     places-kept bundle h =
         let size = items-length (place_size n) (fields_at n) count b first in
@@ -222,7 +230,8 @@ module _ {old new : Reader} (n count : ℕ) (counted : ReadBy old new (Ok count)
       →refused counted.bytes (rw counted.bytes (ap (places_read old.bytes n) (places-missing n old.bytes.now old.at (read_got counted) here)))
 
   pub read_kept : {A : Type 0} {means : A → Kept} → count * place_size n ≤ numbers_left new.bytes.now new.at → {x : A} {after : Reader}
-      → means x ≡ record { bundle = new.bytes; n = n; count = count; first = new.at } → after ≡ record new { at = new.at + 2 * (count * place_size n) }
+      → means x ≡ record { bundle = new.bytes; n = n; count = count; first = new.at }
+      → after ≡ record new { at = new.at + 2 * (count * place_size n) }
       → ReadAs means old after (Ok x) (placed old.bytes n (places n))
   read_kept there is ends =
       let here = rw counted.bytes at there in
@@ -239,7 +248,8 @@ module _ {old new : Reader} (n count : ℕ) (counted : ReadBy old new (Ok count)
 pub read-uncounted : {A : Type 0} {means : A → Kept} {old new : Reader} {e : Refusal} (n : ℕ) → ReadBy old new (Err e) (byte (up_to max_places))
     → ReadAs means old new (Err e) (placed old.bytes n (places n))
 unfolding places_read
-read-uncounted {A} {means} {old} n refuses = →refused refuses.bytes (ap (places_read old.bytes n) (places-failed n old.bytes.now old.at (read-refused refuses)))
+read-uncounted {A} {means} {old} n refuses =
+    →refused refuses.bytes (ap (places_read old.bytes n) (places-failed n old.bytes.now old.at (read-refused refuses)))
 
 -- places that were read: so many, one behind the other
 pub record PlacesAt (n : ℕ) (b : List ℕ) (ps : List PlaceFields) (next : ℕ) : Type 0 where
@@ -268,5 +278,6 @@ places-got n b at ps next e =
         record { count = count; few = few; first = first; items = (cc); end = end; within = omega arith }
 
 -- place j of them lies in the bundle
-pub place_inside : (n first count j size : ℕ) → j < count → first + 2 * (count * place_size n) ≤ size → first + 2 * (j * place_size n) + 2 * place_size n ≤ size
+pub place_inside : (n first count j size : ℕ) → j < count → first + 2 * (count * place_size n) ≤ size
+    → first + 2 * (j * place_size n) + 2 * place_size n ≤ size
 place_inside n first count j size h inside = omega (arith, mul-le-mul_right (place_size n) h, suc-mul j (place_size n))

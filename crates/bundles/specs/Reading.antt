@@ -53,7 +53,8 @@ require ok number spot b at = cond ok (got tt at) (refused number spot)
 
 -- a field of some bytes with the value x: 6 where it is not there whole, 7 where x is outside its range
 unfoldable pub field : ℕ → ℕ → (ℕ → Bool) → Reader ℕ
-field size x in_range b at = cond (leb (at + size) (length b)) (cond (in_range x) (got x (at + size)) (refused value_number at)) (refused bundle_end_number at)
+field size x in_range b at =
+    cond (leb (at + size) (length b)) (cond (in_range x) (got x (at + size)) (refused value_number at)) (refused bundle_end_number at)
 
 -- one byte
 unfoldable pub byte : (ℕ → Bool) → Reader ℕ

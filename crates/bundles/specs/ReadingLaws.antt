@@ -28,7 +28,8 @@ module _ (b : List ℕ) where
 
   -- the front of a bundle
   pub part-front : (x rest : List ℕ) → b ≡ x ++ rest → Part b 0 x (length x)
-  part-front x rest e = record { bytes = e ∙ ap (λ (l : List ℕ). x ++ l) (sym (ap (drop (length x)) e ∙ drop-append_seam x rest)); end = omega arith }
+  part-front x rest e =
+      record { bytes = e ∙ ap (λ (l : List ℕ). x ++ l) (sym (ap (drop (length x)) e ∙ drop-append_seam x rest)); end = omega arith }
 
   pub part-append : (at mid next : ℕ) (x y : List ℕ) → Part b at x mid → Part b mid y next → Part b at (x ++ y) next
   part-append at mid next x y p q = record {
@@ -48,7 +49,9 @@ module _ (b : List ℕ) where
 
   pub part_right : (at next : ℕ) (x y : List ℕ) → Part b at (x ++ y) next → Part b (at + length x) y next
   part_right at next x y p = record {
-    bytes = sym (drop-drop (length x) at b) ∙ ap (drop (length x)) (p.bytes ∙ append_assoc x y (drop next b)) ∙ drop-append_seam x (y ++ drop next b);
+    bytes = sym (drop-drop (length x) at b)
+        ∙ ap (drop (length x)) (p.bytes ∙ append_assoc x y (drop next b))
+        ∙ drop-append_seam x (y ++ drop next b);
     end = omega (arith, length-append x y, p.end);
   }
 
@@ -70,7 +73,7 @@ module _ {A B : Type 0} (b : List ℕ) where
   module _ {r : Reader A} {write : A → List ℕ} {Valid : A → Type 0} (law : Law b r write Valid) where
     pub law-then : {f : A → Reader B} {write' : A → B → List ℕ} {Valid' : A → B → Type 0} (first : B → A)
         → ((x : A) → Valid x → Law b (f x) (write' x) (Valid' x))
-        → ((x : A) (y : B) → Valid' x y → first y ≡ x)
+        → ((x : A) → Valid x → (y : B) → Valid' x y → first y ≡ x)
         → Law b (r >>= f) (λ y. write (first y) ++ write' (first y) y) (λ y. Valid (first y) × Valid' (first y) y)
     unfolding bind onward
     law-then {f} {write'} {Valid'} first laws shown = record {
@@ -78,7 +81,7 @@ module _ {A B : Type 0} (b : List ℕ) where
           let s = and_then-got (r b at) f y next e in
           let p = law.sound at s.0 s.1 s.2 in
           let q = (laws s.0 p.0).sound s.1 y next s.3 in
-          subst (λ (x : A). (Valid x × Valid' x y) × Part b at (write x ++ write' x y) next) (sym (shown s.0 y q.0))
+          subst (λ (x : A). (Valid x × Valid' x y) × Part b at (write x ++ write' x y) next) (sym (shown s.0 p.0 y q.0))
           ((p.0, q.0), part-append b at s.1 next (write s.0) (write' s.0 y) p.1 q.1);
       complete = λ at y next v p.
           rw (law.complete at (first y) (at + length (write (first y))) v.0 (part_left b at next (write (first y)) (write' (first y) y) p))
@@ -86,7 +89,8 @@ module _ {A B : Type 0} (b : List ℕ) where
     }
 
     -- a value made of what was read
-    pub law-give : {g : A → B} (first : B → A) → ((x : A) → first (g x) ≡ x) → Law b (r >>= λ x. give (g x)) (λ y. write (first y)) (λ y. Valid (first y) × (y ≡ g (first y)))
+    pub law-give : {g : A → B} (first : B → A) → ((x : A) → Valid x → first (g x) ≡ x)
+        → Law b (r >>= λ x. give (g x)) (λ y. write (first y)) (λ y. Valid (first y) × (y ≡ g (first y)))
     unfolding bind onward
     law-give {g} first undo = record {
       sound = λ at y next e.
@@ -94,20 +98,22 @@ module _ {A B : Type 0} (b : List ℕ) where
           let p = law.sound at s.0 s.1 s.2 in
           let made : g s.0 ≡ y = cc s.3 in
           let ends : s.1 ≡ next = cc s.3 in
-          let q : s.0 ≡ first y = sym (undo s.0) ∙ ap first made in
+          let q : s.0 ≡ first y = sym (undo s.0 p.0) ∙ ap first made in
           ((subst Valid q p.0, sym made ∙ ap g q), subst (λ (x : A). Part b at (write x) next) q (subst (Part b at (write s.0)) ends p.1));
       complete = λ at y next v p. rw (law.complete at (first y) next v.0 p) (ap (λ (z : B). got z next) (sym v.1));
     }
 
 -- a test that was passed
-pub require-got : {B : Type 0} (ok : Bool) (number spot : ℕ) (r : Reader B) (b : List ℕ) (at : ℕ) (y : B) (next : ℕ) → (require ok number spot >> r) b at ≡ got y next → (ok ≡ true) × (r b at ≡ got y next)
+pub require-got : {B : Type 0} (ok : Bool) (number spot : ℕ) (r : Reader B) (b : List ℕ) (at : ℕ) (y : B) (next : ℕ)
+    → (require ok number spot >> r) b at ≡ got y next → (ok ≡ true) × (r b at ≡ got y next)
 unfolding require bind onward
 require-got true number spot r b at y next e = (refl, e)
 require-got false number spot r b at y next e = impossible cc
 
 module _ {A : Type 0} (b : List ℕ) {r : Reader A} {write : A → List ℕ} {Valid : A → Type 0} (law : Law b r write Valid) where
   -- the same law in other words
-  pub law-same : {write' : A → List ℕ} {Valid' : A → Type 0} → ((x : A) → Valid x → write x ≡ write' x) → ((x : A) → Valid x → Valid' x) → ((x : A) → Valid' x → Valid x) → Law b r write' Valid'
+  pub law-same : {write' : A → List ℕ} {Valid' : A → Type 0} → ((x : A) → Valid x → write x ≡ write' x)
+      → ((x : A) → Valid x → Valid' x) → ((x : A) → Valid' x → Valid x) → Law b r write' Valid'
   law-same {write'} {Valid'} same to from = record {
     sound = λ at x next e. let s = law.sound at x next e in (to x s.0, subst (λ (l : List ℕ). Part b at l next) (same x s.0) s.1);
     complete = λ at x next v p. law.complete at x next (from x v) (subst (λ (l : List ℕ). Part b at l next) (sym (same x (from x v))) p);
@@ -126,7 +132,8 @@ module _ {A : Type 0} (b : List ℕ) {r : Reader A} {write : A → List ℕ} {Va
   }
 
   -- before a test of what was read
-  pub law-tested : (ok : A → Bool) (refusal : A → ℕ) (spot : ℕ) → Law b (r >>= λ x. require (ok x) (refusal x) spot >> give x) write (λ x. Valid x × T (ok x))
+  pub law-tested : (ok : A → Bool) (refusal : A → ℕ) (spot : ℕ)
+      → Law b (r >>= λ x. require (ok x) (refusal x) spot >> give x) write (λ x. Valid x × T (ok x))
   unfolding bind onward require
   law-tested ok refusal spot = record {
     sound = λ at y next e.
@@ -139,8 +146,16 @@ module _ {A : Type 0} (b : List ℕ) {r : Reader A} {write : A → List ℕ} {Va
     complete = λ at y next v p. rw (law.complete at y next v.0 p, yes_true (ok y) v.1);
   }
 
+-- a value that takes no bytes
+pub law-nothing : {A : Type 0} (b : List ℕ) (x : A) → Law b (give x) (λ y. []) (λ y. y ≡ x)
+law-nothing b x = record {
+  sound = λ at y next e. let same : x ≡ y = cc in let ends : at ≡ next = cc in (sym same, subst (Part b at []) ends (part-empty b at));
+  complete = λ at y next v p. rw v (ap (got x) (omega (arith, p.end)));
+}
+
 -- a reader that is given the offset where it starts
-pub law-offset : {A : Type 0} (b : List ℕ) {f : ℕ → Reader A} {write : A → List ℕ} {Valid : A → Type 0} → ((at : ℕ) → Law b (f at) write Valid) → Law b (offset >>= f) write Valid
+pub law-offset : {A : Type 0} (b : List ℕ) {f : ℕ → Reader A} {write : A → List ℕ} {Valid : A → Type 0}
+    → ((at : ℕ) → Law b (f at) write Valid) → Law b (offset >>= f) write Valid
 unfolding bind onward
 law-offset b laws = record { sound = λ at. (laws at).sound at; complete = λ at. (laws at).complete at }
 
@@ -151,18 +166,21 @@ unfoldable pub ranged : (ℕ → Bool) → ℕ → ℕ → ℕ → Read ℕ
 ranged in_range x at next = cond (in_range x) (got x next) (refused value_number at)
 
 module _ (b : List ℕ) where
-  pub field-got : (size x : ℕ) (in_range : ℕ → Bool) (at y next : ℕ) → field size x in_range b at ≡ got y next → (at + size ≤ length b) × T (in_range x) × (x ≡ y) × (next ≡ at + size)
+  pub field-got : (size x : ℕ) (in_range : ℕ → Bool) (at y next : ℕ) → field size x in_range b at ≡ got y next
+      → (at + size ≤ length b) × T (in_range x) × (x ≡ y) × (next ≡ at + size)
   unfolding field
   field-got size x in_range at y next e = go (leb (at + size) (length b)) refl (in_range x) e
     where
-      go : (there : Bool) → leb (at + size) (length b) ≡ there → (good : Bool) → cond there (cond good (got x (at + size)) (refused value_number at)) (refused bundle_end_number at) ≡ got y next
+      go : (there : Bool) → leb (at + size) (length b) ≡ there → (good : Bool)
+          → cond there (cond good (got x (at + size)) (refused value_number at)) (refused bundle_end_number at) ≡ got y next
           → (at + size ≤ length b) × T good × (x ≡ y) × (next ≡ at + size)
       go true t true e = (leb→le (at + size) (length b) (rw t tt), tt, (cc), (cc))
       go true t false e = impossible cc
       go false t true e = impossible cc
       go false t false e = impossible cc
 
-  pub field-there : (size x : ℕ) (in_range : ℕ → Bool) (at : ℕ) → at + size ≤ length b → field size x in_range b at ≡ ranged in_range x at (at + size)
+  pub field-there : (size x : ℕ) (in_range : ℕ → Bool) (at : ℕ) → at + size ≤ length b
+      → field size x in_range b at ≡ ranged in_range x at (at + size)
   unfolding field ranged
   field-there size x in_range at h = rw (le-leb (at + size) (length b) h)
 
@@ -175,7 +193,9 @@ module _ (b : List ℕ) where
   part-within at next x h p = omega (arith, length-drop at b, length-append x (drop next b), ap length p.bytes)
 
   part-first : (at next x : ℕ) (xs : List ℕ) → Part b at (x ∷ xs) next → get_or b at 0 ≡ x
-  part-first at next x xs p = ap (λ (i : ℕ). get_or b i 0) (sym (add-zero at)) ∙ sym (get_or-drop at b 0 0) ∙ ap (λ (l : List ℕ). get_or l 0 0) p.bytes
+  part-first at next x xs p = ap (λ (i : ℕ). get_or b i 0) (sym (add-zero at))
+      ∙ sym (get_or-drop at b 0 0)
+      ∙ ap (λ (l : List ℕ). get_or l 0 0) p.bytes
 
   part-byte : (at : ℕ) → at < length b → Part b at (get_or b at 0 ∷ []) (at + 1)
   part-byte at h = record { bytes = drop-cons b at 0 h ∙ rw add-one; end = refl }
@@ -188,7 +208,9 @@ module _ (b : List ℕ) where
           let s = field-got 1 (get_or b at 0) in_range at x next e in
           subst (λ (y : ℕ). (T (in_range y) × (y < 256)) × Part b at (y ∷ []) next) s.2
           ((s.1, bytes at), subst (Part b at (get_or b at 0 ∷ [])) (sym s.3) (part-byte at (omega (arith, s.0))));
-      complete = λ at x next v p. rw (part-first at next x [] p) (field-there 1 x in_range at (part-within at next (x ∷ []) (omega arith) p) ∙ in_range_lem x in_range at (at + 1) v.0 ∙ ap (got x) (sym p.end));
+      complete = λ at x next v p. rw (part-first at next x [] p) (field-there 1 x in_range at (part-within at next (x ∷ []) (omega arith) p)
+          ∙ in_range_lem x in_range at (at + 1) v.0
+          ∙ ap (got x) (sym p.end));
     }
 
     pub law-number : Law b (number in_range) le16 (λ x. T (in_range x) × (x < 65536))
@@ -197,7 +219,8 @@ module _ (b : List ℕ) where
       sound = λ at x next e.
           let s = field-got 2 (number_at b at) in_range at x next e in
           let two : Part b at (get_or b at 0 ∷ get_or b (at + 1) 0 ∷ []) (at + 1 + 1) =
-          part-append b at (at + 1) (at + 1 + 1) (get_or b at 0 ∷ []) (get_or b (at + 1) 0 ∷ []) (part-byte at (omega (arith, s.0))) (part-byte (at + 1) (omega (arith, s.0))) in
+          part-append b at (at + 1) (at + 1 + 1) (get_or b at 0 ∷ []) (get_or b (at + 1) 0 ∷ [])
+          (part-byte at (omega (arith, s.0))) (part-byte (at + 1) (omega (arith, s.0))) in
           let value : get_or b at 0 + 256 * get_or b (at + 1) 0 ≡ x = s.2 in
           let low : get_or b at 0 ≡ x % 256 = omega (arith, bytes at) in
           let quotient : x / 256 ≡ get_or b (at + 1) 0 = omega (arith, bytes at) in
@@ -208,10 +231,13 @@ module _ (b : List ℕ) where
             subst (Part b at (le16 x)) ends (subst (λ (l : List ℕ). Part b at l (at + 1 + 1)) (ap₂ (λ (c d : ℕ). c ∷ d ∷ []) low high) two),
           );
       complete = λ at x next v p.
-          let high : get_or b (at + 1) 0 ≡ x / 256 % 256 = part-first (at + 1) next (x / 256 % 256) [] (part_right b at next (x % 256 ∷ []) (x / 256 % 256 ∷ []) p) in
+          let high : get_or b (at + 1) 0 ≡ x / 256 % 256 =
+          part-first (at + 1) next (x / 256 % 256) [] (part_right b at next (x % 256 ∷ []) (x / 256 % 256 ∷ []) p) in
           let whole : x / 256 % 256 ≡ x / 256 = mod-eq_of_lt (omega (arith, v.1)) in
           let value : number_at b at ≡ x = omega (arith, part-first at next (x % 256) (x / 256 % 256 ∷ []) p, high, whole) in
-          rw value (field-there 2 x in_range at (part-within at next (le16 x) (omega arith) p) ∙ in_range_lem x in_range at (at + 2) v.0 ∙ ap (got x) (sym p.end));
+          rw value (field-there 2 x in_range at (part-within at next (le16 x) (omega arith) p)
+          ∙ in_range_lem x in_range at (at + 2) v.0
+          ∙ ap (got x) (sym p.end));
     }
 
 -- ---- lists of fields
@@ -224,7 +250,8 @@ module _ {S A : Type 0} where
   EachValid P (s ∷ ss) before [] = ⊥
   EachValid P (s ∷ ss) before (x ∷ xs) = P s before x × EachValid P ss (before ++ x ∷ []) xs
 
-  module _ (b : List ℕ) {r : S → List A → Reader A} {write : A → List ℕ} {P : S → List A → A → Type 0} (laws : (s : S) (before : List A) → Law b (r s before) write (P s before)) where
+  module _ (b : List ℕ) {r : S → List A → Reader A} {write : A → List ℕ} {P : S → List A → A → Type 0}
+      (laws : (s : S) (before : List A) → Law b (r s before) write (P s before)) where
     each-sound : (ss : List S) (before : List A) (at : ℕ) (ys : List A) (next : ℕ) → each r ss before b at ≡ got ys next
         → (xs : List A) × (ys ≡ before ++ xs) × EachValid P ss before xs × Part b at (flat_map write xs) next
     unfolding each bind onward flat_map
@@ -238,7 +265,8 @@ module _ {S A : Type 0} where
         let q = each-sound ss (before ++ m.0 ∷ []) m.1 ys next m.3 in
         (m.0 ∷ q.0, q.1 ∙ append_assoc before (m.0 ∷ []) q.0, (p.0, q.2), part-append b at m.1 next (write m.0) (flat_map write q.0) p.1 q.3)
 
-    each-complete : (ss : List S) (before : List A) (at : ℕ) (xs : List A) (next : ℕ) → EachValid P ss before xs → Part b at (flat_map write xs) next → each r ss before b at ≡ got (before ++ xs) next
+    each-complete : (ss : List S) (before : List A) (at : ℕ) (xs : List A) (next : ℕ) → EachValid P ss before xs
+        → Part b at (flat_map write xs) next → each r ss before b at ≡ got (before ++ xs) next
     unfolding each bind onward flat_map
     each-complete [] before at [] next v p = ap₂ got (sym (append-nil before)) (omega (arith, p.end))
     each-complete [] before at (x ∷ xs) next v p = absurd v
@@ -250,7 +278,8 @@ module _ {S A : Type 0} where
 
     pub law-each : (ss : List S) → Law b (each r ss []) (flat_map write) (EachValid P ss [])
     law-each ss = record {
-      sound = λ at ys next e. let s = each-sound ss [] at ys next e in subst (λ (l : List A). EachValid P ss [] l × Part b at (flat_map write l) next) (sym s.1) (s.2, s.3);
+      sound = λ at ys next e. let s = each-sound ss [] at ys next e in
+          subst (λ (l : List A). EachValid P ss [] l × Part b at (flat_map write l) next) (sym s.1) (s.2, s.3);
       complete = λ at xs next v p. each-complete ss [] at xs next v p;
     }
 
@@ -261,7 +290,8 @@ module _ {A : Type 0} where
   Following P before (x ∷ xs) = P before x × Following P (before ++ x ∷ []) xs
 
   module _ (P : List A → A → Type 0) where
-    to-following : (k : ℕ) (before xs : List A) → EachValid (λ (s : Unit {0}). P) (replicate k tt) before xs → (length xs ≡ k) × Following P before xs
+    to-following : (k : ℕ) (before xs : List A) → EachValid (λ (s : Unit {0}). P) (replicate k tt) before xs
+        → (length xs ≡ k) × Following P before xs
     to-following zero before [] v = (refl, tt)
     to-following zero before (x ∷ xs) v = absurd v
     to-following (suc k) before [] v = absurd v
@@ -271,8 +301,11 @@ module _ {A : Type 0} where
     from-following before [] v = tt
     from-following before (x ∷ xs) v = (v.0, from-following (before ++ x ∷ []) xs v.1)
 
-  pub law-following : (b : List ℕ) {r : List A → Reader A} {write : A → List ℕ} {P : List A → A → Type 0} → ((before : List A) → Law b (r before) write (P before)) → (k : ℕ) → Law b (following k r) (flat_map write) (λ xs. (length xs ≡ k) × Following P [] xs)
-  law-following b {P = P} laws k = law-same b (law-each b (λ s before. laws before) (replicate k tt)) (λ xs v. refl) (λ xs v. to-following P k [] xs v) (λ xs v. rw (← v.0) (from-following P [] xs v.1))
+  pub law-following : (b : List ℕ) {r : List A → Reader A} {write : A → List ℕ} {P : List A → A → Type 0}
+      → ((before : List A) → Law b (r before) write (P before)) → (k : ℕ)
+      → Law b (following k r) (flat_map write) (λ xs. (length xs ≡ k) × Following P [] xs)
+  law-following b {P = P} laws k = law-same b (law-each b (λ s before. laws before) (replicate k tt))
+      (λ xs v. refl) (λ xs v. to-following P k [] xs v) (λ xs v. rw (← v.0) (from-following P [] xs v.1))
 
   module _ (P : A → Type 0) where
     following_every : (before xs : List A) → Following (λ before. P) before xs → Every P xs
@@ -283,5 +316,7 @@ module _ {A : Type 0} where
     every_following before [] v = tt
     every_following before (x ∷ xs) v = (v.0, every_following (before ++ x ∷ []) xs v.1)
 
-  pub law-times : (b : List ℕ) {r : Reader A} {write : A → List ℕ} {P : A → Type 0} → Law b r write P → (k : ℕ) → Law b (times k r) (flat_map write) (λ xs. (length xs ≡ k) × Every P xs)
-  law-times b {P = P} law k = law-same b (law-following b (λ before. law) k) (λ xs v. refl) (λ xs v. (v.0, following_every P [] xs v.1)) (λ xs v. (v.0, every_following P [] xs v.1))
+  pub law-times : (b : List ℕ) {r : Reader A} {write : A → List ℕ} {P : A → Type 0} → Law b r write P
+      → (k : ℕ) → Law b (times k r) (flat_map write) (λ xs. (length xs ≡ k) × Every P xs)
+  law-times b {P = P} law k = law-same b (law-following b (λ before. law) k) (λ xs v. refl)
+      (λ xs v. (v.0, following_every P [] xs v.1)) (λ xs v. (v.0, every_following P [] xs v.1))

@@ -23,7 +23,8 @@ module _ (k : ℕ) where
   -- of one place of a list, and of all
   pub one-scaled : (before : List PlaceFields) (p : PlaceFields) (behind : List PlaceFields)
       → map to_place (before ++ scaled_fields k p ∷ behind) ≡ map to_place before ++ scaled k (to_place p) ∷ map to_place behind
-  one-scaled before p behind = map-append to_place before (scaled_fields k p ∷ behind) ∙ ap (λ (q : Place). map to_place before ++ q ∷ map to_place behind) (place-scaled p)
+  one-scaled before p behind = map-append to_place before (scaled_fields k p ∷ behind)
+      ∙ ap (λ (q : Place). map to_place before ++ q ∷ map to_place behind) (place-scaled p)
 
   pub all-scaled : (ps : List PlaceFields) → map to_place (map (scaled_fields k) ps) ≡ map (scaled k) (map to_place ps)
   all-scaled [] = refl

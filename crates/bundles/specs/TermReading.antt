@@ -3,10 +3,11 @@ use Rattle.std.specs.Prelude.{◌≡◌, List, ℕ}
 use Rattle.std.proofs.Common.{refl}
 use Rattle.refusals.specs.Results.{bind}
 use Rattle.bundles.specs.Reading.{Reader, ◌>>=◌, give, byte, number, onward}
-use Rattle.bundles.specs.Layout.{TermFields}
-use Rattle.bundles.specs.Readers.{anything, term}
+use Rattle.bundles.specs.Layout.{TermFields, PairFields}
+use Rattle.bundles.specs.Readers.{anything, term, pair}
 use Rattle.bundles.specs.FieldReading.{below}
 use Rattle.bundles.specs.declared.terms.Term.{Term}
+use Rattle.bundles.specs.declared.terms.Pair.{Pair}
 use Rattle.bundles.specs.declared.terms.Kind.{Kind}
 use Rattle.bundles.specs.declared.terms.Kind.TheVariants.{Place, Weights}
 
@@ -32,3 +33,18 @@ behind_row n row = byte (below n) >>= behind_event row
 pub term_chain : (n rows : ℕ) (b : List ℕ) (at : ℕ) → term n rows b at ≡ (number (below rows) >>= behind_row n) b at
 unfolding term bind onward
 term_chain n rows b at = refl
+
+-- the fields of a pair
+abbrev pub pair_fields : Pair → PairFields
+pair_fields q = record { word = q.word; weight = q.weight }
+
+-- a pair's field behind its word
+abbrev pub made_pair : ℕ → ℕ → Reader PairFields
+made_pair word weight = give (record { word = word; weight = weight })
+
+abbrev pub behind_word : ℕ → Reader PairFields
+behind_word word = number anything >>= made_pair word
+
+pub pair_chain : (words : ℕ) (b : List ℕ) (at : ℕ) → pair words b at ≡ (byte (below words) >>= behind_word) b at
+unfolding pair bind onward
+pair_chain words b at = refl

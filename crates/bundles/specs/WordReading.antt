@@ -1,9 +1,10 @@
--- Reading lists of fields in a loop, and the words of a log.
+-- Reading lists of fields in a loop, and the entries of a log.
 use Rattle.std.specs.Prelude.{◌≡◌, Bool, true, false, cond, List, [], ◌∷◌, ◌++◌, leb, get_or, take, drop, replicate, ◌&&◌, Some, None, min}
 use Rattle.std.proofs.Math.Path.{refl, ap}
 use Rattle.std.proofs.Common.{sym, ap₂, ◌∙◌, subst, append-nil, append_assoc, not-suc-le-zero, length-append, length-take, length-drop, drop-cons, leb-true, ⊎_elim, add-one, drop_of_length-le, take_all, true≢false}
 use Prim.Native.Nat.{ℕ, zero, suc, ◌+◌, ◌-◌, ◌≤◌, ◌<◌}
 use native.Mathlib.Omega.{arith}
+use Rattle.std.proofs.Math.Dec.{eqb}
 use Rattle.std.proofs.Math.ListN.{length}
 use Rattle.std.proofs.lemmas.List.{length-replicate}
 use Rattle.laws.specs.Booleans.{impossible, lt_or_le}
@@ -15,10 +16,11 @@ use Rattle.laws.specs.Every.{Every, every_last}
 use Rattle.limits.specs.Limits.{max_log_events}
 use Rattle.refusals.specs.Table.{events_number, rows_number, bundle_end_number, value_number}
 use Rattle.refusals.specs.Results.{value, refused, bind}
-use Rattle.nets.specs.Nets.{Word, Log, event_count}
-use Rattle.nets.specs.LogLaws.{event_count_snoc}
+use Rattle.nets.specs.Nets.{Word, Log, Entry, words, event_count}
+use Rattle.nets.specs.LogLaws.{events-snoc}
 use Rattle.bundles.specs.Reading.{Read, got, item, Reader, and_then, ◌>>=◌, ◌>>◌, give, require, byte, each, times, following, onward}
-use Rattle.bundles.specs.Readers.{anything, any_rows, word_after, word}
+use Rattle.bundles.specs.Layout.{First}
+use Rattle.bundles.specs.Readers.{anything, any_rows, mark, entry_after, entry}
 use Rattle.bundles.specs.ReadingLaws.{ranged, and_then-got, require-got}
 use Rattle.bundles.specs.FieldReading.{below, byte-got, byte-there, byte-missing}
 use Rattle.bundles.specs.Chains.{map_read}
@@ -38,12 +40,14 @@ module _ {A : Type 0} (r : List A → Reader A) (b : List ℕ) where
   unfolding rest each
   rest-none before at = refl
 
-  pub rest_more : (left : ℕ) (before : List A) (at : ℕ) (x : A) (next : ℕ) → 0 < left → r before b at ≡ got x next → rest left before at ≡ rest (left - 1) (before ++ x ∷ []) next
+  pub rest_more : (left : ℕ) (before : List A) (at : ℕ) (x : A) (next : ℕ) → 0 < left
+      → r before b at ≡ got x next → rest left before at ≡ rest (left - 1) (before ++ x ∷ []) next
   unfolding rest each bind onward
   rest_more zero before at x next h e = absurd (not-suc-le-zero h)
   rest_more (suc k) before at x next h e = let less : suc k - 1 ≡ k = omega arith in rw (e, less)
 
-  pub rest-failed : (left : ℕ) (before : List A) (at number spot : ℕ) → 0 < left → r before b at ≡ refused number spot → rest left before at ≡ refused number spot
+  pub rest-failed : (left : ℕ) (before : List A) (at number spot : ℕ) → 0 < left
+      → r before b at ≡ refused number spot → rest left before at ≡ refused number spot
   unfolding rest each bind onward
   rest-failed zero before at number spot h e = absurd (not-suc-le-zero h)
   rest-failed (suc k) before at number spot h e = rw e
@@ -60,22 +64,30 @@ unfolding bind onward
 give-again b (value (item x next)) = refl
 give-again b (refused number spot) = refl
 
--- a word whose rows are not counted
-pub word-any : (n : ℕ) (log : Log) (b : List ℕ) (at : ℕ) → word (λ l. true) n log b at ≡ word_after n (event_count log) b at
-unfolding word bind onward require
-word-any n log b at = give-again b (word_after n (event_count log) b at)
+-- an entry whose rows are not counted
+pub entry-any : (f : First) (before : List Entry) (b : List ℕ) (at : ℕ)
+    → entry (λ l. true) f before b at ≡ entry_after f (event_count (words before)) b at
+unfolding entry bind onward require
+entry-any f before b at = give-again b (entry_after f (event_count (words before)) b at)
 
--- what follows the length byte of a word that stands at `start`
-abbrev pub behind_size : ℕ → ℕ → ℕ → ℕ → Reader Word
-behind_size n count start size = require (leb (count + size) max_log_events) events_number start >> times size (byte (below n))
+-- what follows the length byte of an entry that stands at `start`, and its mark
+abbrev pub made_entry : ℕ → Word → Reader Entry
+made_entry m w = give (record { word = w; completed = eqb m 1 })
 
-pub word_chain : (n count : ℕ) (b : List ℕ) (at : ℕ) → word_after n count b at ≡ (byte anything >>= behind_size n count at) b at
-unfolding word_after bind onward
-word_chain n count b at = refl
+abbrev pub behind_mark : First → ℕ → ℕ → Reader Entry
+behind_mark f size m = times size (byte (below f.events)) >>= made_entry m
+
+abbrev pub behind_size : First → ℕ → ℕ → ℕ → Reader Entry
+behind_size f count start size = require (leb (count + size) max_log_events) events_number start >> (mark f.is_new >>= behind_mark f size)
+
+pub entry_chain : (f : First) (count : ℕ) (b : List ℕ) (at : ℕ) → entry_after f count b at ≡ (byte anything >>= behind_size f count at) b at
+unfolding entry_after bind onward
+entry_chain f count b at = refl
 
 -- ---- sizes
 
-pub each-length : {S A : Type 0} (r : S → List A → Reader A) (b : List ℕ) (ss : List S) (before : List A) (at : ℕ) (ys : List A) (next : ℕ) → each r ss before b at ≡ got ys next → length ys ≡ length before + length ss
+pub each-length : {S A : Type 0} (r : S → List A → Reader A) (b : List ℕ) (ss : List S) (before : List A) (at : ℕ) (ys : List A) (next : ℕ)
+    → each r ss before b at ≡ got ys next → length ys ≡ length before + length ss
 unfolding each
 each-length r b [] before at ys next e = let same : before ≡ ys = cc in omega (arith, ap length same)
 each-length r b (s ∷ ss) before at ys next e =
@@ -93,7 +105,8 @@ record BytesAt (b : List ℕ) (at size : ℕ) (x : List ℕ) (next : ℕ) : Type
   within : next ≤ length b
 
 each-byte : (p : ℕ → Bool) (b : List ℕ) (size : ℕ) (before : List ℕ) (at : ℕ) (ys : List ℕ) (next : ℕ) → at ≤ length b
-    → each (λ (s : Unit {0}) items. byte p) (replicate size (tt {0})) before b at ≡ got ys next → (x : List ℕ) × (ys ≡ before ++ x) × BytesAt b at size x next
+    → each (λ (s : Unit {0}) items. byte p) (replicate size (tt {0})) before b at ≡ got ys next
+    → (x : List ℕ) × (ys ≡ before ++ x) × BytesAt b at size x next
 unfolding each
 each-byte p b zero before at ys next h e =
     let same : before ≡ ys = cc in
@@ -195,7 +208,8 @@ module _ (n size : ℕ) (b : List ℕ) (at end : ℕ) (inside : at ≤ length b)
   present_all : present ≡ take size (drop at b)
   present_all = ⊎_elim
       (λ fewer. let all : end - at ≡ length b - at = omega arith in
-      rw all (take_all (length b - at) (drop at b) (omega (arith, length-drop at b)) ∙ sym (take_all size (drop at b) (omega (arith, length-drop at b)))))
+      rw all
+      (take_all (length b - at) (drop at b) (omega (arith, length-drop at b)) ∙ sym (take_all size (drop at b) (omega (arith, length-drop at b)))))
       (λ there. let all : end - at ≡ size = omega arith in rw all)
       (lt_or_le (length b) (at + size))
 
@@ -252,82 +266,111 @@ each_in p b (suc size) before at ys next v e =
     let m = and_then-got b (byte p b at) (λ x. each (λ (s : Unit {0}) items. byte p) (replicate size (tt {0})) (before ++ x ∷ [])) ys next e in
     each_in p b size (before ++ m.0 ∷ []) m.1 ys next (every_last (λ (x : ℕ). p x ≡ true) before m.0 v (byte-got p b at m.0 m.1 m.2).0) m.3
 
--- a word that was read: its length byte counts its events, they keep the log's limit, end where the next field begins, and are below n
-pub record WordGot (n count : ℕ) (b : List ℕ) (at : ℕ) (w : Word) (next : ℕ) : Type 0 where
-  pub counted : length w ≡ get_or b at 0
-  pub limit : count + length w ≤ max_log_events
-  pub ends : EndsAt b w next
-  pub below : Every (λ x. below n x ≡ true) w
+-- a mark that was read lies in the bundle, as what stands before it
+pub mark-got : (is_new : Bool) (b : List ℕ) (at m next : ℕ) → at ≤ length b → mark is_new b at ≡ got m next → next ≤ length b
+unfolding mark
+mark-got true b at m next inside e = (byte-got (λ m. leb m 1) b at m next e).3
+mark-got false b at m next inside e = let ends : at ≡ next = cc in omega (arith, ends)
 
-pub word_got : (n count : ℕ) (b : List ℕ) (at : ℕ) (w : Word) (next : ℕ) → word_after n count b at ≡ got w next → WordGot n count b at w next
-unfolding word_after bind onward
-word_got n count b at w next e =
-    let m = and_then-got b (byte anything b at) (λ size. require (leb (count + size) max_log_events) events_number at >> times size (byte (below n))) w next e in
-    let t = require-got (leb (count + m.0) max_log_events) events_number at (times m.0 (byte (below n))) b m.1 w next m.3 in
-    let f = byte-got anything b at m.0 m.1 m.2 in
-    let size = times-length (byte (below n)) m.0 b m.1 w next t.1 in
-    let r = each-byte (below n) b m.0 [] m.1 w next f.3 t.1 in
-    record {
-      counted = size ∙ f.1;
+-- an entry that was read: its length byte counts its events, they keep the log's limit, end where the next field begins, and are below n
+pub record EntryGot (f : First) (count : ℕ) (b : List ℕ) (at : ℕ) (x : Entry) (next : ℕ) : Type 0 where
+  pub counted : length x.word ≡ get_or b at 0
+  pub limit : count + length x.word ≤ max_log_events
+  pub ends : EndsAt b x.word next
+  pub below : Every (λ e. below f.events e ≡ true) x.word
+
+pub entry-got : (f : First) (count : ℕ) (b : List ℕ) (at : ℕ) (x : Entry) (next : ℕ)
+    → entry_after f count b at ≡ got x next → EntryGot f count b at x next
+unfolding entry_after bind onward
+entry-got f count b at x next e =
+    let n = f.events in
+    let m = and_then-got b (byte anything b at) (behind_size f count at) x next e in
+    let t = require-got (leb (count + m.0) max_log_events) events_number at (mark f.is_new >>= behind_mark f m.0) b m.1 x next m.3 in
+    let g = byte-got anything b at m.0 m.1 m.2 in
+    let k = and_then-got b (mark f.is_new b m.1) (behind_mark f m.0) x next t.1 in
+    let inside = mark-got f.is_new b m.1 k.0 k.1 g.3 k.2 in
+    let w = and_then-got b (times m.0 (byte (below n)) b k.1) (made_entry k.0) x next k.3 in
+    let made : record { word = w.0; completed = eqb k.0 1 } ≡ x = cc w.3 in
+    let last : w.1 ≡ next = cc w.3 in
+    let size = times-length (byte (below n)) m.0 b k.1 w.0 w.1 w.2 in
+    let r = each-byte (below n) b m.0 [] k.1 w.0 w.1 inside w.2 in
+    let bytes : BytesAt b k.1 m.0 w.0 w.1 = subst (λ (l : List ℕ). BytesAt b k.1 m.0 l w.1) (sym r.1) r.2 in
+    subst (λ (i : ℕ). EntryGot f count b at x i) last (subst (λ (y : Entry). EntryGot f count b at y w.1) made (record {
+      counted = size ∙ g.1;
       limit = omega (arith, leb-true (count + m.0) max_log_events t.0, size);
-      ends = ends_at (subst (λ (x : List ℕ). BytesAt b m.1 m.0 x next) (sym r.1) r.2);
-      below = each_in (below n) b m.0 [] m.1 w next tt t.1;
-    }
+      ends = ends_at bytes;
+      below = each_in (below n) b m.0 [] k.1 w.0 w.1 tt w.2;
+    }))
 
--- ---- the words of a log, as a loop reads them
+-- ---- the entries of a log, as a loop reads them
 
--- so far a log with so many events was read, and so many words are left behind it
-pub record WordsLeft (n : ℕ) (b : List ℕ) (at count next events left : ℕ) : Type 0 where
-  pub log : Log
-  pub total : event_count log ≡ events
+-- the events of entries
+abbrev pub events_of : List Entry → ℕ
+events_of xs = event_count (words xs)
+
+-- so far entries with so many events were read, and so many are left behind them
+pub record EntriesLeft (f : First) (b : List ℕ) (at count next events left : ℕ) : Type 0 where
+  pub entries : List Entry
+  pub total : events_of entries ≡ events
   pub limit : events ≤ max_log_events
-  pub same : following count (word (any_rows n) n) b at ≡ rest (word (any_rows n) n) b left log next
+  pub same : following count (entry (any_rows f.events) f) b at ≡ rest (entry (any_rows f.events) f) b left entries next
 
-module _ (n : ℕ) (b : List ℕ) (at count : ℕ) where
-  pub words-start : WordsLeft n b at count at 0 count
-  unfolding event_count
-  words-start = record { log = []; total = refl; limit = omega arith; same = rest_all (word (any_rows n) n) b count at }
+module _ (f : First) (b : List ℕ) (at count : ℕ) where
+  abbrev one : List Entry → Reader Entry
+  one = entry (any_rows f.events) f
 
-  pub words-done : {next events left : ℕ} → WordsLeft n b at count next events left → left ≤ 0 → map_read event_count (following count (word (any_rows n) n) b at) ≡ got events next
+  pub entries-start : EntriesLeft f b at count at 0 count
+  unfolding event_count words
+  entries-start = record { entries = []; total = refl; limit = omega arith; same = rest_all one b count at }
+
+  pub entries-done : {next events left : ℕ} → EntriesLeft f b at count next events left
+      → left ≤ 0 → map_read events_of (following count one b at) ≡ got events next
   unfolding map_read
-  words-done {next} {events} {left} s h = let none : left ≡ 0 = omega arith in rw (s.same, none, rest-none, s.total)
+  entries-done {next} {events} {left} s h = let none : left ≡ 0 = omega arith in rw (s.same, none, rest-none, s.total)
 
-  module _ {next events left : ℕ} (s : WordsLeft n b at count next events left) (more : 0 < left) where
-    pub words-failed : {number spot : ℕ} → word_after n events b next ≡ refused number spot → map_read event_count (following count (word (any_rows n) n) b at) ≡ refused number spot
+  module _ {next events left : ℕ} (s : EntriesLeft f b at count next events left) (more : 0 < left) where
+    pub entries-failed : {number spot : ℕ} → entry_after f events b next ≡ refused number spot
+        → map_read events_of (following count one b at) ≡ refused number spot
     unfolding map_read
-    words-failed {number} {spot} e =
-        ap (map_read event_count) (s.same ∙ rest-failed (word (any_rows n) n) b left s.log next number spot more (word-any n s.log b next ∙ rw s.total e))
+    entries-failed {number} {spot} e =
+        ap (map_read events_of) (s.same ∙ rest-failed one b left s.entries next number spot more (entry-any f s.entries b next ∙ rw s.total e))
 
-    pub words-next : {w : Word} {after : ℕ} → word_after n events b next ≡ got w after → WordsLeft n b at count after (events + length w) (left - 1)
-    words-next {w} {after} e = record {
-      log = s.log ++ w ∷ [];
-      total = event_count_snoc s.log w ∙ rw s.total;
-      limit = (word_got n events b next w after e).limit;
-      same = s.same ∙ rest_more (word (any_rows n) n) b left s.log next w after more (word-any n s.log b next ∙ rw s.total e);
+    pub entries_next : {x : Entry} {after : ℕ} → entry_after f events b next ≡ got x after
+        → EntriesLeft f b at count after (events + length x.word) (left - 1)
+    entries_next {x} {after} e = record {
+      entries = s.entries ++ x ∷ [];
+      total = events-snoc s.entries x ∙ rw s.total;
+      limit = (entry-got f events b next x after e).limit;
+      same = s.same ∙ rest_more one b left s.entries next x after more (entry-any f s.entries b next ∙ rw s.total e);
     }
 
--- a word and the test behind it, for judging
-pub word-tested : (fits : Log → Bool) (n : ℕ) (log : Log) (b : List ℕ) (at : ℕ) (w : Word) (next : ℕ) → word_after n (event_count log) b at ≡ got w next
-    → word fits n log b at ≡ cond (fits (log ++ w ∷ [])) (got w next) (refused rows_number at)
-unfolding word bind onward require
-word-tested fits n log b at w next e = rw e (go (fits (log ++ w ∷ [])))
+-- an entry and the test behind it, for judging
+pub entry-tested : (fits : Log → Bool) (f : First) (before : List Entry) (b : List ℕ) (at : ℕ) (x : Entry) (next : ℕ)
+    → entry_after f (events_of before) b at ≡ got x next
+    → entry fits f before b at ≡ cond (fits (words (before ++ x ∷ []))) (got x next) (refused rows_number at)
+unfolding entry bind onward require
+entry-tested fits f before b at x next e = rw e (go (fits (words (before ++ x ∷ []))))
   where
-    go : (ok : Bool) → and_then (cond ok (got (tt {0}) next) (refused rows_number at)) (λ u. give w) b ≡ cond ok (got w next) (refused rows_number at)
+    go : (ok : Bool)
+        → and_then (cond ok (got (tt {0}) next) (refused rows_number at)) (λ u. give x) b ≡ cond ok (got x next) (refused rows_number at)
     go true = refl
     go false = refl
 
--- a word that was read with a limit on its rows is read the same without one
-word_unlimited : (fits : Log → Bool) (n : ℕ) (log : Log) (b : List ℕ) (at : ℕ) (w : Word) (next : ℕ) → word fits n log b at ≡ got w next → word (any_rows n) n log b at ≡ got w next
-unfolding word bind onward require
-word_unlimited fits n log b at w next e =
-    let r = and_then-got b (word_after n (event_count log) b at) (λ w. require (fits (log ++ w ∷ [])) rows_number at >> give w) w next e in
-    let t = require-got (fits (log ++ r.0 ∷ [])) rows_number at (give r.0) b r.1 w next r.3 in
+-- an entry that was read with a limit on its rows is read the same without one
+entry-unlimited : (fits : Log → Bool) (f : First) (before : List Entry) (b : List ℕ) (at : ℕ) (x : Entry) (next : ℕ)
+    → entry fits f before b at ≡ got x next → entry (any_rows f.events) f before b at ≡ got x next
+unfolding entry bind onward require
+entry-unlimited fits f before b at x next e =
+    let r =
+    and_then-got b (entry_after f (events_of before) b at) (λ x. require (fits (words (before ++ x ∷ []))) rows_number at >> give x) x next e in
+    let t = require-got (fits (words (before ++ r.0 ∷ []))) rows_number at (give r.0) b r.1 x next r.3 in
     rw r.2 t.1
 
-pub words_unlimited : (fits : Log → Bool) (n : ℕ) (b : List ℕ) (k : ℕ) (before : Log) (at : ℕ) (log : Log) (next : ℕ)
-    → each (λ (s : Unit {0}). word fits n) (replicate k tt) before b at ≡ got log next → each (λ (s : Unit {0}). word (any_rows n) n) (replicate k tt) before b at ≡ got log next
+pub entries-unlimited : (fits : Log → Bool) (f : First) (b : List ℕ) (k : ℕ) (before : List Entry) (at : ℕ) (xs : List Entry) (next : ℕ)
+    → each (λ (s : Unit {0}). entry fits f) (replicate k tt) before b at ≡ got xs next
+    → each (λ (s : Unit {0}). entry (any_rows f.events) f) (replicate k tt) before b at ≡ got xs next
 unfolding each bind onward
-words_unlimited fits n b zero before at log next e = e
-words_unlimited fits n b (suc k) before at log next e =
-    let r = and_then-got b (word fits n before b at) (λ w. each (λ (s : Unit {0}). word fits n) (replicate k tt) (before ++ w ∷ [])) log next e in
-    rw (word_unlimited fits n before b at r.0 r.1 r.2) (words_unlimited fits n b k (before ++ r.0 ∷ []) r.1 log next r.3)
+entries-unlimited fits f b zero before at xs next e = e
+entries-unlimited fits f b (suc k) before at xs next e =
+    let r = and_then-got b (entry fits f before b at) (λ x. each (λ (s : Unit {0}). entry fits f) (replicate k tt) (before ++ x ∷ [])) xs next e in
+    rw (entry-unlimited fits f before b at r.0 r.1 r.2) (entries-unlimited fits f b k (before ++ r.0 ∷ []) r.1 xs next r.3)

@@ -4,16 +4,16 @@
 
 pub mod fields; // a byte, a number
 pub mod net; // the places of a net, and one of them
-pub mod terms; // a certificate's kind, a term
-pub mod words; // a word, the words of a log
+pub mod terms; // a certificate's kind, a term, a pair
+pub mod words; // a word with its mark, the words of a log
 
 ghost use Rattle.std.specs.Prelude.{◌≡◌};
-ghost use Rattle.bundles.specs.Readers.{any_rows, first_byte, head, bundle_head};
-ghost use Rattle.bundles.specs.Chains.{ReadAs, ReadBy};
+ghost use Rattle.bundles.specs.Readers.{any_rows, first, head, bundle_head};
+ghost use Rattle.bundles.specs.Chains.{ReadAs};
 ghost use Rattle.bundles.specs.HeadReading.{headed, head_read};
-ghost use Rattle.bundles.specs.Keeping.{kept, kept_answer};
+ghost use Rattle.bundles.specs.Keeping.{said, kept, kept_answer};
 
-use limits::{MAX_EVENTS, size_fits};
+use limits::{MAX_EVENTS, NEW_EDITION, size_fits};
 use net::Net;
 use refusals::{Cause, Refusal};
 
@@ -24,13 +24,24 @@ pub struct Reader<'a> {
     pub at: usize,
 }
 
+// What the first byte of a bundle says: whether it is of the new edition, which marks its words, and n.
+#[derive(Clone, Copy)]
+pub struct First {
+    pub is_new: bool,
+    pub n: u8,
+}
+
 impl<'a> Reader<'a> {
-    // The first byte of a bundle: the event count.
+    // The first byte of a bundle: n, the event count, and in the new edition 128 more.
     #[inline(always)]
-    pub fn first_byte(&mut self) -> Result<u8, Refusal>
-        ensures { ReadBy self.old self.new result first_byte }
+    pub fn first(&mut self) -> Result<First, Refusal>
+        ensures { ReadAs said self.old self.new result first }
     {
-        self.byte(|n| (1..=MAX_EVENTS).contains(&usize::from(n)))
+        let byte = self.byte(|x| (1..=MAX_EVENTS).contains(&usize::from(x % NEW_EDITION)))?;
+        Ok(First {
+            is_new: NEW_EDITION <= byte,
+            n: byte % NEW_EDITION,
+        })
     }
 
     // The fields of a bundle up to its last place.
@@ -38,10 +49,10 @@ impl<'a> Reader<'a> {
     fn head(&mut self) -> Result<Net<'a>, Refusal>
         ensures { ReadAs kept self.old self.new result (headed self.old.bytes (head any_rows)) }
     {
-        let n = self.first_byte()?;
+        let first = self.first()?;
         let count = self.any_byte()?;
-        self.words(usize::from(n), usize::from(count))?;
-        self.places(n)
+        self.words(first, usize::from(count))?;
+        self.places(first.n)
     }
 }
 

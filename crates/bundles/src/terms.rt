@@ -1,9 +1,9 @@
-// The fields of a certificate: its kind, and a term of its weights. All are inner functions.
+// The fields of a certificate: its kind, and a term and a pair of its weights. All are inner functions.
 ghost use Rattle.std.specs.Prelude.{◌≡◌, leb};
 ghost use Rattle.bundles.specs.Reading.{byte};
-ghost use Rattle.bundles.specs.Readers.{term};
+ghost use Rattle.bundles.specs.Readers.{term, pair};
 ghost use Rattle.bundles.specs.Chains.{ReadAs};
-ghost use Rattle.bundles.specs.TermReading.{kind_number, term_fields};
+ghost use Rattle.bundles.specs.TermReading.{kind_number, term_fields, pair_fields};
 
 use crate::Reader;
 use refusals::{Cause, Refusal};
@@ -32,6 +32,13 @@ pub struct Term {
     pub weight: u16,
 }
 
+// A pair: the number of a word, and a signed weight as its two bytes say it.
+#[derive(Clone, Copy)]
+pub struct Pair {
+    pub word: u8,
+    pub weight: u16,
+}
+
 impl<'a> Reader<'a> {
     // The kind of a certificate. Another byte is refused where it stands: a `TryFrom` would hand its caller an error that says less.
     #[inline(always)]
@@ -54,5 +61,15 @@ impl<'a> Reader<'a> {
         let event = self.byte(|event| usize::from(event) < n)?;
         let weight = self.any_number()?;
         Ok(Term { row, event, weight })
+    }
+
+    // A pair, where there are so many words.
+    #[inline(always)]
+    pub fn pair(&mut self, words: usize) -> Result<Pair, Refusal>
+        ensures { ReadAs pair_fields self.old self.new result (pair words) }
+    {
+        let word = self.byte(|word| usize::from(word) < words)?;
+        let weight = self.any_number()?;
+        Ok(Pair { word, weight })
     }
 }

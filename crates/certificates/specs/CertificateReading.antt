@@ -13,7 +13,8 @@ use Rattle.limits.specs.Limits.{max_events}
 use Rattle.refusals.specs.Answers.{Answer}
 use Rattle.refusals.specs.Results.{refused, bind}
 use Rattle.refusals.specs.declared.Refusal.{Refusal}
-use Rattle.nets.specs.Nets.{Step, Certificate, continuations, allowed_steps, wrong_continuations, is_by_place, tally}
+use Rattle.nets.specs.Nets.{Step, continuations, allowed_steps, wrong_continuations}
+use Rattle.nets.specs.Bundle.{Certificate, is_by_place, tally}
 use Rattle.bundles.specs.Reading as reading
 use Rattle.bundles.specs.Reading.{Read, got, item, each, onward}
 use Rattle.bundles.specs.Chains.{map_read, map_read-got, map_read-failed}
@@ -30,15 +31,18 @@ use Rattle.certificates.specs.declared.Progress.{Progress}
 -- ---- reading an item for each member of a list
 
 -- reading an item for each member of `all` from `at` is reading one for each member of ss from `next`, behind the items `before`
-pub record Left {S A : Type 0} (r : S → List A → reading.Reader A) (b : List ℕ) (all : List S) (at : ℕ) (ss : List S) (before : List A) (next : ℕ) : Type 0 where
+pub record Left {S A : Type 0} (r : S → List A → reading.Reader A) (b : List ℕ)
+    (all : List S) (at : ℕ) (ss : List S) (before : List A) (next : ℕ) : Type 0 where
   pub same : each r all [] b at ≡ each r ss before b next
 
 module _ {S A : Type 0} {r : S → List A → reading.Reader A} {b : List ℕ} {all : List S} {at : ℕ} {before : List A} {pos : ℕ} where
-  left-next : {s : S} {ss : List S} {x : A} {next : ℕ} → Left r b all at (s ∷ ss) before pos → r s before b pos ≡ got x next → Left r b all at ss (before ++ x ∷ []) next
+  left-next : {s : S} {ss : List S} {x : A} {next : ℕ} → Left r b all at (s ∷ ss) before pos
+      → r s before b pos ≡ got x next → Left r b all at ss (before ++ x ∷ []) next
   unfolding each bind onward
   left-next l e = record { same = l.same ∙ rw e }
 
-  left-failed : {s : S} {ss : List S} {cause spot : ℕ} → Left r b all at (s ∷ ss) before pos → r s before b pos ≡ refused cause spot → each r all [] b at ≡ refused cause spot
+  left-failed : {s : S} {ss : List S} {cause spot : ℕ} → Left r b all at (s ∷ ss) before pos
+      → r s before b pos ≡ refused cause spot → each r all [] b at ≡ refused cause spot
   unfolding each bind onward
   left-failed l e = l.same ∙ rw e
 
@@ -99,7 +103,8 @@ pub record PassedTo (h : Head) (b : List ℕ) (at i e : ℕ) (s : Progress) : Ty
   pub weights_count : s.tally.by_weights ≡ weights_of h before
   pub size : length before ≡ s.tally.by_place + s.tally.by_weights
 
-pub passed_start : (h : Head) (b : List ℕ) (reader : Reader) (count : ℕ) → count ≡ length (rows_in h) → PassedTo h b reader.at 0 0 (none_passed reader count)
+pub passed_start : (h : Head) (b : List ℕ) (reader : Reader) (count : ℕ)
+    → count ≡ length (rows_in h) → PassedTo h b reader.at 0 0 (none_passed reader count)
 unfolding wrong_continuations allowed_steps keep
 passed_start h b reader count rows =
     let first : 0 * h.events + 0 ≡ 0 = omega arith in
@@ -120,7 +125,8 @@ module _ {h : Head} {b : List ℕ} {at i e : ℕ} {s : Progress} (l : PassedTo h
       let same : i * h.events + e ≡ (i + 1) * h.events + 0 = omega (arith, add-mul i 1 h.events, one-mul h.events) in
       record {
         before = l.before;
-        left = subst (λ (k : ℕ). Left (solved h) b (wrong_in h) at (keep (λ s. not (allowed_in h s)) (drop k (continuations_in h))) l.before s.reader.at) same l.left;
+        left = subst (λ (k : ℕ). Left (solved h) b (wrong_in h) at
+            (keep (λ s. not (allowed_in h s)) (drop k (continuations_in h))) l.before s.reader.at) same l.left;
         row_count = l.row_count;
         allowed_count = ap (λ (k : ℕ). s.tally.allowed + length (keep (allowed_in h) (drop k (continuations_in h)))) (sym same) ∙ l.allowed_count;
         place_count = l.place_count;
@@ -133,9 +139,11 @@ module _ {h : Head} {b : List ℕ} {at i e : ℕ} {s : Progress} (l : PassedTo h
   unfolding continuations keep certified_of tally to_bundle
   passed-done past =
       let none : drop (i * h.events + e) (continuations_in h) ≡ [] =
-      drop_of_length-le (continuations_in h) {i = i * h.events + e} (omega (arith, steps-length h.events (rows_in h), mul-le-mul_right h.events past)) in
+      drop_of_length-le (continuations_in h) {i = i * h.events + e}
+      (omega (arith, steps-length h.events (rows_in h), mul-le-mul_right h.events past)) in
       let whole : each (solved h) (wrong_in h) [] b at ≡ got l.before s.reader.at =
-      left-done (subst (λ (xs : List Step). Left (solved h) b (wrong_in h) at (keep (λ s. not (allowed_in h s)) xs) l.before s.reader.at) none l.left) in
+      left-done
+      (subst (λ (xs : List Step). Left (solved h) b (wrong_in h) at (keep (λ s. not (allowed_in h s)) xs) l.before s.reader.at) none l.left) in
       let all : s.tally.allowed ≡ length (allowed_steps_in h) =
       sym (add-zero s.tally.allowed) ∙ ap (λ (xs : List Step). s.tally.allowed + length (keep (allowed_in h) xs)) (sym none) ∙ l.allowed_count in
       rw (whole, ← l.row_count, ← all, ← l.place_count, ← l.weights_count)
@@ -150,21 +158,25 @@ module _ {h : Head} {b : List ℕ} {at i e : ℕ} {s : Progress} (l : PassedTo h
     step_is = steps-at h.events (rows_in h) i e (step_of h i e) inside below
 
     -- the steps behind this one that pass a test
-    passing : (f : Step → Bool) → f (step_of h i e) ≡ true → keep f (drop (i * h.events + e) (continuations_in h)) ≡ step_of h i e ∷ keep f (drop (i * h.events + (e + 1)) (continuations_in h))
+    passing : (f : Step → Bool) → f (step_of h i e) ≡ true
+        → keep f (drop (i * h.events + e) (continuations_in h)) ≡ step_of h i e ∷ keep f (drop (i * h.events + (e + 1)) (continuations_in h))
     passing f t =
         keep-passed f (continuations_in h) (i * h.events + e) (step_of h i e) listed (ap f step_is ∙ t)
         ∙ ap₂ ◌∷◌ step_is (ap (λ (k : ℕ). keep f (drop k (continuations_in h))) (add_assoc (i * h.events) e 1))
 
-    failing : (f : Step → Bool) → f (step_of h i e) ≡ false → keep f (drop (i * h.events + e) (continuations_in h)) ≡ keep f (drop (i * h.events + (e + 1)) (continuations_in h))
+    failing : (f : Step → Bool) → f (step_of h i e) ≡ false
+        → keep f (drop (i * h.events + e) (continuations_in h)) ≡ keep f (drop (i * h.events + (e + 1)) (continuations_in h))
     failing f t =
         keep-failed f (continuations_in h) (i * h.events + e) (step_of h i e) listed (ap f step_is ∙ t)
         ∙ ap (λ (k : ℕ). keep f (drop k (continuations_in h))) (add_assoc (i * h.events) e 1)
 
     -- an allowed step has no certificate
-    pub passed-allowed : allowed_in h (step_of h i e) ≡ true → PassedTo h b at i (e + 1) (record s { tally = record s.tally { allowed = s.tally.allowed + 1 } })
+    pub passed-allowed : allowed_in h (step_of h i e) ≡ true
+        → PassedTo h b at i (e + 1) (record s { tally = record s.tally { allowed = s.tally.allowed + 1 } })
     passed-allowed t = record {
       before = l.before;
-      left = subst (λ (ss : List Step). Left (solved h) b (wrong_in h) at ss l.before s.reader.at) (failing (λ s. not (allowed_in h s)) (ap not t)) l.left;
+      left = subst (λ (ss : List Step). Left (solved h) b (wrong_in h) at ss l.before s.reader.at)
+          (failing (λ s. not (allowed_in h s)) (ap not t)) l.left;
       row_count = l.row_count;
       allowed_count = omega (arith, l.allowed_count, ap (λ (ss : List Step). length ss) (passing (allowed_in h) t));
       place_count = l.place_count;
@@ -174,14 +186,17 @@ module _ {h : Head} {b : List ℕ} {at i e : ℕ} {s : Progress} (l : PassedTo h
 
     module _ (t : allowed_in h (step_of h i e) ≡ false) where
       one_more : Left (solved h) b (wrong_in h) at (step_of h i e ∷ wrong_from h i (e + 1)) l.before s.reader.at
-      one_more = subst (λ (ss : List Step). Left (solved h) b (wrong_in h) at ss l.before s.reader.at) (passing (λ s. not (allowed_in h s)) (ap not t)) l.left
+      one_more = subst (λ (ss : List Step). Left (solved h) b (wrong_in h) at ss l.before s.reader.at)
+          (passing (λ s. not (allowed_in h s)) (ap not t)) l.left
 
       same-allowed : s.tally.allowed + length (allowed_from h i (e + 1)) ≡ length (allowed_steps_in h)
       same-allowed = ap (λ (ss : List Step). s.tally.allowed + length ss) (sym (failing (allowed_in h) t)) ∙ l.allowed_count
 
       -- the certificates with one more, counted by a test
-      more : (f : Certificate → Bool) (c : CertificateFields) → length (keep f (map (to_certificate h) (l.before ++ c ∷ []))) ≡ length (keep f (map (to_certificate h) l.before)) + length (keep f (to_certificate h c ∷ []))
-      more f c = ap (λ (cs : List Certificate). length (keep f cs)) (map-append (to_certificate h) l.before (c ∷ [])) ∙ keep-last f (map (to_certificate h) l.before) (to_certificate h c)
+      more : (f : Certificate → Bool) (c : CertificateFields) → length (keep f (map (to_certificate h) (l.before ++ c ∷ [])))
+          ≡ length (keep f (map (to_certificate h) l.before)) + length (keep f (to_certificate h c ∷ []))
+      more f c = ap (λ (cs : List Certificate). length (keep f cs)) (map-append (to_certificate h) l.before (c ∷ []))
+          ∙ keep-last f (map (to_certificate h) l.before) (to_certificate h c)
 
       -- a wrong continuation has the next certificate
       passed-place : {reader : Reader} → map_read kind_in (solved h (step_of h i e) l.before b s.reader.at) ≡ got Place reader.at
@@ -226,7 +241,8 @@ Passes b i e i' e' s s' (Ok done) =
     (s'.reader.bytes ≡ s.reader.bytes)
     × (counted s' ≤ max_events * i' + e')
     × ((at : ℕ) → PassedTo (head_of b) b at i e s → PassedTo (head_of b) b at i' e' s')
-Passes b i e i' e' s s' (Err r) = (at : ℕ) → PassedTo (head_of b) b at i e s → each (solved (head_of b)) (wrong_in (head_of b)) [] b at ≡ refused r.number r.spot
+Passes b i e i' e' s s' (Err r) = (at : ℕ) → PassedTo (head_of b) b at i e s
+    → each (solved (head_of b)) (wrong_in (head_of b)) [] b at ≡ refused r.number r.spot
 
 -- the same, as a record
 pub record Outcome (b : List ℕ) (i e i' e' : ℕ) (s s' : Progress) (r : Answer (Unit {0})) : Type 0 where
@@ -243,8 +259,10 @@ module _ {b : List ℕ} where
   outcome-start few = record { told = (refl, few, λ at l. l) }
 
   -- the step of a row, which is allowed or has a certificate
-  module _ {i e : ℕ} {s : Progress} (few : counted s ≤ max_events * i + e) (inside : i < length (rows_in (head_of b))) (below : e < (head_of b).events) where
-    pub outcome-allowed : allowed_in (head_of b) (step_of (head_of b) i e) ≡ true → Outcome b i e i (e + 1) s (record s { tally = record s.tally { allowed = s.tally.allowed + 1 } }) (Ok tt)
+  module _ {i e : ℕ} {s : Progress} (few : counted s ≤ max_events * i + e)
+      (inside : i < length (rows_in (head_of b))) (below : e < (head_of b).events) where
+    pub outcome-allowed : allowed_in (head_of b) (step_of (head_of b) i e) ≡ true
+        → Outcome b i e i (e + 1) s (record s { tally = record s.tally { allowed = s.tally.allowed + 1 } }) (Ok tt)
     unfolding Passes
     outcome-allowed allowed = record { told = (refl, omega (arith, few), λ at l. passed-allowed l inside below allowed) }
 
@@ -275,7 +293,8 @@ module _ {b : List ℕ} where
     outcome-refused second = record { told = λ at l. second.told at (first.told.2 at l) }
 
   -- the steps of a whole row
-  pub outcome-row : {i e : ℕ} {s s' : Progress} → e ≤ max_events → (head_of b).events ≡ e → Outcome b i 0 i e s s' (Ok tt) → Outcome b i 0 (i + 1) 0 s s' (Ok tt)
+  pub outcome-row : {i e : ℕ} {s s' : Progress} → e ≤ max_events → (head_of b).events ≡ e
+      → Outcome b i 0 i e s s' (Ok tt) → Outcome b i 0 (i + 1) 0 s s' (Ok tt)
   unfolding Passes
   outcome-row small end first = record { told = (first.told.0, omega (arith, first.told.1), λ at l. passed-row (first.told.2 at l) end) }
 

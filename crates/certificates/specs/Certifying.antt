@@ -3,7 +3,8 @@ use Rattle.std.specs.Prelude.{Bool, not, List, [], ℕ, zero, suc, get_or, Ok, E
 use Rattle.refusals.specs.Table.{place_permits_number, weights_number}
 use Rattle.refusals.specs.Answers.{Answer, refusal}
 use Rattle.refusals.specs.Results.{value, refused}
-use Rattle.nets.specs.Nets.{Step, tally, place_permits}
+use Rattle.nets.specs.Nets.{Step, place_permits}
+use Rattle.nets.specs.Bundle.{tally}
 use Rattle.bundles.specs.Reading.{Read, Reader, item, ◌>>=◌, ◌>>◌, give, require, byte}
 use Rattle.bundles.specs.Layout.{CertificateFields, kind0, kind1, Head, rows_in, to_bundle}
 use Rattle.bundles.specs.Readers.{head_of, weights}

@@ -25,9 +25,11 @@ module _ (n : ℕ) where
   pub steps-length : (vs : List Counts) → length (flat_map (row_steps n) vs) ≡ length vs * n
   unfolding flat_map
   steps-length [] = sym (zero-mul n)
-  steps-length (v ∷ vs) = omega (arith, length-append (row_steps n v) (flat_map (row_steps n) vs), row-length v, steps-length vs, suc-mul (length vs) n)
+  steps-length (v ∷ vs) =
+      omega (arith, length-append (row_steps n v) (flat_map (row_steps n) vs), row-length v, steps-length vs, suc-mul (length vs) n)
 
-  pub steps-at : (vs : List Counts) (i e : ℕ) (d : Step) → i < length vs → e < n → get_or (flat_map (row_steps n) vs) (i * n + e) d ≡ record { row = get_or vs i []; event = e }
+  pub steps-at : (vs : List Counts) (i e : ℕ) (d : Step) → i < length vs → e < n
+      → get_or (flat_map (row_steps n) vs) (i * n + e) d ≡ record { row = get_or vs i []; event = e }
   unfolding flat_map
   steps-at [] i e d h b = absurd (not-suc-le-zero h)
   steps-at (v ∷ vs) zero e d h b =

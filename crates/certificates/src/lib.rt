@@ -104,7 +104,10 @@ impl Progress<'_> {
 // Reads one certificate for each wrong continuation, by row, then event: a step whose bit is clear in its row's mask. Returns the four counts, and
 // the offset behind the last certificate. (Inner function.)
 pub fn certify(head: &TakenHead) -> Result<(Tally, usize), Refusal>
-    ensures { result ≡ certified_of (head_of head.now.net.bundle.now) (each (solved (head_of head.now.net.bundle.now)) (wrong_in (head_of head.now.net.bundle.now)) [] head.now.net.bundle.now (behind head.now.net)) }
+    ensures { result
+        ≡ certified_of (head_of head.now.net.bundle.now)
+        (each (solved (head_of head.now.net.bundle.now)) (wrong_in (head_of head.now.net.bundle.now))
+        [] head.now.net.bundle.now (behind head.now.net)) }
 {
     let net = head.net;
     let mut progress = Progress {

@@ -1,18 +1,20 @@
 -- The contents of a bundle that was accepted, and where its parts stand.
-use Rattle.std.specs.Prelude.{◌≡◌, ℕ, ◌+◌, ◌*◌, ◌≤◌, ◌<◌, take, get_or, Err, Ok}
+use Rattle.std.specs.Prelude.{◌≡◌, false, ℕ, ◌*◌, ◌%◌, ◌≤◌, ◌<◌, leb, take, get_or, Err, Ok}
 use Rattle.std.proofs.Math.Path.{refl, ap}
 use Rattle.std.proofs.Common.{sym, ◌∙◌, zero-mul, suc-mul, take_at}
 use mathlib.Core.List.{List, [], ◌∷◌, ◌++◌, flat_map, append_assoc}
 use native.Mathlib.Omega.{arith}
 use Rattle.std.proofs.Math.ListN.{length, length-append}
-use Rattle.std.proofs.Math.Seq.{get_or-append_seam}
 use Rattle.laws.specs.Booleans.{impossible}
 use Rattle.laws.specs.Every.{Every}
 use Rattle.laws.specs.Numbers.{Bytes, le16}
+use Rattle.limits.specs.Limits.{new_edition}
 use Rattle.refusals.specs.Results.{value, refused}
 use Rattle.refusals.specs.declared.Refusal.{Refusal}
 use Rattle.bundles.specs.Reading.{Read, got, item}
-use Rattle.bundles.specs.Layout.{PlaceFields, Head, Contents, PlaceInLimits, InLimits, place_bytes, places_bytes, certificate_bytes, front_bytes, head_bytes, bytes_of}
+use Rattle.bundles.specs.Layout.{PlaceFields, Head, Contents, PlaceInLimits, InLimits, HeadInFront}
+use Rattle.bundles.specs.Layout.{place_bytes, places_bytes, certificate_bytes, front_bytes, head_bytes, bytes_of, first_in}
+use Rattle.bundles.specs.Editions.{front-edition, front-events}
 use Rattle.bundles.specs.PlaceReading.{place_size}
 use Rattle.verdicts.specs.Judging.{judging, judged, verdict_of, verdict}
 use Rattle.verdicts.specs.Acceptance.{AcceptedAs}
@@ -22,7 +24,7 @@ use Rattle.verdicts.specs.declared.Tally.{Tally}
 -- what was read, or no event, no word, no place and no certificate
 unfoldable pub contents_in : Read Contents → Contents
 contents_in (value (item c next)) = c
-contents_in (refused number spot) = record { head = record { events = 0; log = []; places = [] }; certificates = [] }
+contents_in (refused number spot) = record { head = record { is_new = false; events = 0; entries = []; places = [] }; certificates = [] }
 
 -- the contents of a bundle, as the judge reads it
 unfoldable pub contents_of : List ℕ → Contents
@@ -64,10 +66,15 @@ module _ (table_length : ℕ) (b : List ℕ) where
 
 -- ---- where the parts stand
 
--- the contents: n and the log, the place count, the places, the certificates
-pub bytes-parts : (c : Contents) → bytes_of c ≡ front_bytes c.head ++ (length c.head.places ∷ (flat_map place_bytes c.head.places ++ flat_map certificate_bytes c.certificates))
+-- the certificates, one behind the other
+abbrev pub certificates_bytes : Contents → List ℕ
+certificates_bytes c = flat_map (certificate_bytes c.head.is_new) c.certificates
+
+-- the contents: the first byte and the log, the place count, the places, the certificates
+pub bytes-parts : (c : Contents)
+    → bytes_of c ≡ front_bytes c.head ++ (length c.head.places ∷ (flat_map place_bytes c.head.places ++ certificates_bytes c))
 unfolding bytes_of head_bytes places_bytes
-bytes-parts c = append_assoc (front_bytes c.head) (places_bytes c.head.places) (flat_map certificate_bytes c.certificates)
+bytes-parts c = append_assoc (front_bytes c.head) (places_bytes c.head.places) (certificates_bytes c)
 
 -- ---- how long the parts are
 
@@ -93,28 +100,24 @@ module _ {b : List ℕ} (bundle : IsBundle b) where
   its_head = (contents_of b).head
 
   abbrev behind_front : List ℕ
-  behind_front = length its_head.places ∷ (flat_map place_bytes its_head.places ++ flat_map certificate_bytes (contents_of b).certificates)
+  behind_front = length its_head.places ∷ (flat_map place_bytes its_head.places ++ certificates_bytes (contents_of b))
 
   parts : b ≡ front_bytes its_head ++ behind_front
   parts = bundle.layout ∙ bytes-parts (contents_of b)
+
+  -- its first byte says which edition it is, and n
+  in_front : HeadInFront b its_head (certificates_bytes (contents_of b))
+  unfolding bytes_of
+  in_front = record { layout = bundle.layout; limits = bundle.limits.head }
+
+  pub first-is : record { is_new = leb new_edition (get_or b 0 0); events = get_or b 0 0 % new_edition } ≡ first_in its_head
+  first-is = λ i. record { is_new = sym (front-edition in_front) i; events = sym (front-events in_front) i }
 
   -- the place count stands behind the words
   pub front-inside : (2 ≤ length (front_bytes its_head)) × (length (front_bytes its_head) < length b)
   unfolding front_bytes
   front-inside = (omega arith, omega (arith, ap length parts, length-append (front_bytes its_head) behind_front))
 
-  pub count_at : get_or b (length (front_bytes its_head)) 0 ≡ length its_head.places
-  count_at = ap (λ (l : List ℕ). get_or l (length (front_bytes its_head)) 0) parts ∙ get_or-append_seam (front_bytes its_head) (length its_head.places) (flat_map place_bytes its_head.places ++ flat_map certificate_bytes (contents_of b).certificates) 0
-
-  -- n and the log
+  -- the first byte and the log
   pub front-is : take (length (front_bytes its_head)) b ≡ front_bytes its_head
   front-is = ap (take (length (front_bytes its_head))) parts ∙ take_at (front_bytes its_head) behind_front (length (front_bytes its_head)) refl
-
-  -- where the certificates begin
-  pub head-length : length (head_bytes its_head) ≡ length (front_bytes its_head) + 1 + length its_head.places * (2 * place_size its_head.events)
-  unfolding head_bytes places_bytes
-  head-length = omega (arith, length-append (front_bytes its_head) (length its_head.places ∷ flat_map place_bytes its_head.places), places-length its_head.events its_head.places bundle.limits.head.places)
-
-  pub head-inside : length (head_bytes its_head) ≤ length b
-  unfolding bytes_of
-  head-inside = omega (arith, ap length bundle.layout, length-append (head_bytes its_head) (flat_map certificate_bytes (contents_of b).certificates))

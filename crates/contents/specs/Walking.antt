@@ -1,5 +1,6 @@
 -- The words and the places of a bundle that was judged, as the code walks over them.
-use Rattle.std.specs.Prelude.{◌≡◌, take, drop}
+use Rattle.std.specs.Prelude.{◌≡◌, Bool, true, false, take, drop}
+use mir.Val.{bool_byte}
 use Rattle.std.proofs.Math.Path.{ap}
 use Rattle.std.proofs.Common.{sym, ap₂, ◌∙◌, ⊎_elim, subst, add-mul, take_at, drop_at, take-append-drop, get_or-append-add, length-take-le, length-drop}
 use mathlib.Core.List.Memᴰ
@@ -13,10 +14,10 @@ use Rattle.laws.specs.Booleans.{lt_or_le}
 use Rattle.laws.specs.Every.{Every, every_member, every_intro}
 use Rattle.laws.specs.Lists.{get_d_member}
 use Rattle.laws.specs.Spans.{span_next, span_at, part_at, part-within}
-use Rattle.nets.specs.Nets.{Word}
-use Rattle.bundles.specs.Layout.{PlaceFields, PlaceInLimits, word_bytes, place_bytes, certificate_bytes, front_bytes}
+use Rattle.nets.specs.Nets.{Entry, no_entry}
+use Rattle.bundles.specs.Layout.{PlaceFields, PlaceInLimits, first_of, first_in, mark_bytes, entry_bytes, place_bytes, front_bytes}
 use Rattle.bundles.specs.PlaceReading.{place_size}
-use Rattle.contents.specs.Contents.{IsBundle, contents_of, bytes-parts, place-length, places-length}
+use Rattle.contents.specs.Contents.{IsBundle, contents_of, certificates_bytes, bytes-parts, place-length, places-length}
 
 -- a byte of a list, by what stands before it
 byte_of : (before piece : List ℕ) (b : List ℕ) (at i : ℕ) → b ≡ before ++ piece → length before ≡ at → get_or b (at + i) 0 ≡ get_or piece i 0
@@ -24,33 +25,50 @@ byte_of before piece b at i is size = rw (is, ← size) (get_or-append-add befor
 
 -- ---- words
 
--- the byte at word i is its length
+-- the entries of a bundle, and the bytes of one
+abbrev pub entries_in : List ℕ → List Entry
+entries_in b = (contents_of b).head.entries
+
+abbrev pub entry_in : List ℕ → Entry → List ℕ
+entry_in b = entry_bytes (contents_of b).head.is_new
+
+-- before the events of a word its length, and in the new edition its mark, as many bytes as the code has for it
+entry_length : (is_new : Bool) (x : Entry) → length (entry_bytes is_new x) ≡ 1 + bool_byte is_new + length x.word
+unfolding entry_bytes mark_bytes
+entry_length true x = omega arith
+entry_length false x = omega arith
+
 module _ {b : List ℕ} (bundle : IsBundle b) where
-  abbrev log : List Word
-  log = (contents_of b).head.log
+  abbrev front : List ℕ
+  front = first_of (first_in (contents_of b).head) ∷ length (entries_in b) ∷ []
 
   abbrev behind_words : List ℕ
-  behind_words = length (contents_of b).head.places ∷ (flat_map place_bytes (contents_of b).head.places ++ flat_map certificate_bytes (contents_of b).certificates)
+  behind_words = length (contents_of b).head.places ∷ (flat_map place_bytes (contents_of b).head.places ++ certificates_bytes (contents_of b))
 
-  words_stand : b ≡ ((contents_of b).head.events ∷ length log ∷ []) ++ (flat_map word_bytes log ++ behind_words)
+  words_stand : b ≡ front ++ (flat_map (entry_in b) (entries_in b) ++ behind_words)
   unfolding front_bytes
   words_stand = bundle.layout ∙ bytes-parts (contents_of b)
 
-  pub word_count : (get_or b 0 0 ≡ (contents_of b).head.events) × (get_or b 1 0 ≡ length log)
-  word_count = (ap (λ (l : List ℕ). get_or l 0 0) words_stand, ap (λ (l : List ℕ). get_or l 1 0) words_stand)
+  pub word_count : get_or b 1 0 ≡ length (entries_in b)
+  word_count = ap (λ (l : List ℕ). get_or l 1 0) words_stand
 
-  pub word-length : (i at : ℕ) → i < length log → at ≡ 2 + length (flat_map word_bytes (take i log))
-      → (get_or b at 0 ≡ length (get_or log i [])) × (at + (1 + length (get_or log i [])) ≤ length b) × (at + (1 + length (get_or log i [])) ≡ 2 + length (flat_map word_bytes (take (i + 1) log)))
-  unfolding word_bytes
+  -- the byte at word i is its length
+  pub word-length : (i at : ℕ) → i < length (entries_in b) → at ≡ 2 + length (flat_map (entry_in b) (take i (entries_in b)))
+      → let size = 1 + bool_byte (contents_of b).head.is_new + get_or b at 0 in
+      (at + size ≤ length b) × (at + size ≡ 2 + length (flat_map (entry_in b) (take (i + 1) (entries_in b))))
+  unfolding entry_bytes
   word-length i at h is =
-      let front = (contents_of b).head.events ∷ length log ∷ [] in
-      let w = get_or log i [] in
-      let stands = span_at word_bytes log i [] h front behind_words b words_stand in
-      let size : length (front ++ flat_map word_bytes (take i log)) ≡ at = omega (arith, is, length-append front (flat_map word_bytes (take i log))) in
-      let inside = part-within (front ++ flat_map word_bytes (take i log)) (word_bytes w) (flat_map word_bytes (drop (suc i) log) ++ behind_words) b at stands size in (
-        ap (λ (k : ℕ). get_or b k 0) (omega arith) ∙ byte_of (front ++ flat_map word_bytes (take i log)) (word_bytes w ++ (flat_map word_bytes (drop (suc i) log) ++ behind_words)) b at 0 stands size,
-        omega (arith, inside),
-        rw (span_next word_bytes log i [] h, length-append) (omega (arith, is)),
+      let x = get_or (entries_in b) i no_entry in
+      let before = front ++ flat_map (entry_in b) (take i (entries_in b)) in
+      let rest = flat_map (entry_in b) (drop (suc i) (entries_in b)) ++ behind_words in
+      let stands : b ≡ before ++ (entry_in b x ++ rest) = span_at (entry_in b) (entries_in b) i no_entry h front behind_words b words_stand in
+      let start : length before ≡ at = omega (arith, is, length-append front (flat_map (entry_in b) (take i (entries_in b)))) in
+      let inside = part-within before (entry_in b x) rest b at stands start in
+      let byte : get_or b at 0 ≡ length x.word =
+      ap (λ (k : ℕ). get_or b k 0) (omega arith) ∙ byte_of before (entry_in b x ++ rest) b at 0 stands start in
+      let long = entry_length (contents_of b).head.is_new x in (
+        omega (arith, inside, byte, long),
+        rw (span_next (entry_in b) (entries_in b) i no_entry h, length-append) (omega (arith, is, byte, long)),
       )
 
 -- ---- places

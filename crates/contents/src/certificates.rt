@@ -1,6 +1,6 @@
 // The certificates of a bundle that was judged, one behind the other.
-ghost use Rattle.std.specs.Prelude.{◌≡◌, true};
-ghost use Rattle.contents.specs.Certificates.{pieces, whole};
+ghost use Rattle.std.specs.Prelude.{◌≡◌, ◌≤◌, true, length};
+ghost use Rattle.contents.specs.Certificates.{pieces, weights_size, whole};
 
 use bundles::terms::Kind;
 
@@ -11,11 +11,26 @@ pub enum Certificate<'a> {
     Weights(&'a [u8]),
 }
 
-// The bytes of the certificates that are still to come.
+// The bytes of the certificates that are still to come, and whether they are of the new edition, where weights have pairs.
 #[derive(Drop)]
 pub struct Certificates<'a> {
     pub rest: &'a [u8],
-    pub ghost whole: { whole rest.now ≡ true },
+    pub is_new: bool,
+    pub ghost whole: { whole is_new rest.now ≡ true },
+}
+
+// How many bytes weights have that stand in front of others: behind their terms are pairs in the new edition.
+#[inline(always)]
+fn weights_size(bytes: &[u8], is_new: bool) -> usize
+    requires { weights_size is_new bytes.now ≤ length bytes.now }
+    ensures { result ≡ weights_size is_new bytes.now }
+{
+    let terms = 4 + 5 * usize::from(bytes[3]);
+    if is_new {
+        terms + 1 + 3 * usize::from(bytes[terms])
+    } else {
+        terms
+    }
 }
 
 impl<'a> Iterator for Certificates<'a> {
@@ -24,9 +39,9 @@ impl<'a> Iterator for Certificates<'a> {
     ghost use Rattle.std.specs.Iterator.{YieldsFirstBy, item_count};
     ghost use Rattle.contents.specs.Shown.{shown};
 
-    ghost next_gives = { YieldsFirstBy shown (λ s. pieces s.rest.now) };
+    ghost next_gives = { YieldsFirstBy shown (λ s. pieces s.is_new s.rest.now) };
 
-    ghost remaining = { item_count (λ s. pieces s.rest.now) };
+    ghost remaining = { item_count (λ s. pieces s.is_new s.rest.now) };
 
     #[inline(always)]
     fn next(&mut self) -> Option<Certificate<'a>> {
@@ -35,7 +50,7 @@ impl<'a> Iterator for Certificates<'a> {
             self.rest = rest;
             return Some(Certificate::Place(certificate[1]));
         }
-        let size = 4 + 5 * usize::from(self.rest[3]);
+        let size = weights_size(self.rest, self.is_new);
         let (certificate, rest) = self.rest.split_at(size);
         self.rest = rest;
         Some(Certificate::Weights(certificate))

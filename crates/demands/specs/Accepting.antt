@@ -5,14 +5,16 @@ use Rattle.std.proofs.Common.{ap}
 use Rattle.std.proofs.Math.Dec.{T}
 use Rattle.laws.specs.Distinct.{Cardinality}
 use Rattle.laws.specs.Numbers.{Bytes}
-use Rattle.nets.specs.Nets.{net_permits, accepted, tally}
-use Rattle.nets.specs.Words.{Follows}
+use Rattle.nets.specs.Nets.{net_permits}
+use Rattle.nets.specs.Bundle.{accepted, tally}
+use Rattle.nets.specs.Words.{Follows, PermitsLog, Obeys}
+use Rattle.nets.specs.Acceptance.{accepted-parts}
 use Rattle.nets.specs.Tallies.{PrefixCounts, WrongContinuation}
 use Rattle.nets.proofs.Tallies.{row_count, allowed-count, refused-count, permitted-count}
 use Rattle.nets.specs.RegionCertificates.{ByRegions}
 use Rattle.nets.proofs.RegionCertificates.{accepted-regions}
 use Rattle.logs.specs.Answers.{table_size}
-use Rattle.bundles.specs.Layout.{Contents, HeadInLimits, InLimits, to_bundle, bytes_of}
+use Rattle.bundles.specs.Layout.{Contents, HeadInLimits, InLimits, to_net, to_bundle, words_in, completed_in, wrong_in, solves_all_in, bytes_of}
 use Rattle.bundles.specs.Readers.{head_of, events_in, log_in, net_in}
 use Rattle.bundles.specs.Limits.{log-below}
 use Rattle.verdicts.specs.Judging.{tally_of, verdict}
@@ -21,6 +23,14 @@ use Rattle.verdicts.proofs.Acceptance.{accepted-exactly}
 use Rattle.verdicts.specs.declared.Tally.{Tally}
 use Rattle.demands.specs.Demands.{FourCounts}
 use Rattle.demands.specs.Comparing.{fields}
+
+pub acceptance-asks : (d : Contents) → T (accepted (to_bundle d)) ↔ (PermitsLog d.head.events (to_net d.head) (words_in d.head)
+    × Obeys d.head.events (to_net d.head) (completed_in d.head) × T (solves_all_in d.head (wrong_in d.head) d.certificates))
+unfolding to_bundle
+acceptance-asks d = let law = accepted-parts (to_bundle d) in (
+  (λ t. let a = law.0 t in (a.permitted, a.obeyed, a.solved)),
+  (λ (permitted, obeyed, solved). law.1 (record { permitted = permitted; obeyed = obeyed; solved = solved })),
+)
 
 module _ (b : List ℕ) (bytes : Bytes b) (table_length : ℕ) where
   pub counts_are : (c : Tally) → verdict table_length b ≡ Ok c → FourCounts (events_in b) (log_in b) (net_in b) c

@@ -10,18 +10,21 @@ use Rattle.laws.specs.Every.{every_member}
 use Rattle.laws.specs.Numbers.{Bytes}
 use Rattle.limits.specs.Limits.{max_bundle_size, max_word_events}
 use Rattle.refusals.specs.Results.{value, refused}
-use Rattle.nets.specs.Nets as nets
+use Rattle.nets.specs.Bundle as bundle
 use Rattle.nets.specs.Nets.{Word, step_after, permits, permitted, stopped_at, screen}
 use Rattle.nets.specs.Words.{Prefix, prefix→}
+use Rattle.nets.specs.LogLaws.{word-entry}
 use Rattle.nets.specs.Fits.{Below, below-empty, below_snoc, prefix-below}
 use Rattle.nets.specs.TokenGame.{places_of}
+use Rattle.nets.specs.Completed.{sound_regions}
 use Rattle.nets.specs.SeparationProblems.{Complete, Suboptimal}
 use Rattle.nets.proofs.SeparationProblems.{accepted-complete, accepted-suboptimal}
 use Rattle.nets.proofs.Comparison.{first-exactly, second-permits, nets-agree, first-screened, second-screened, tallies_agree}
 use Rattle.rows.specs.Rows.{with_rows, cleared}
 use Rattle.logs.specs.Answers.{table_size}
 use Rattle.logs.specs.Log.{log_rows}
-use Rattle.bundles.specs.Layout.{CertificateFields, Head, Contents, WordInLimits, to_net, to_bundle, certificate_bytes, bytes_of, words_in, LogBelowIn}
+use Rattle.bundles.specs.Layout.{CertificateFields, Head, Contents, EntryInLimits, LogBelowIn, first_in, words_in, to_net, to_bundle}
+use Rattle.bundles.specs.Layout.{certificate_bytes, bytes_of}
 use Rattle.bundles.specs.Readers.{head_of, events_in, log_in, net_in}
 use Rattle.bundles.specs.Limits.{log-below}
 use Rattle.bundles.specs.Reading.{Read, item}
@@ -31,6 +34,7 @@ use Rattle.verdicts.proofs.Acceptance.{judged-long, accepted-exactly, accepted-t
 use Rattle.verdicts.specs.declared.Tally.{Tally}
 use Rattle.screening.specs.Screening.{replayed, screened}
 use Rattle.screening.specs.Screens.{Readable, Screenable, screened-replayed, permitted-exactly, readable-exactly, screenable-head}
+use Rattle.demands.specs.Completed.{entries_in}
 use Rattle.demands.specs.Demands.{ScreenedAtEnd, LogContained, Compared}
 use Rattle.demands.specs.Tables.{LogLeft}
 use Rattle.demands.specs.TablesProved.{log-left}
@@ -48,7 +52,7 @@ long-table table_length b c e = go (judged table_length b 0) refl e
 
 module _ (b : List ℕ) (bytes : Bytes b) where
   screenable : (c : Tally) (d : Contents) → AcceptedAs b c d → (w : Word) → length w ≤ max_word_events → Below d.head.events w
-      → Screenable b w d.head (flat_map certificate_bytes d.certificates)
+      → Screenable b w d.head (flat_map (certificate_bytes d.head.is_new) d.certificates)
   unfolding bytes_of
   screenable c d a w size events = record {
     size = subst (λ (l : List ℕ). length l ≤ max_bundle_size) (sym a.layout) a.limits.size;
@@ -61,18 +65,22 @@ module _ (b : List ℕ) (bytes : Bytes b) where
   pub accepted-head : (c : Tally) (d : Contents) → AcceptedAs b c d → head_of b ≡ d.head
   accepted-head c d a = screenable-head b bytes [] d.head _ (screenable c d a [] (omega arith) (below-empty d.head.events))
 
-  -- the places of its net are a complete set of regions of its log
+  -- the places of its net are a complete set of sound regions of its log
   module _ (c : Tally) (d : Contents) (a : AcceptedAs b c d) where
     below : LogBelowIn d.head
     below = log-below d.head a.limits.head
 
-    pub net-complete : Complete (events_in b) (Prefix (log_in b)) (places_of (net_in b))
+    pub net-complete : Complete (events_in b) (Prefix (log_in b)) (sound_regions (events_in b) (entries_in b)) (places_of (net_in b))
     unfolding to_bundle
-    net-complete = subst (λ (h : Head). Complete h.events (Prefix (words_in h)) (places_of (to_net h))) (sym (accepted-head c d a)) (accepted-complete (to_bundle d) below a.accepted)
+    net-complete =
+        subst (λ (h : Head). Complete h.events (Prefix (words_in h)) (sound_regions h.events h.entries) (places_of (to_net h)))
+        (sym (accepted-head c d a)) (accepted-complete (to_bundle d) below a.accepted)
 
-    pub net-suboptimal : Suboptimal (events_in b) (Prefix (log_in b)) (places_of (net_in b))
+    pub net-suboptimal : Suboptimal (events_in b) (Prefix (log_in b)) (sound_regions (events_in b) (entries_in b)) (places_of (net_in b))
     unfolding to_bundle
-    net-suboptimal = subst (λ (h : Head). Suboptimal h.events (Prefix (words_in h)) (places_of (to_net h))) (sym (accepted-head c d a)) (accepted-suboptimal (to_bundle d) below a.accepted)
+    net-suboptimal =
+        subst (λ (h : Head). Suboptimal h.events (Prefix (words_in h)) (sound_regions h.events h.entries) (places_of (to_net h)))
+        (sym (accepted-head c d a)) (accepted-suboptimal (to_bundle d) below a.accepted)
 
   module _ (table_length : ℕ) (c : Tally) (yes' : verdict table_length b ≡ Ok c) where
     -- its fields, with the head that screening reads
@@ -98,18 +106,25 @@ module _ (b : List ℕ) (bytes : Bytes b) where
     prefix-length : (u : Word) → Prefix (log_in b) u → length u ≤ 255
     prefix-length u m = ⊎_elim
         (λ q. omega (arith, ap length q))
-        (λ r. omega (arith, (every_member (WordInLimits (events_in b)) (log_in b) fields.1.limits.head.words r.1).size, length-append u r.2.0, ap length r.2.1))
+        (λ r.
+        let x = word-entry (entries_in b) r.1 in
+        let limits = every_member (EntryInLimits (first_in (head_of b))) (entries_in b) fields.1.limits.head.entries x.1 in
+        omega (arith, limits.size, ap length x.2, length-append u r.2.0, ap length r.2.1))
         (prefix→ (log_in b) u m)
 
     longer-below : (w : Word) → Prefix (log_in b) w → (e : ℕ) → e < events_in b → Below (events_in b) (w ++ e ∷ [])
     longer-below w m e h = (below_snoc (events_in b) w e).1 (prefix-below (events_in b) (log_in b) (log-below (head_of b) fields.1.limits.head) w m, h)
 
-    -- a prefix of its log with one event more is readable
-    longer-readable : (w : Word) → Prefix (log_in b) w → (e : ℕ) → e < events_in b → Readable b (w ++ e ∷ [])
-    longer-readable w m e h =
+    -- a word of its events is readable
+    pub word-readable : (w : Word) → length w ≤ max_word_events → Below (events_in b) w → Readable b w
+    word-readable w size events =
         let f = fields in
         let d : Contents = record { head = head_of b; certificates = f.0 } in
-        (readable-exactly b bytes (w ++ e ∷ [])).1 (head_of b, _, screenable c d f.1 (w ++ e ∷ []) (omega (arith, length-append w (e ∷ []), prefix-length w m)) (longer-below w m e h))
+        (readable-exactly b bytes w).1 (head_of b, _, screenable c d f.1 w size events)
+
+    -- so a prefix of its log with one event more is
+    longer-readable : (w : Word) → Prefix (log_in b) w → (e : ℕ) → e < events_in b → Readable b (w ++ e ∷ [])
+    longer-readable w m e h = word-readable (w ++ e ∷ []) (omega (arith, length-append w (e ∷ []), prefix-length w m)) (longer-below w m e h)
 
     -- screening it: permitted exactly when the net permits it, and otherwise stopped at the added event
     screened-at-end : (w : Word) → Prefix (log_in b) w → (e : ℕ) → e < events_in b
@@ -128,7 +143,7 @@ module _ (b : List ℕ) (bytes : Bytes b) where
 
 -- ---- two accepted bundles
 
-same-counts : (t₁ t₂ : nets.Tally) (c₁ c₂ : Tally) → c₁ ≡ tally_of t₁ → c₂ ≡ tally_of t₂ → t₁ ≡ t₂
+same-counts : (t₁ t₂ : bundle.Tally) (c₁ c₂ : Tally) → c₁ ≡ tally_of t₁ → c₂ ≡ tally_of t₂ → t₁ ≡ t₂
     → (c₁.rows ≡ c₂.rows) × (c₁.allowed ≡ c₂.allowed) × (c₁.by_place ≡ c₂.by_place) × (c₁.by_weights ≡ c₂.by_weights)
 same-counts t₁ t₂ c₁ c₂ e₁ e₂ t =
     let same : c₁ ≡ c₂ = e₁ ∙ ap tally_of t ∙ sym e₂ in

@@ -3,37 +3,41 @@
 -- (open, seal), Tables.antt (fresh, take, and what stands in a table), Judging.antt and Screening.antt; Boundary.antt says what the calls for C and
 -- Rust return and put in `answer`. Here they are gathered by name. A page for
 -- each change request says what it promised beyond that: BlockOrder.antt (request 1), Shortfalls.antt (2), Sealing.antt (3), Alterations.antt (4),
--- Traffic.antt (5), Joining.antt (6), Pruning.antt (7; the refusals of prune stand there, too). The demands are stated with the requests'
--- changes in them.
+-- Traffic.antt (5), Joining.antt (6), Pruning.antt (7; the refusals of prune stand there, too), Completed.antt (8). The demands are stated with the
+-- requests' changes in them; demands 2 and 3 as they were before request 8, for bundles of the old edition, are at the end.
 -- A file, a bundle, an output, a table and a word are lists of numbers; `Bytes` says that each number is below 256.
-use Rattle.std.specs.Prelude.{◌≡◌, true, false, not, ◌↔◌, ℕ, ◌*◌, ◌≤◌, ◌<◌, T, length, take, drop, Err, None, Ok, Some}
+use Rattle.std.specs.Prelude.{◌≡◌, true, false, not, ◌↔◌, ℕ, ◌*◌, ◌≤◌, ◌<◌, T, length, take, drop, get_or, Err, None, Ok, Some}
 use mathlib.Core.List.{List, [], ◌∷◌, ◌++◌, Memᴰ}
 use Rattle.laws.specs.Distinct.{Cardinality}
+use Rattle.laws.specs.Every.{Pointwise}
 use Rattle.laws.specs.Lists.{among}
 use Rattle.laws.specs.Numbers.{Bytes}
 use Rattle.laws.specs.Parts.{front}
 use Rattle.laws.specs.Sorting.{Sorted}
-use Rattle.limits.specs.Limits.{max_places, max_terms}
+use Rattle.limits.specs.Limits.{max_places, max_terms, max_pairs}
 use Rattle.refusals.specs.Results.{Result, value}
 use Rattle.refusals.specs.Answers.{answer, written, number_of}
 use Rattle.refusals.specs.Laws.{Ends}
 use Rattle.refusals.specs.declared.Refusal.{Refusal}
 use Rattle.block.specs.File.{opened, sealed, blocks_for}
 use Rattle.nets.specs.Nets.{Word, Log, Net, Step, join, step_after, net_permits, permits, first_refusing, shortfall_of, rows, wrong_continuations, event_count}
-use Rattle.nets.specs.Words.{Prefix, Follows, EveryNetPermits}
+use Rattle.nets.specs.Bundle as theory
+use Rattle.nets.specs.Words.{Prefix, Follows, PermitsLog, Obeys, EveryNetPermits, EveryObeyingNetPermits}
+use Rattle.nets.specs.Entries.{NoneCompleted}
 use Rattle.nets.specs.Tallies.{PrefixCounts, WrongContinuation}
 use Rattle.nets.specs.Order.{Before}
-use Rattle.nets.specs.Comparison.{Contained}
+use Rattle.nets.specs.Comparison.{PrefixesIn, Contained}
 use Rattle.nets.specs.Screening.{FirstRefused, shortfall_at}
 use Rattle.nets.specs.TokenGame.{places_of}
-use Rattle.nets.specs.Regions.{Constraint, Region}
+use Rattle.nets.specs.Regions.{◌⊆◌, Constraint, Region}
+use Rattle.nets.specs.Completed.{sound_regions}
 use Rattle.nets.specs.SeparationProblems.{SeparationProblem, SolvedIn, Complete, Suboptimal}
-use Rattle.nets.specs.RegionCertificates.{ByRegions}
+use Rattle.nets.specs.RegionCertificates.{Certifies, ByRegions}
 use Rattle.rows.specs.Rows.{with_rows, cleared}
 use Rattle.logs.specs.Answers.{table_size, fresh_answer, fresh_table, taken_answer, taken_table, taken_number}
 use Rattle.logs.specs.Log.{log_rows, Takes}
 use Rattle.logs.specs.declared.Summary.{Summary}
-use Rattle.bundles.specs.Layout.{Head, Contents, InLimits, to_bundle, bytes_of}
+use Rattle.bundles.specs.Layout.{Head, Contents, InLimits, to_net, to_bundle, words_in, completed_in, wrong_in, solves_all_in, bytes_of}
 use Rattle.bundles.specs.Readers.{head_of, events_in, log_in, net_in}
 use Rattle.verdicts.specs.Judging.{verdict, verdict_number, table_after}
 use Rattle.verdicts.specs.Acceptance.{AcceptedAs}
@@ -49,6 +53,7 @@ use Rattle.demands.specs.Judging.{JudgeExactly, FieldsExactly}
 use Rattle.demands.specs.Screening.{ScreenExactly, JoinExactly}
 use Rattle.demands.specs.Pruning.{PruneExactly}
 use Rattle.demands.specs.Boundary.{Boundary}
+use Rattle.demands.specs.Completed.{entries_in}
 
 -- ---- DEMAND 1: 'every call on every input ends in a result or in a refusal from the numbered table, touches no memory but the buffers
 -- lent to it, and leaves in each of them exactly what the table says.'
@@ -69,8 +74,8 @@ pub record Demand1 : Type 0 where
   pub fields-exactly : (b : List ℕ) (at : ℕ) → FieldsExactly b at
   -- what the calls for C and Rust return, 0 for a result alone and 256 for a stop alone, and which number stands where in `answer`
   pub boundary : Boundary
-  -- the limits that no other line says by a numeral: 64 places, 64 terms
-  pub counts-most : (max_places ≡ 64) × (max_terms ≡ 64)
+  -- the limits that no other line says by a numeral: 64 places, 64 terms, 64 pairs
+  pub counts-most : (max_places ≡ 64) × (max_terms ≡ 64) × (max_pairs ≡ 64)
   -- the number of a refusal is one of the call's line, 0 is that of a result, 256 that of a stop
   pub refusal-numbers : (r : Refusal) → (number_of (Err r) ≡ r.number) × (taken_number (Err r) ≡ r.number)
       × (verdict_number (Err r) ≡ r.number) × (screened_number (Err r) ≡ r.number)
@@ -79,12 +84,12 @@ pub record Demand1 : Type 0 where
   pub refusals_of_fresh : (n : ℕ) (table : List ℕ) → among (taken_number (fresh_answer n table)) (0 ∷ 5 ∷ 16 ∷ []) ≡ true
   pub refusals_of_take : (s : Summary) (table : List ℕ) (w : Word) → among (taken_number (taken_answer s table w)) (0 ∷ 5 ∷ 16 ∷ 8 ∷ 7 ∷ 9 ∷ []) ≡ true
   pub refusals_of_judge : (table_length : ℕ) (b : List ℕ)
-      → among (verdict_number (verdict table_length b)) (0 ∷ 4 ∷ 5 ∷ 6 ∷ 7 ∷ 8 ∷ 9 ∷ 10 ∷ 11 ∷ 12 ∷ 13 ∷ []) ≡ true
+      → among (verdict_number (verdict table_length b)) (0 ∷ 4 ∷ 5 ∷ 6 ∷ 7 ∷ 8 ∷ 9 ∷ 10 ∷ 20 ∷ 11 ∷ 12 ∷ 13 ∷ []) ≡ true
   pub refusals_of_screen : (b : List ℕ) (w : Word) → among (screened_number (screened b w)) (0 ∷ 256 ∷ 14 ∷ 4 ∷ 6 ∷ 7 ∷ 8 ∷ 15 ∷ []) ≡ true
   pub refusals_of_join : (first second : List ℕ) (w : Word)
       → among (screened_number (screened_joined first second w)) (0 ∷ 256 ∷ 14 ∷ 4 ∷ 6 ∷ 7 ∷ 8 ∷ 19 ∷ 15 ∷ []) ≡ true
   pub refusals_of_prune : (table_length : ℕ) (b : List ℕ) (room : ℕ)
-      → among (number_of (answer (pruning table_length b) room)) (0 ∷ 4 ∷ 5 ∷ 6 ∷ 7 ∷ 8 ∷ 9 ∷ 10 ∷ 11 ∷ 12 ∷ 13 ∷ 3 ∷ []) ≡ true
+      → among (number_of (answer (pruning table_length b) room)) (0 ∷ 4 ∷ 5 ∷ 6 ∷ 7 ∷ 8 ∷ 9 ∷ 10 ∷ 20 ∷ 11 ∷ 12 ∷ 13 ∷ 3 ∷ []) ≡ true
   -- 'No refusal writes to an output': one line for all calls that are lent one. These are open, seal and prune: each answers
   -- `answer result (length output)` and leaves `written result output`, where the result is `opened file`, `sealed b` or `pruning (length table) b`.
   -- (`run` and `run_both` of crates/files lend theirs to open, and hand its answer on.)
@@ -126,7 +131,7 @@ pub record Demand1 : Type 0 where
 -- definitions of Badouel and Schlachter, its net permits every log word and each wrong continuation is refused by the place its
 -- certificate lists or, in that certificate, has whole-number weights that meet the stated inequalities; the four counts are those of the
 -- definitions. Screening names a readable word's first refused step, or permits when there is none. Sealing and opening, so lent, undo
--- each other.'
+-- each other.' Request 8: 'A net whose places all do so obeys the log's completed words, and demand 2 now asks that too for acceptance.'
 
 -- what the four counts c are the numbers of, for a log and a net over n events
 pub record FourCounts (n : ℕ) (log : Log) (net : Net) (c : Tally) : Type 0 where
@@ -142,14 +147,18 @@ pub record FourCounts (n : ℕ) (log : Log) (net : Net) (c : Tally) : Type 0 whe
 pub record Demand2 : Type 0 where
   pub accepted : (table_length : ℕ) → 3584 ≤ table_length → (b : List ℕ) → Bytes b → (c : Tally) → (verdict table_length b ≡ Ok c)
       ↔ ((d : Contents) × AcceptedAs b c d)
+  -- what it asks of contents: their net permits every log word and obeys the completed ones, and their certificates solve the wrong continuations
+  pub asks : (d : Contents) → T (theory.accepted (to_bundle d)) ↔ (PermitsLog d.head.events (to_net d.head) (words_in d.head)
+      × Obeys d.head.events (to_net d.head) (completed_in d.head) × T (solves_all_in d.head (wrong_in d.head) d.certificates))
   -- the event count, log and net that the lines below and demand 3 speak of are, of an accepted bundle, those of its contents
   pub head : (b : List ℕ) → Bytes b → (c : Tally) (d : Contents) → AcceptedAs b c d → head_of b ≡ d.head
   -- 'the four counts are those of the definitions'
   pub counts : (table_length : ℕ) (b : List ℕ) → Bytes b → (c : Tally) → verdict table_length b ≡ Ok c
       → FourCounts (events_in b) (log_in b) (net_in b) c
   -- 'by the region definitions of Badouel and Schlachter', in their terms alone: accepted, with some counts, exactly when it keeps layout and limits,
-  -- every place is a region of the log, and each separation problem that is no constraint is, in their order, witnessed by the region of the place
-  -- that its certificate lists, or has in that certificate weights on constraints that meet the inequalities
+  -- every place is a sound region of the log, that is a region with ⟨Ψ(w)⟩ · p = 0 for each completed word w, and each separation problem that is no
+  -- constraint is, in their order, witnessed by the region of the place that its certificate lists, or has in that certificate weights on
+  -- constraints, and signed ones on completed words, that meet the inequalities
   pub by-regions : (table_length : ℕ) → 3584 ≤ table_length → (b : List ℕ) → Bytes b → ((c : Tally) × (verdict table_length b ≡ Ok c))
       ↔ ((d : Contents) × (b ≡ bytes_of d) × InLimits d × ByRegions (to_bundle d))
   -- the wrong continuations are these problems; one that is a constraint too, by another prefix with its counts, is witnessed by no region
@@ -158,12 +167,12 @@ pub record Demand2 : Type 0 where
   pub unsolvable : (n : ℕ) (log : Log) (s : Step) → Constraint n (Prefix log) s → SolvedIn n (Region n (Prefix log)) s → ⊥
   -- 'Rows are numbered by first occurrence', 'their order is by row, then event'
   pub order : (n : ℕ) (log : Log) → Sorted (Before n log) (wrong_continuations n log)
-  -- so its places are a complete set of regions of the log, and on the prefixes with one event more it has the language of all regions
+  -- so its places are a complete set of sound regions of the log, and on the prefixes with one event more it has the language of all of them
   -- (crates/nets/specs/SeparationProblems.antt)
   pub complete : (b : List ℕ) → Bytes b → (c : Tally) (d : Contents) → AcceptedAs b c d
-      → Complete (events_in b) (Prefix (log_in b)) (places_of (net_in b))
+      → Complete (events_in b) (Prefix (log_in b)) (sound_regions (events_in b) (entries_in b)) (places_of (net_in b))
   pub suboptimal : (b : List ℕ) → Bytes b → (c : Tally) (d : Contents) → AcceptedAs b c d
-      → Suboptimal (events_in b) (Prefix (log_in b)) (places_of (net_in b))
+      → Suboptimal (events_in b) (Prefix (log_in b)) (sound_regions (events_in b) (entries_in b)) (places_of (net_in b))
   pub permitted : (b : List ℕ) (w : Word) → Readable b w → (screened b w ≡ Ok None) ↔ T (permits (events_in b) (net_in b) w)
   -- position and place are those of the first refused step; the third number is how many tokens that place lacks there
   pub stopped : (b : List ℕ) (w : Word) → Readable b w → (i j k : ℕ)
@@ -190,7 +199,9 @@ pub record Demand2 : Type 0 where
       → Ends (sealed (take n (written (opened file) first))) second (Ok (length file)) (front file second)
 
 -- ---- DEMAND 3: 'Take any two sealed files that open and are accepted, whatever the outputs and tables held before, with the same event
--- count and with every prefix in the first log a prefix in the second. Add any one event at the end of any prefix of the first log. ...'
+-- count and with every prefix in the first log a prefix in the second. Add any one event at the end of any prefix of the first log. ...' Request 8:
+-- 'the comparison now also needs each completed word of the first to be completed in the second, and "every net" means every net that obeys the
+-- first log's completed words too. Its equalities need the same prefixes and the same completed words.'
 
 -- the file opens into the output, in front of which is then the bundle b, and with the table b is accepted with the counts c
 pub record FileAccepted (file output table b : List ℕ) (c : Tally) : Type 0 where
@@ -209,19 +220,20 @@ pub record ScreenedAtEnd (s : Screened) (n : ℕ) (net : Net) (w : Word) (e : �
     shortfall = shortfall_of n net (first_refusing n net (step_after n w e)) (step_after n w e);
   }))
 
--- '.. with the same event count and with every prefix in the first log a prefix in the second'
+-- '.. with the same event count and with every prefix in the first log a prefix in the second', 'each completed word of the first .. completed in
+-- the second'
 abbrev pub LogContained : List ℕ → List ℕ → Type 0
-LogContained b₁ b₂ = Contained (events_in b₁) (log_in b₁) (events_in b₂) (log_in b₂)
+LogContained b₁ b₂ = Contained (events_in b₁) (entries_in b₁) (events_in b₂) (entries_in b₂)
 
 -- of the prefix w and the event e, for the bundles b₁ and b₂
 pub record Longer (b₁ b₂ : List ℕ) (w : Word) (e : ℕ) : Type 0 where
   -- 'The first net permits that longer word exactly when it is permitted by every net, of any number of places with whole numbers of any
-  -- size, that permits all words of the first log.'
+  -- size, that permits all words of the first log' and obeys its completed words
   pub exactly : T (permits (events_in b₁) (net_in b₁) (w ++ e ∷ []))
-      ↔ EveryNetPermits (events_in b₁) (log_in b₁) (w ++ e ∷ [])
+      ↔ EveryObeyingNetPermits (events_in b₁) (entries_in b₁) (w ++ e ∷ [])
   -- 'When the first net permits it, so does the second.'
   pub second : T (permits (events_in b₁) (net_in b₁) (w ++ e ∷ [])) → T (permits (events_in b₂) (net_in b₂) (w ++ e ∷ []))
-  -- 'Where the logs have the same prefixes, both nets permit and refuse the same longer words'
+  -- 'Where the logs have the same prefixes' and the same completed words, 'both nets permit and refuse the same longer words'
   pub same : LogContained b₂ b₁ → permits (events_in b₁) (net_in b₁) (w ++ e ∷ []) ≡ permits (events_in b₂) (net_in b₂) (w ++ e ∷ [])
   -- 'Screening the longer word with either bundle ..'
   pub screened₁ : ScreenedAtEnd (screened b₁ (w ++ e ∷ [])) (events_in b₁) (net_in b₁) w e
@@ -240,3 +252,32 @@ Demand3 =
     (file₁ file₂ output₁ output₂ table₁ table₂ b₁ b₂ : List ℕ) (c₁ c₂ : Tally) → Bytes file₁ → Bytes file₂
     → FileAccepted file₁ output₁ table₁ b₁ c₁ → FileAccepted file₂ output₂ table₂ b₂ c₂
     → LogContained b₁ b₂ → Compared b₁ b₂ c₁ c₂
+
+-- ---- DEMANDS 2 AND 3 AS THEY WERE, where no word is completed, as in every bundle of the old edition (`old` of Completed.antt)
+
+pub record OldDemand2 (table_length : ℕ) (b : List ℕ) : Type 0 where
+  -- what acceptance asks of its contents: their net permits every log word, and their certificates solve the wrong continuations
+  pub asks : (d : Contents) → b ≡ bytes_of d → InLimits d → T (theory.accepted (to_bundle d))
+      ↔ (PermitsLog d.head.events (to_net d.head) (words_in d.head) × T (solves_all_in d.head (wrong_in d.head) d.certificates))
+  -- accepted exactly when every place is a region of the log, and each problem has its certificate; there are no pairs (`alone` of Completed.antt)
+  pub by-regions : 3584 ≤ table_length → ((c : Tally) × (verdict table_length b ≡ Ok c)) ↔ ((d : Contents) × (b ≡ bytes_of d) × InLimits d
+      × (places_of (to_net d.head) ⊆ Region d.head.events (Prefix (words_in d.head)))
+      × Pointwise (Certifies d.head.events d.head.entries (to_net d.head)) (wrong_in d.head) (to_bundle d).certificates)
+  -- and its places are then a complete set of all regions of the log
+  pub complete : (c : Tally) → verdict table_length b ≡ Ok c
+      → Complete (events_in b) (Prefix (log_in b)) (Region (events_in b) (Prefix (log_in b))) (places_of (net_in b))
+  pub suboptimal : (c : Tally) → verdict table_length b ≡ Ok c
+      → Suboptimal (events_in b) (Prefix (log_in b)) (Region (events_in b) (Prefix (log_in b))) (places_of (net_in b))
+
+-- 'every net .. that permits all words of the first log', whether or not it obeys anything; the premise and the equalities by prefixes alone
+pub record OldDemand3 (b₁ b₂ : List ℕ) (c₁ c₂ : Tally) : Type 0 where
+  pub exactly : (w : Word) → Prefix (log_in b₁) w → (e : ℕ) → e < events_in b₁ → T (permits (events_in b₁) (net_in b₁) (w ++ e ∷ []))
+      ↔ EveryNetPermits (events_in b₁) (log_in b₁) (w ++ e ∷ [])
+  pub compared : Compared b₁ b₂ c₁ c₂
+  pub back : NoneCompleted (entries_in b₂) → PrefixesIn (log_in b₂) (log_in b₁) → LogContained b₂ b₁
+
+pub record OldDemands : Type 0 where
+  pub demand_2 : (table_length : ℕ) (b : List ℕ) → Bytes b → get_or b 0 0 < 128 → OldDemand2 table_length b
+  pub demand_3 : (file₁ file₂ output₁ output₂ table₁ table₂ b₁ b₂ : List ℕ) (c₁ c₂ : Tally) → Bytes file₁ → Bytes file₂
+      → FileAccepted file₁ output₁ table₁ b₁ c₁ → FileAccepted file₂ output₂ table₂ b₂ c₂
+      → NoneCompleted (entries_in b₁) → events_in b₁ ≡ events_in b₂ → PrefixesIn (log_in b₁) (log_in b₂) → OldDemand3 b₁ b₂ c₁ c₂

@@ -7,12 +7,13 @@ use Rattle.laws.specs.Lists.{all}
 use Rattle.laws.specs.Numbers.{number_at}
 use Rattle.limits.specs.Limits.{right_size}
 use Rattle.refusals.specs.Results.{bind}
-use Rattle.nets.specs.Nets.{Word, Net, no_place, event_count, permits}
+use Rattle.nets.specs.Nets.{Word, Net, no_place, words, event_count, permits}
 use Rattle.nets.proofs.Joining.{permits-join, permits-order, permits-itself, join_grouped, stops_first, stops_second}
 use Rattle.nets.proofs.Scaling.{permits-scaled-place, permits-scaled}
 use Rattle.bundles.specs.Reading.{item_in, require, field, byte, number, each, onward}
 use Rattle.bundles.specs.Layout.{to_place, to_net}
-use Rattle.bundles.specs.Readers.{word_after, word, place, places, head_after, head, bundle_size, bundle_head, read_head, head_in, head_of}
+use Rattle.bundles.specs.Readers.{mark, entry_after, entry, place, places, head_after, to_first, first, head, bundle_size, bundle_head, read_head}
+use Rattle.bundles.specs.Readers.{head_in, head_of}
 use Rattle.screening.specs.JoinLaws.{NoPlaces, JoinOf}
 use Rattle.screening.proofs.JoinLaws.{joined-permitted, joined-order, joined-itself, joined-whole, joined_grouped, joined-none, none-joined, joined-stop-first, joined-stop-second, joined-place}
 use Rattle.screening.specs.ScalingLaws.{ScaledPlace, ScaledPlaces, screened-scaled-place, screened-scaled}
@@ -76,7 +77,8 @@ pub record PremisesMet : Type 0 where
   pub all-doubled : ScaledPlaces 2 bytes_q (2 ∷ 0 ∷ 1 ∷ 0 ∷ 0 ∷ 0 ∷ 0 ∷ 0 ∷ 0 ∷ 2 ∷ 0 ∷ 0 ∷ 0 ∷ [])
 
 pub premises_met : PremisesMet
-unfolding bytes_a bytes_a' bytes_q bytes_r bytes_qr number_at all bind onward item_in require field byte number each to_place to_net right_size word_after word place places head_after head bundle_size bundle_head read_head head_of head_in event_count
+unfolding bytes_a bytes_a' bytes_q bytes_r bytes_qr number_at all bind onward item_in require field byte number each to_place to_net words
+    right_size mark entry_after entry place places head_after to_first first head bundle_size bundle_head read_head head_of head_in event_count
 premises_met = record {
   joined = record { first_read = refl; second-read = refl; whole-read = refl; first-events = refl; second-events = refl; places = refl };
   none = record { read = refl; places = refl; events = λ read. refl };

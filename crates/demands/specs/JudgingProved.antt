@@ -12,7 +12,7 @@ use Rattle.laws.specs.Lists.{all, any, among, not-among}
 use Rattle.laws.specs.Numbers.{Bytes}
 use Rattle.laws.specs.Scans.{first_failing, failing-exactly}
 use Rattle.limits.specs.Limits.{max_rows, right_size, right_size-bounds, right_size_intro, right_size_wrong}
-use Rattle.refusals.specs.Table.{place_misfit_number, place_permits_number, weights_number, bytes_follow_number}
+use Rattle.refusals.specs.Table.{place_misfit_number, place_disobeys_number, place_permits_number, weights_number, bytes_follow_number}
 use Rattle.refusals.specs.Results.{refused}
 use Rattle.refusals.specs.Answers.{refusal}
 use Rattle.nets.specs.Nets.{Log, Step, Place, no_place, fits}
@@ -25,7 +25,7 @@ use Rattle.bundles.specs.Layout.{bytes_of, LogBelowIn}
 use Rattle.bundles.specs.Readers.{head, certificate, rows_in_limit, any_rows}
 use Rattle.bundles.specs.Limits.{log-below}
 use Rattle.bundles.specs.Refusing.{reader_certificate}
-use Rattle.bundles.specs.Causes.{field-refused, word_8, word_9}
+use Rattle.bundles.specs.Causes.{field-refused, entry-8, entry-9}
 use Rattle.beginnings.specs.Beginnings.{HeadEnds, HeadDeparts, CertificateEnds, CertificateDeparts}
 use Rattle.beginnings.specs.Heads.{refused_unlimited, head-ends, head-departs}
 use Rattle.beginnings.specs.Words.{head_8, head_9}
@@ -33,8 +33,9 @@ use Rattle.beginnings.specs.Certificates.{from_first, certificate-ends, certific
 use Rattle.verdicts.specs.Judging.{unsolved, judging, verdict}
 use Rattle.verdicts.proofs.Acceptance.{few-rows, one-row}
 use Rattle.verdicts.specs.Reached.{UnsolvedNext, NotSolved, Misread}
-use Rattle.verdicts.proofs.Causes.{judging_10, judging-unsolved, judging-field, judging_13, judge_4, judge_5, judge_later}
+use Rattle.verdicts.proofs.Causes.{judging_10, judging-20, judging-unsolved, judging-field, judging_13, judge_4, judge_5, judge_later}
 use Rattle.demands.specs.Judging.{Sized, LowestMisfit, DueStops, JudgeExactly, FieldsExactly}
+use Rattle.demands.specs.Fields.{mark-refused, pair-word}
 
 -- ---- The tests before bundle order
 
@@ -173,21 +174,24 @@ judge_exactly table_length b bytes = record {
   ends = ends table_length b bytes;
   departs = departs table_length b bytes;
   events_pass = λ spot. in_word table_length b bytes 8 refl refl spot (Iff.trans (head_8 b bytes spot rows_in_limit one-row few-rows) (
-    (λ (n, log, few, e). (n, log, leb→le _ max_rows few, e)),
-    (λ (n, log, few, e). (n, log, le→leb _ max_rows few, e)),
+    (λ (f, before, few, e). (f, before, leb→le _ max_rows few, e)),
+    (λ (f, before, few, e). (f, before, le→leb _ max_rows few, e)),
   ));
   rows_pass = λ spot. in_word table_length b bytes 9 refl refl spot (Iff.trans (head_9 b bytes spot one-row few-rows) (
-    (λ (n, log, few, e). (n, log, leb→le _ max_rows few, e)),
-    (λ (n, log, few, e). (n, log, le→leb _ max_rows few, e)),
+    (λ (f, before, few, e). (f, before, leb→le _ max_rows few, e)),
+    (λ (f, before, few, e). (f, before, le→leb _ max_rows few, e)),
   ));
   place = λ spot. in_bundle table_length b place_misfit_number (λ e. omega (arith, e)) (λ e. omega (arith, e)) spot (Iff.trans (judging_10 b bytes spot) (
     (λ (h, rest, t, at, fails). (h, rest, t, (misfit-exactly h (log-below h t.front.limits) spot).0 (at, fails))),
     (λ (h, rest, t, m). let c = (misfit-exactly h (log-below h t.front.limits) spot).1 m in (h, rest, t, c.0, c.1)),
   ));
+  rule = λ spot. in_bundle table_length b place_disobeys_number (λ e. omega (arith, e)) (λ e. omega (arith, e)) spot (judging-20 b bytes spot);
   listed-place = λ spot. in_bundle table_length b place_permits_number (λ e. omega (arith, e)) (λ e. omega (arith, e)) spot
-      (Iff.trans (judging-unsolved b bytes place_permits_number spot refl (λ e. omega (arith, e)) (λ e. omega (arith, e))) (place-kind b spot));
+      (Iff.trans (judging-unsolved b bytes place_permits_number spot refl (λ e. omega (arith, e)) (λ e. omega (arith, e)) (λ e. omega (arith, e)))
+      (place-kind b spot));
   weights = λ spot. in_bundle table_length b weights_number (λ e. omega (arith, e)) (λ e. omega (arith, e)) spot
-      (Iff.trans (judging-unsolved b bytes weights_number spot refl (λ e. omega (arith, e)) (λ e. omega (arith, e))) (weights-kind b spot));
+      (Iff.trans (judging-unsolved b bytes weights_number spot refl (λ e. omega (arith, e)) (λ e. omega (arith, e)) (λ e. omega (arith, e)))
+      (weights-kind b spot));
   bytes-follow = λ spot. in_bundle table_length b bytes_follow_number (λ e. omega (arith, e)) (λ e. omega (arith, e)) spot (judging_13 b bytes spot);
 }
 
@@ -200,6 +204,11 @@ fields-exactly b at = record {
       ((λ (here, cause). record { here = here; cause = cause }), (λ f. (f.here, f.cause)));
   two_bytes = λ in_range k spot. Iff.trans (field-refused 2 _ in_range b at k spot)
       ((λ (here, cause). record { here = here; cause = cause }), (λ f. (f.here, f.cause)));
-  events = λ rows_fit n log spot. word_8 n b at rows_fit log spot;
-  rows = λ rows_fit n log spot. word_9 n b at rows_fit log spot;
+  events = λ rows_fit f before spot. entry-8 f b at rows_fit before spot;
+  rows = λ rows_fit f before spot. entry-9 f b at rows_fit before spot;
+  mark = λ rows_fit f before is_new k. Iff.trans (mark-refused f is_new b at rows_fit before k) (
+    (λ (there, few, (here, cause)). (there, few, record { here = here; cause = cause })),
+    (λ (there, few, r). (there, few, (r.here, r.cause))),
+  );
+  pair-word = pair-word b at;
 }

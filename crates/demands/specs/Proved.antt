@@ -32,7 +32,7 @@ use Rattle.demands.specs.JudgingProved.{judge_exactly, fields-exactly}
 use Rattle.demands.specs.ScreeningProved.{screen-exactly, join-exactly}
 use Rattle.demands.specs.PruningProved.{prune-exactly}
 use Rattle.demands.specs.BoundaryProved.{boundary}
-use Rattle.demands.specs.Accepting.{counts_are, regions-exactly}
+use Rattle.demands.specs.Accepting.{acceptance-asks, counts_are, regions-exactly}
 use Rattle.demands.specs.Comparing.{accepted-head, net-complete, net-suboptimal, table-left, numbers-left, compared}
 
 pub demand_1 : Demand1
@@ -56,7 +56,7 @@ demand_1 = record {
   refusals_of_screen = screen-numbers;
   refusals_of_join = join-numbers;
   refusals_of_prune = prune-numbers;
-  counts-most = (refl, refl);
+  counts-most = (refl, refl, refl);
   refusal-numbers = λ r. (refl, refl, refl, refl);
   refused_output = refused-writes-nothing;
   result_output = λ result output n e. let a = answer-length result output n e in (a.0, a.1, a.2.0, a.2.1);
@@ -75,6 +75,7 @@ demand_1 = record {
 pub demand_2 : Demand2
 demand_2 = record {
   accepted = accepted-exactly;
+  asks = acceptance-asks;
   head = accepted-head;
   counts = λ table_length b bytes c e. counts_are b bytes table_length c e;
   by-regions = λ table_length long b bytes. regions-exactly b bytes table_length long;

@@ -1,6 +1,7 @@
 -- REQUEST 7: 'Throw out idle places.' 'Nets carry places that no certificate names. Given an accepted bundle, write one without them, the rest in
 -- their old order, with certificates renumbered.'
--- First the call: exactly when each refusal meets it, and what it writes. Then what stands in the bundle that is written, and what it keeps.
+-- First the call: exactly when each refusal meets it, and what it writes. Then what stands in the bundle that is written, and what it keeps: of both
+-- editions, with the first byte, the marks and the pairs as they were. (A bundle of the new edition is pruned in CompletedSamples.antt.)
 use Rattle.std.specs.Prelude.{◌≡◌, not, ◌↔◌, ℕ, ◌≤◌, ◌<◌, T, length, get_or, Err, None, Ok, Some}
 use mathlib.Core.List.{List, [], ◌∷◌, ◌++◌, Memᴰ}
 use Rattle.laws.specs.Numbers.{Bytes}
@@ -8,19 +9,20 @@ use Rattle.laws.specs.Parts.{front}
 use Rattle.refusals.specs.Results.{value}
 use Rattle.refusals.specs.Answers.{refusal, answer, written}
 use Rattle.refusals.specs.declared.Refusal.{Refusal}
-use Rattle.nets.specs.Nets.{Word, Net, Place, Bundle, permits, accepted, tally}
+use Rattle.nets.specs.Nets.{Word, Net, Place, permits}
+use Rattle.nets.specs.Bundle.{Bundle, log_of, accepted, tally}
 use Rattle.nets.specs.Pruning.{prune}
 use Rattle.nets.specs.Words.{Prefix}
-use Rattle.bundles.specs.Layout.{PlaceFields, CertificateFields, kind0, Contents, InLimits, bytes_of, words_in}
+use Rattle.bundles.specs.Layout.{PlaceFields, CertificateFields, kind0, Contents, InLimits, bytes_of}
 use Rattle.bundles.specs.Readers.{events_in, log_in, net_in}
 use Rattle.verdicts.specs.Judging.{verdict, table_after}
 use Rattle.verdicts.specs.Acceptance.{AcceptedAs}
 use Rattle.verdicts.specs.declared.Tally.{Tally}
-use Rattle.screening.specs.Screening.{screened}
-use Rattle.screening.specs.Screening.{Screened}
+use Rattle.screening.specs.Screening.{screened, Screened}
 use Rattle.pruning.specs.Pruning.{pruned, pruning}
+use Rattle.demands.specs.Completed.{entries_in}
 
--- ---- Prune: the judge's 4, 5, 6 to 13, then 3
+-- ---- Prune: the judge's 4, 5, 6 to 10, 20, 11 to 13, then 3
 
 -- an accepted bundle, its counts and contents, and the length of what is left of it
 pub record PrunesTo (table_length : ℕ) (b : List ℕ) (c : Tally) (d : Contents) (n : ℕ) : Type 0 where
@@ -53,17 +55,20 @@ pub record PruneExactly (table_length : ℕ) (b : List ℕ) (room : ℕ) : Type 
 abbrev pub Named : Contents → ℕ → Type 0
 Named d j = Memᴰ (kind0 j) d.certificates
 
--- d' is d without its idle places; `number` gives the places that stay their new numbers
+-- d' is d without its idle places, in the same edition; `number` gives the places that stay their new numbers
 pub record WithoutIdle (d d' : Contents) (number : ℕ → ℕ) (no_place : PlaceFields) (none : CertificateFields) : Type 0 where
+  pub edition : d'.head.is_new ≡ d.head.is_new
   pub events : d'.head.events ≡ d.head.events
-  pub log : words_in d'.head ≡ words_in d.head
+  -- the words with their marks
+  pub entries : d'.head.entries ≡ d.head.entries
   -- a place that is named stays
   pub stays : (j : ℕ) → Named d j → (number j < length d'.head.places) × (get_or d'.head.places (number j) no_place ≡ get_or d.head.places j no_place)
   -- 'Nets carry places that no certificate names .. write one without them': each place that is left is one that was named, and is named
   pub only : (i : ℕ) → i < length d'.head.places → Named d' i × ((j : ℕ) × Named d j × (number j ≡ i))
   -- 'the rest in their old order'
   pub order : (j k : ℕ) → Named d j → j < k → number j < number k
-  -- 'with certificates renumbered': as many, each of kind 0 with the new number of its place, each of kind 1 as it was
+  -- 'with certificates renumbered': as many, each of kind 0 with the new number of its place, each of kind 1 as it was,
+  -- with its pairs
   pub certificates : length d'.certificates ≡ length d.certificates
   pub by_place : (i j : ℕ) → i < length d.certificates → get_or d.certificates i none ≡ kind0 j → get_or d'.certificates i none ≡ kind0 (number j)
   pub by_weights : (i : ℕ) → i < length d.certificates → ((j : ℕ) → get_or d.certificates i none ≡ kind0 j → ⊥)
@@ -80,8 +85,10 @@ pub record Keeps (b b' : List ℕ) (c : Tally) : Type 0 where
   -- 'The result is accepted with the same four counts', and judging it leaves the same table
   pub accepted : (table_length : ℕ) → 3584 ≤ table_length → verdict table_length b' ≡ Ok c
   pub table : (table : List ℕ) → 3584 ≤ length table → table_after b' table ≡ table_after b table
+  -- the first byte, which says the edition; the events, and the words with their marks
+  pub first : get_or b' 0 0 ≡ get_or b 0 0
   pub events : events_in b' ≡ events_in b
-  pub log : log_in b' ≡ log_in b
+  pub entries : entries_in b' ≡ entries_in b
   -- 'every log prefix with one event added gets the same yes or no'; screening says so, too, and where it is no, both stop at the added event
   pub prefixes : (w : Word) → Prefix (log_in b) w → (e : ℕ) → e < events_in b
       → permits (events_in b') (net_in b') (w ++ e ∷ []) ≡ permits (events_in b) (net_in b) (w ++ e ∷ [])
@@ -116,7 +123,9 @@ pub record PermittedMore : Type 0 where
 pub record BundlePruned (b : Bundle) : Type 0 where
   pub accepted : T (accepted (prune b))
   pub counts : tally (prune b) ≡ tally b
-  pub prefixes : (w : Word) → Prefix b.log w → (e : ℕ) → e < b.events → permits b.events (prune b).net (w ++ e ∷ []) ≡ permits b.events b.net (w ++ e ∷ [])
+  pub entries : (prune b).entries ≡ b.entries
+  pub prefixes : (w : Word) → Prefix (log_of b) w → (e : ℕ) → e < b.events
+      → permits b.events (prune b).net (w ++ e ∷ []) ≡ permits b.events b.net (w ++ e ∷ [])
   pub more : (w : Word) → T (permits b.events b.net w) → T (permits b.events (prune b).net w)
 
 pub record Request7 : Type 0 where

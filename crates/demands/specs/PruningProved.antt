@@ -1,49 +1,45 @@
 -- The page of request 7, proved.
-use Rattle.std.specs.Prelude.{◌≡◌, Bool, not, ◌⊎◌, ℕ, suc, ◌+◌, ◌≤◌, ◌<◌, get_or, replicate, Err, Ok}
+use Rattle.std.specs.Prelude.{◌≡◌, Bool, not, ◌⊎◌, ℕ, suc, ◌+◌, ◌≤◌, ◌<◌, replicate, Err, Ok}
 use Rattle.std.proofs.Math.Path.{refl, sym, ap, subst}
 use Rattle.std.proofs.Common.{◌∙◌, inl, inr, ⊎_elim, arith}
 use Rattle.std.proofs.Math.Bool.{false≢true, cond}
-use mathlib.Core.List.{List, [], ◌∷◌, flat_map}
+use mathlib.Core.List.{List, ◌∷◌}
 use Rattle.std.proofs.Math.Dec.{T}
-use Rattle.std.proofs.Math.ListN.{length, length-map}
+use Rattle.std.proofs.Math.ListN.{length, get_or, length-map}
 use Rattle.std.proofs.lemmas.List.{length-replicate}
 use Rattle.laws.specs.Booleans.{impossible, lt_or_le}
-use Rattle.laws.specs.Lists.{all, any, keep, tabulate, equal, among, get_d_map, member→, →member}
-use Rattle.laws.specs.Numbers.{Bytes, number_at, all-bytes}
-use Rattle.laws.specs.Differences.{negative_part, sumℤ}
-use Rattle.laws.specs.Scans.{first_failing}
-use Rattle.laws.specs.Ranks.{keep_at, rank, rank-next, rank-more, keep_at-at, keep_at-from}
-use Rattle.limits.specs.Limits.{right_size}
-use Rattle.refusals.specs.Results.{value, refused, bind}
-use Rattle.refusals.specs.Results as results
+use Rattle.laws.specs.Lists.{any, among, get_d_map}
+use Rattle.laws.specs.Numbers.{Bytes}
+use Rattle.laws.specs.Ranks.{rank, rank-next, rank-more, keep_at-at, keep_at-from}
+use Rattle.refusals.specs.Results.{value, refused}
 use Rattle.refusals.specs.Answers.{refusal, answer}
 use Rattle.refusals.proofs.Laws.{ends-refused, ends-short, ends-written, answer-length, refused-writes-nothing}
 use Rattle.refusals.specs.declared.Refusal.{Refusal}
-use Rattle.nets.specs.Nets.{Word, Bundle, same, occurrences, event_count, weighed, beginnings, prefixes, add_row, counts, tokens, surplus, place_permits, shortfall, net_permits, permits, first_refusing, shortfall_of, stopped_at, screen_after, screen, rows, allowed, passes, row_steps, continuations, allowed_steps, wrong_continuations, fits, refused_by, weighs_before, weighs_after, weights_hold, solves, is_by_place, tally}
-use Rattle.nets.specs.Events.{first_bad}
+use Rattle.nets.specs.Nets.{Word, Entry, permits}
+use Rattle.nets.specs.Bundle.{Bundle, accepted}
+use Rattle.nets.specs.Comparison.{Contained}
+use Rattle.nets.proofs.Comparison.{contained-same}
 use Rattle.nets.specs.Pruning.{prune}
 use Rattle.nets.proofs.Pruning.{fewer-permits, prune-accepted, prune-tally, prune-permits, prune-more}
 use Rattle.logs.specs.Answers.{table_size}
 use Rattle.bundles.specs.Bytes.{contents-bytes}
-use Rattle.bundles.specs.Reading.{item_in, require, field, byte, number, each, onward}
-use Rattle.bundles.specs.Layout.{PlaceFields, CertificateFields, kind0, kind1, Head, Contents, InLimits, to_place, to_net, to_term, to_certificate, to_bundle, word_bytes, place_bytes, places_bytes, term_bytes, weight_bytes, certificate_bytes, front_bytes, head_bytes, bytes_of, words_in}
-use Rattle.bundles.specs.Readers as readers
-use Rattle.bundles.specs.Readers.{head_of, events_in, log_in, net_in, word_after, word, place, places, head_after, bundle_size, bundle_head, read_head, term, weights, of_kind, certificate}
-use Rattle.verdicts.specs.Judging as verdicts
-use Rattle.verdicts.specs.Judging.{tally_of, unsolved, solved, at_end, after_head, contents, judged, verdict_of, verdict, verdict_number}
+use Rattle.bundles.specs.Layout.{PlaceFields, CertificateFields, kind0, kind1, Head, Contents, InLimits, to_net, to_bundle}
+use Rattle.bundles.specs.Layout.{front_bytes, head_bytes, bytes_of}
+use Rattle.bundles.specs.Readers.{head_of, events_in, net_in}
+use Rattle.verdicts.specs.Judging.{Verdict, tally_of, verdict, verdict_number}
 use Rattle.verdicts.specs.Acceptance.{AcceptedAs}
 use Rattle.verdicts.proofs.Acceptance.{accepted-exactly, accepted-table}
-use Rattle.verdicts.specs.RefusalNumbers.{judge_numbers_lem}
+use Rattle.verdicts.specs.RefusalNumbers.{judge_numbers, judge_numbers_lem}
 use Rattle.verdicts.specs.declared.Tally.{Tally}
-use Rattle.verdicts.specs.Judging.{Verdict}
-use Rattle.screening.specs.Screening.{word_on, screening, replayed, screened_of, screened}
 use Rattle.contents.specs.Contents.{accepted-contents}
-use Rattle.pruning.specs.Pruning.{names, named, renumbered, pruned, pruning}
+use Rattle.pruning.specs.Pruning.{named, renumbered, pruned, pruning}
 use Rattle.pruning.specs.PruneLaws.{named-member, named→, named-there, stays-named, pruned-bundle, pruned-accepted, pruned-tally, pruned-limits, pruned-shorter, pruned-twice}
 use Rattle.pruning.specs.Judged.{judge_refused, judge_accepted}
+use Rattle.demands.specs.Completed.{entries_in}
 use Rattle.demands.specs.Demands.{LogContained, Compared}
 use Rattle.demands.specs.Comparing.{long-table, accepted-head, compared}
-use Rattle.demands.specs.Pruning.{PrunesTo, PruneExactly, WithoutIdle, Keeps, PermittedMore, Request7}
+use Rattle.demands.specs.Pruning.{PrunesTo, PruneExactly, WithoutIdle, Keeps, BundlePruned, Request7}
+use Rattle.demands.specs.PruningSample.{permitted-more}
 
 -- ---- The call
 
@@ -72,7 +68,8 @@ module _ (b : List ℕ) (bytes : Bytes b) where
     -- the judge never refuses with 3
     not_3 : (spot : ℕ) → verdict table_length b ≡ Err (refusal 3 spot) → ⊥
     unfolding verdict_number any
-    not_3 spot e = false≢true (sym (ap (λ (v : Verdict). among (verdict_number v) (0 ∷ 4 ∷ 5 ∷ 6 ∷ 7 ∷ 8 ∷ 9 ∷ 10 ∷ 11 ∷ 12 ∷ 13 ∷ [])) e) ∙ judge_numbers_lem table_length b)
+    not_3 spot e =
+        false≢true (sym (ap (λ (v : Verdict). among (verdict_number v) (0 ∷ judge_numbers)) e) ∙ judge_numbers_lem table_length b)
 
     module _ (room : ℕ) (output : List ℕ) (size : length output ≡ room) where
       -- the answer of each ending
@@ -158,8 +155,9 @@ module _ (d : Contents) (limits : InLimits d) (no_place : PlaceFields) (none : C
   without_idle_lem : WithoutIdle d (pruned d) (rank kept) no_place none
   unfolding pruned renumbered
   without_idle_lem = record {
+    edition = refl;
     events = refl;
-    log = refl;
+    entries = refl;
     stays = λ j m. keep_at-at kept d.head.places j no_place (named-member d.certificates j m) (named-there d limits j m);
     only = λ i h.
         let (j, inside, passes, is) = keep_at-from kept d.head.places i h in
@@ -173,6 +171,10 @@ module _ (d : Contents) (limits : InLimits d) (no_place : PlaceFields) (none : C
   }
 
 -- ---- What it keeps
+
+same-contained : (n m : ℕ) (one two : List Entry) → n ≡ m → one ≡ two → Contained n one m two
+same-contained n m one two events same =
+    subst (λ (l : List Entry). Contained n one m l) same (subst (λ (k : ℕ). Contained n one k one) events (contained-same n one))
 
 module _ (b : List ℕ) (bytes : Bytes b) (size : ℕ) (c : Tally) (d : Contents) (yes' : verdict size b ≡ Ok c) (a : AcceptedAs b c d) where
   abbrev b' : List ℕ
@@ -202,15 +204,21 @@ module _ (b : List ℕ) (bytes : Bytes b) (size : ℕ) (c : Tally) (d : Contents
   unfolding pruned
   same-events = ap (λ (h : Head). h.events) head' ∙ sym (ap (λ (h : Head). h.events) head)
 
-  same_log : log_in b' ≡ log_in b
+  same_entries : entries_in b' ≡ entries_in b
   unfolding pruned
-  same_log = ap words_in head' ∙ sym (ap words_in head)
+  same_entries = ap (λ (h : Head). h.entries) head' ∙ sym (ap (λ (h : Head). h.entries) head)
+
+  -- the first byte, which says the edition and n
+  same_first : get_or b' 0 0 ≡ get_or b 0 0
+  unfolding pruned bytes_of head_bytes front_bytes
+  same_first = sym (ap (λ (l : List ℕ). get_or l 0 0) a.layout)
 
   back : LogContained b' b
-  back = record { events = same-events; prefixes = λ u m. rw (← same_log) m }
+  back = same-contained (events_in b') (events_in b) (entries_in b') (entries_in b) same-events same_entries
 
   compares : Compared b b' c c
-  compares = compared b b' bytes bytes' size table_size c c yes' (verdict' table_size (omega arith)) (record { events = sym same-events; prefixes = λ u m. rw same_log m })
+  compares = compared b b' bytes bytes' size table_size c c yes' (verdict' table_size (omega arith))
+      (same-contained (events_in b) (events_in b') (entries_in b) (entries_in b') (sym same-events) (sym same_entries))
 
   permits-more : (w : Word) → T (permits (events_in b) (net_in b) w) → T (permits (events_in b') (net_in b') w)
   unfolding to_bundle prune
@@ -225,8 +233,9 @@ module _ (b : List ℕ) (bytes : Bytes b) (size : ℕ) (c : Tally) (d : Contents
     bytes = bytes';
     accepted = verdict';
     table = λ table long. accepted-table b' table bytes' long c (pruned d) accepted' ∙ sym (accepted-table b table bytes long c d a);
+    first = same_first;
     events = same-events;
-    log = same_log;
+    entries = same_entries;
     prefixes = λ w m e h. sym ((compares.longer w m e h).same back);
     permitted = λ w m e h.
         let longer = compares.longer w m e h in
@@ -250,49 +259,23 @@ keeps-all table_length b bytes c yes' new e =
     let is : bytes_of (pruned d) ≡ new = let p = prunes b bytes table_length c d yes' a in (cc) in
     subst (λ (l : List ℕ). Keeps b l c) is (keeps b bytes table_length c d yes' a)
 
--- ---- A sample: 77 bytes, of whose four places no certificate names the first; the words 0 0 0 1 and 0 1
+-- ---- The page
 
-unfoldable with_idle : List ℕ
-with_idle =
-    2 ∷ 2 ∷ 4 ∷ 0 ∷ 0 ∷ 0 ∷ 1 ∷ 2 ∷ 0 ∷ 1 ∷ 4
-    ∷ 1 ∷ 0 ∷ 1 ∷ 0 ∷ 0 ∷ 0 ∷ 1 ∷ 0 ∷ 1 ∷ 0
-    ∷ 1 ∷ 0 ∷ 2 ∷ 0 ∷ 0 ∷ 0 ∷ 1 ∷ 0 ∷ 2 ∷ 0
-    ∷ 3 ∷ 0 ∷ 0 ∷ 0 ∷ 0 ∷ 0 ∷ 1 ∷ 0 ∷ 0 ∷ 0
-    ∷ 1 ∷ 0 ∷ 0 ∷ 0 ∷ 0 ∷ 0 ∷ 0 ∷ 0 ∷ 1 ∷ 0
-    ∷ 0 ∷ 1 ∷ 1 ∷ 2 ∷ 0 ∷ 2 ∷ 1 ∷ 0 ∷ 1 ∷ 1 ∷ 0 ∷ 3 ∷ 0 ∷ 1 ∷ 1 ∷ 0 ∷ 0 ∷ 2 ∷ 0 ∷ 2 ∷ 0 ∷ 3 ∷ 0 ∷ 1 ∷ 0 ∷ 1 ∷ []
-
-unfoldable without_idle : List ℕ
-without_idle =
-    2 ∷ 2 ∷ 4 ∷ 0 ∷ 0 ∷ 0 ∷ 1 ∷ 2 ∷ 0 ∷ 1 ∷ 3
-    ∷ 1 ∷ 0 ∷ 2 ∷ 0 ∷ 0 ∷ 0 ∷ 1 ∷ 0 ∷ 2 ∷ 0
-    ∷ 3 ∷ 0 ∷ 0 ∷ 0 ∷ 0 ∷ 0 ∷ 1 ∷ 0 ∷ 0 ∷ 0
-    ∷ 1 ∷ 0 ∷ 0 ∷ 0 ∷ 0 ∷ 0 ∷ 0 ∷ 0 ∷ 1 ∷ 0
-    ∷ 0 ∷ 0 ∷ 1 ∷ 2 ∷ 0 ∷ 2 ∷ 1 ∷ 0 ∷ 1 ∷ 1 ∷ 0 ∷ 3 ∷ 0 ∷ 1 ∷ 1 ∷ 0 ∷ 0 ∷ 1 ∷ 0 ∷ 1 ∷ 0 ∷ 2 ∷ 0 ∷ 0 ∷ 0 ∷ 0 ∷ []
-
-permitted-more : PermittedMore
-unfolding with_idle without_idle all any keep tabulate equal number_at first_failing negative_part sumℤ same occurrences event_count weighed beginnings prefixes add_row counts tokens surplus place_permits shortfall net_permits first_refusing shortfall_of stopped_at screen_after screen rows allowed passes row_steps continuations allowed_steps wrong_continuations fits refused_by weighs_before weighs_after weights_hold solves is_by_place tally first_bad flat_map bind results.require onward item_in require field byte number each to_place to_net to_term to_certificate to_bundle right_size word_after word place places head_after readers.head bundle_size bundle_head read_head readers.head_in head_of term weights of_kind certificate unsolved solved at_end after_head contents verdicts.judging judged verdict_of verdict replayed word_on screening screened_of screened names named keep_at rank renumbered pruned pruning word_bytes place_bytes places_bytes term_bytes weight_bytes certificate_bytes front_bytes head_bytes bytes_of
-permitted-more = record {
-  bundle = with_idle;
-  bytes = all-bytes with_idle refl;
-  left = without_idle;
-  prefix = 0 ∷ 0 ∷ [];
-  event = 1;
-  rest = 0 ∷ [];
-  inside = member→ (0 ∷ 0 ∷ []) (prefixes (log_in with_idle)) tt;
-  leaves = λ m. →member (0 ∷ 0 ∷ 1 ∷ []) (prefixes (log_in with_idle)) m;
-  earlier = omega arith;
-  counts = record { rows = 6; allowed = 5; by_place = 6; by_weights = 1 };
-  accepted = refl;
-  prunes = refl;
-  before = refl;
-  after = refl;
+bundle-pruned : (b : Bundle) → T (accepted b) → BundlePruned b
+unfolding prune
+bundle-pruned b t = record {
+  accepted = prune-accepted b t;
+  counts = prune-tally b t;
+  entries = refl;
+  prefixes = prune-permits b t;
+  more = prune-more b;
 }
 
 pub request_7 : Request7
 request_7 = record {
   contents = λ d limits no_place none. (rank (named d.certificates), without_idle_lem d limits no_place none);
   keeps = keeps-all;
-  bundles = λ b t. record { accepted = prune-accepted b t; counts = prune-tally b t; prefixes = prune-permits b t; more = prune-more b };
+  bundles = bundle-pruned;
   nets = fewer-permits;
   sample = permitted-more;
 }

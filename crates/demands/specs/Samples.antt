@@ -1,39 +1,42 @@
 -- Samples A to I of the paper for the definitions, on their bytes, and further refusals: what is computed, with what is expected.
-use Rattle.std.specs.Prelude.{◌≡◌, refl, true, false, cond, ℕ, ◌-◌, ltb, length, Err, None, Ok, Some}
+use Rattle.std.specs.Prelude.{◌≡◌, refl, Bool, true, false, cond, ℕ, ◌-◌, ltb, length, Err, None, Ok, Some}
 use mathlib.Core.List.{List, [], ◌∷◌, map, flat_map}
 use Rattle.laws.specs.Lists.{all, any, keep, tabulate, equal, member}
 use Rattle.laws.specs.Numbers.{number_at}
-use Rattle.laws.specs.Differences.{negative_part, sumℤ}
+use Rattle.laws.specs.Differences.{negative_part, is_zero_ℤ, sumℤ}
 use Rattle.laws.specs.Scans.{first_failing}
 use Rattle.limits.specs.Limits.{right_size}
 use Rattle.refusals.specs.Results.{bind}
 use Rattle.refusals.specs.Results as results
-use Rattle.nets.specs.Nets.{Log, same, occurrences, event_count, weighed, beginnings, prefixes, add_row, counts, step_after, tokens, surplus, place_permits, shortfall, net_permits, permits_after, permits, first_refusing, shortfall_of, stopped_at, screen_after, screen, rows, allowed, passes, traffic, row_steps, continuations, allowed_steps, wrong_continuations, fits, refused_by, weighs_before, weighs_after, weights_hold, solves, is_by_place, tally}
+use Rattle.nets.specs.Nets.{Log, words, completed_words, place_obeys, same, occurrences, event_count, weighed, beginnings, prefixes, add_row}
+use Rattle.nets.specs.Nets.{counts, step_after, tokens, surplus, place_permits, shortfall, net_permits, permits_after, permits, first_refusing}
+use Rattle.nets.specs.Nets.{shortfall_of, stopped_at, screen_after, screen, rows, allowed, passes, traffic, row_steps, continuations, allowed_steps}
+use Rattle.nets.specs.Nets.{wrong_continuations, fits, refused_by}
+use Rattle.nets.specs.Bundle.{names_completed, pair_counts, paired, weighs_before, weighs_after, weights_hold, solves, is_by_place, tally}
 use Rattle.nets.specs.Events.{first_bad}
 use Rattle.logs.specs.Answers.{table_size}
 use Rattle.bundles.specs.Reading.{item_in, require, field, byte, number, each, onward}
-use Rattle.bundles.specs.Layout.{to_place, to_net, to_term, to_certificate, to_bundle}
-use Rattle.bundles.specs.Readers.{head_in, head_of, events_in, log_in, net_in, word_after, word, place, places, head_after, head, bundle_size, bundle_head, read_head, term, weights, of_kind, certificate}
-use Rattle.verdicts.specs.Judging.{unsolved, solved, at_end, after_head, contents, judging, judged, verdict_of, verdict, verdict_number}
-use Rattle.verdicts.specs.Judging.{Verdict}
+use Rattle.bundles.specs.Layout.{to_place, to_net, to_term, signed, to_pair, to_certificate, to_bundle}
+use Rattle.bundles.specs.Readers.{head_in, head_of, events_in, log_in, net_in, mark, entry_after, entry, place, places, head_after, to_first, first}
+use Rattle.bundles.specs.Readers.{head, bundle_size, bundle_head, read_head, term, pair, pairs, weights, of_kind, certificate}
+use Rattle.verdicts.specs.Judging.{unsolved, solved, at_end, after_head, contents, judging, judged, Verdict, verdict_of, verdict, verdict_number}
 use Rattle.verdicts.specs.declared.Tally.{Tally}
-use Rattle.screening.specs.Screening.{word_on, screening, joining, replayed, screened_of, screened, screened_joined, screened_number}
-use Rattle.screening.specs.Screening.{Screened}
+use Rattle.screening.specs.Screening.{word_on, screening, joining, replayed, screened_of, screened, screened_joined, screened_number, Screened}
 use Rattle.numbers.specs.Numbers.{with_verdict, with_screened}
 
 -- 0 and the four counts, or the refusal's number and spot
-of_verdict : Verdict → List ℕ
+unfoldable pub of_verdict : Verdict → List ℕ
 of_verdict (Ok c) = 0 ∷ c.rows ∷ c.allowed ∷ c.by_place ∷ c.by_weights ∷ []
 of_verdict (Err r) = r.number ∷ r.spot ∷ []
 
 -- 0 where it is permitted; 256, position, place and shortfall where it is stopped; or the refusal's number and spot
-of_screened : Screened → List ℕ
+unfoldable pub of_screened : Screened → List ℕ
 of_screened (Ok None) = 0 ∷ []
 of_screened (Ok (Some s)) = 256 ∷ s.position ∷ s.place ∷ s.shortfall ∷ []
 of_screened (Err r) = r.number ∷ r.spot ∷ []
 
 -- what a call for C returns, then the four numbers of `answer`, which held 10, 11, 12 and 13
-handed_verdict : Verdict → List ℕ
+unfoldable pub handed_verdict : Verdict → List ℕ
 handed_verdict v = verdict_number v ∷ with_verdict (10 ∷ 11 ∷ 12 ∷ 13 ∷ []) v
 
 handed_screened : Screened → List ℕ
@@ -160,6 +163,10 @@ bytes_a' =
 unfoldable pub counts_a : Tally
 counts_a = record { rows = 5; allowed = 4; by_place = 5; by_weights = 1 }
 
+-- each word of the one list is in the other
+abbrev pub listed_in : List (List ℕ) → List (List ℕ) → Bool
+listed_in l₁ l₂ = all (λ w. member w l₂) l₁
+
 -- ---- One result over all of it
 
 -- what computing gives
@@ -170,8 +177,11 @@ pub record Computed : Type 0 where
   pub accepted_a' : verdict table_size bytes_a' ≡ Ok counts_a
   pub events : events_in bytes_a ≡ events_in bytes_a'
   pub two : events_in bytes_a ≡ 2
-  pub to : all (λ w. member w (prefixes (log_in bytes_a'))) (prefixes (log_in bytes_a)) ≡ true
-  pub from : all (λ w. member w (prefixes (log_in bytes_a))) (prefixes (log_in bytes_a')) ≡ true
+  pub to : listed_in (prefixes (log_in bytes_a)) (prefixes (log_in bytes_a')) ≡ true
+  pub from : listed_in (prefixes (log_in bytes_a')) (prefixes (log_in bytes_a)) ≡ true
+  -- and no word is completed
+  pub none : completed_words (head_of bytes_a).entries ≡ []
+  pub none' : completed_words (head_of bytes_a').entries ≡ []
   pub bytes_of_a : all (λ x. ltb x 256) bytes_a ≡ true
   pub bytes_of_a' : all (λ x. ltb x 256) bytes_a' ≡ true
   -- after 0 the event 1 is not allowed, and permitted; after 1 the event 0 is not allowed, and refused
@@ -183,7 +193,15 @@ pub record Computed : Type 0 where
   pub refuses10 : permits (events_in bytes_a) (net_in bytes_a) (1 ∷ 0 ∷ []) ≡ false
 
 pub computed : Computed
-unfolding of_verdict of_screened handed_verdict handed_screened verdict_number with_verdict screened_number with_screened bytes_a bytes_q bytes_r bytes_four log_i samples all any keep tabulate equal number_at first_failing negative_part sumℤ same occurrences event_count weighed beginnings prefixes add_row counts tokens surplus place_permits shortfall net_permits first_refusing shortfall_of stopped_at screen_after screen rows allowed passes traffic row_steps continuations allowed_steps wrong_continuations fits refused_by weighs_before weighs_after weights_hold solves is_by_place tally first_bad flat_map bind results.require onward item_in require field byte number each to_place to_net to_term to_certificate to_bundle right_size word_after word place places head_after head bundle_size bundle_head read_head term weights of_kind certificate unsolved solved at_end after_head contents judging judged verdict_of verdict replayed word_on screening joining screened_of screened screened_joined bytes_a' counts_a head_of head_in permits permits_after
+unfolding of_verdict of_screened handed_verdict handed_screened verdict_number with_verdict screened_number with_screened bytes_a bytes_q bytes_r
+    bytes_four log_i samples all any keep tabulate equal number_at first_failing negative_part sumℤ same occurrences event_count weighed beginnings
+    prefixes add_row counts tokens surplus place_permits shortfall net_permits first_refusing shortfall_of stopped_at screen_after screen rows
+    allowed passes traffic row_steps continuations allowed_steps wrong_continuations fits refused_by weighs_before weighs_after weights_hold solves
+    is_by_place tally first_bad flat_map bind results.require onward item_in require field byte number each words completed_words is_zero_ℤ
+    place_obeys names_completed pair_counts paired to_place to_net to_term signed to_pair to_certificate to_bundle right_size mark entry_after
+    entry place places head_after to_first first head bundle_size bundle_head read_head term pair pairs weights of_kind certificate unsolved solved
+    at_end after_head contents judging judged verdict_of verdict replayed word_on screening joining screened_of screened screened_joined bytes_a'
+    counts_a head_of head_in permits permits_after
 computed = record {
   samples_hold = refl;
   accepted_a = refl;
@@ -192,6 +210,8 @@ computed = record {
   two = refl;
   to = refl;
   from = refl;
+  none = refl;
+  none' = refl;
   bytes_of_a = refl;
   bytes_of_a' = refl;
   prefix0 = refl;

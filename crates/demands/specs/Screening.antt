@@ -1,12 +1,12 @@
 -- SCREENING, with one bundle and with two joined, in the words of the requirements: exactly when each refusal meets the call, with its spot.
 -- What it answers else is in demand 2.
 -- Every line is about any bundle of bytes and any word.
-use Rattle.std.specs.Prelude.{◌≡◌, true, ◌↔◌, ◌⊎◌, List, [], ◌∷◌, ℕ, ◌≤◌, ◌<◌, length, get_or, Err, Ok, Some}
+use Rattle.std.specs.Prelude.{◌≡◌, true, ◌↔◌, ◌⊎◌, List, [], ◌∷◌, ℕ, ◌≤◌, ◌<◌, length, get_or, Err}
 use Rattle.laws.specs.Lists.{among}
 use Rattle.refusals.specs.Results.{refused}
 use Rattle.refusals.specs.Answers.{refusal}
-use Rattle.nets.specs.Nets.{Word, Log}
-use Rattle.bundles.specs.Layout.{Head, HeadInFront}
+use Rattle.nets.specs.Nets.{Word, Entry}
+use Rattle.bundles.specs.Layout.{First, Head, HeadInFront}
 use Rattle.bundles.specs.Readers.{head, any_rows, events_in}
 use Rattle.beginnings.specs.Beginnings.{BeginsHead, InFront, HeadEnds, HeadDeparts, EventsPass}
 use Rattle.screening.specs.Screening.{screened, screened_joined}
@@ -31,9 +31,9 @@ pub record ScreenExactly (b : List ℕ) (w : Word) : Type 0 where
   -- 'value outside its range .. | 7', 'events would pass 1,024 | 8': before the byte at the offset it is such a beginning, with it no longer
   pub departs : (spot : ℕ) → ((screened b w ≡ Err (refusal 7 spot)) ⊎ (screened b w ≡ Err (refusal 8 spot)))
       ↔ ((length w ≤ 65535) × (1 ≤ length b) × (length b ≤ 64512) × HeadDeparts b spot × (InFront b → ⊥))
-  -- 'events would pass 1,024 | 8 | offset of the length byte': of the word that is due behind those of `log`
+  -- 'events would pass 1,024 | 8 | offset of the length byte': of the word that is due behind those of `before`, where the first byte says f
   pub events_pass : (spot : ℕ) → (screened b w ≡ Err (refusal 8 spot))
-      ↔ ((length w ≤ 65535) × (1 ≤ length b) × (length b ≤ 64512) × ((n : ℕ) × (log : Log) × EventsPass b n log spot))
+      ↔ ((length w ≤ 65535) × (1 ≤ length b) × (length b ≤ 64512) × ((f : First) × (before : List Entry) × EventsPass b f before spot))
   -- 'screened event not below n | 15 | its position': the first one; the bundle is the bytes of a head in its limits, then any rest
   pub event : (spot : ℕ) → (screened b w ≡ Err (refusal 15 spot))
       ↔ ((length w ≤ 65535) × (length b ≤ 64512) × ((h : Head) × (rest : List ℕ) × HeadInFront b h rest

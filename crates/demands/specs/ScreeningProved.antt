@@ -1,5 +1,5 @@
 -- Screening, proved: the lines of Screening.antt from the laws of the readers.
-use Rattle.std.specs.Prelude.{◌≡◌, refl, true, false, ◌↔◌, List, [], ◌∷◌, ℕ, ◌≤◌, eqb, length, Err, Ok, Some}
+use Rattle.std.specs.Prelude.{◌≡◌, refl, true, false, ◌↔◌, List, [], ◌∷◌, ℕ, ◌≤◌, eqb, length, Err}
 use Rattle.std.proofs.Common.{inl, inr, ⊎_elim, eqb-true, eq-eqb}
 use mathlib.Core.Logic.Iff
 use Rattle.laws.specs.Booleans.{at_least, less, fails-exactly}
@@ -58,8 +58,8 @@ screen-exactly b bytes w = record {
   );
   events_pass = λ spot. Iff.trans (in_head b w 8 refl spot)
       (let law = head_8 b bytes spot any_rows (λ n. tt) (λ n log more t. tt) in (
-        (λ (few, some, most, e). let (n, log, _, over) = law.0 e in (few, some, most, (n, log, over))),
-        (λ (few, some, most, (n, log, over)). (few, some, most, law.1 (n, log, tt, over))),
+        (λ (few, some, most, e). let (f, before, _, over) = law.0 e in (few, some, most, (f, before, over))),
+        (λ (few, some, most, (f, before, over)). (few, some, most, law.1 (f, before, tt, over))),
       ));
   event = λ spot. Iff.trans (screen_15 b w bytes spot) (
     (λ (short, (right, (h, rest, f, at, fails))).

@@ -12,6 +12,7 @@ use Rattle.nets.specs.Nets.{Log, Counts, counts, beginnings, rows, event_count, 
 use Rattle.nets.specs.Words.{empty-prefix}
 use Rattle.nets.specs.Fits.{LogBelow}
 use Rattle.nets.proofs.Rows.{→row, first-row, other_row}
+use Rattle.nets.specs.LogLaws.{length-words}
 use Rattle.nets.proofs.Traffic.{passes-exactly, traffic-most, traffic-first, traffic-some, traffic-few, words-most}
 use Rattle.rows.specs.Growth.{counts-none}
 use Rattle.rows.specs.Rows.{Row, rows_of, none, cleared}
@@ -102,7 +103,8 @@ module _ (table b : List ℕ) (bytes : Bytes b) (c : Tally) (accepted : verdict 
   left-number r h =
       let l = (fields b bytes (length table) c accepted).1.limits.head in
       let number = left.number r h in
-      omega (arith, number, traffic-most (events_in b) (log_in b) (get_or (rows (events_in b) (log_in b)) r []), l.log_size)
+      let most = traffic-most (events_in b) (log_in b) (get_or (rows (events_in b) (log_in b)) r []) in
+      omega (arith, number, most, l.log_size, length-words (head_of b).entries)
 
 -- ---- Any number of empty words
 

@@ -1,9 +1,10 @@
 -- What the tokens of a place cover in a row, and a bundle's first misfit.
-use Rattle.std.specs.Prelude.{Bool, not, cond, ◌||◌, List, ℕ, ltb, ℤ, pos, ◌-ℤ◌, length, get_or, Option, Some, None}
+use Rattle.std.specs.Prelude.{Bool, not, ◌||◌, List, ℕ, ℤ, pos, ◌-ℤ◌, get_or, Option}
 use Rattle.std.specs.Int.Signed.{non_neg}
 use Rattle.laws.specs.Lists.{all, tabulate}
 use Rattle.laws.specs.Bits.{bit}
 use Rattle.laws.specs.Scans.{first_failing}
+use Rattle.laws.specs.Failure.{failure}
 use Rattle.limits.specs.Limits.{max_events}
 use Rattle.nets.specs.Nets.{fits}
 use Rattle.bundles.specs.Readers.{events_in, log_in, net_in}
@@ -22,4 +23,4 @@ misfit_in b = first_failing (fits (events_in b) (log_in b)) (net_in b)
 
 -- the same, where there is one
 unfoldable pub misfit : List ℕ → Option ℕ
-misfit b = cond (ltb (misfit_in b) (length (net_in b))) (Some (misfit_in b)) None
+misfit b = failure (fits (events_in b) (log_in b)) (net_in b)

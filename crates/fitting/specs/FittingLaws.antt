@@ -1,7 +1,7 @@
 -- The code's steps, as laws of the definitions; and that a place fits the rows of a log's table exactly when it fits the log.
-use Rattle.std.specs.Prelude.{◌≡◌, true, false, not, ◌&&◌, ◌||◌, T, ℤ, pos, ◌-ℤ◌, length, get_or, drop, Option, Some, None, MatchOption}
+use Rattle.std.specs.Prelude.{◌≡◌, true, false, not, ◌&&◌, ◌||◌, T, ℤ, pos, ◌-ℤ◌, length, get_or, drop, Option, None, MatchOption}
 use Rattle.std.proofs.Math.Path.{refl, sym, ap}
-use Rattle.std.proofs.Common.{ap₂, ◌∙◌, subst, zero-le, arith, drop_of_length-le, get_or-drop, lt-ltb, le-ltb}
+use Rattle.std.proofs.Common.{ap₂, ◌∙◌, subst, arith, drop_of_length-le, get_or-drop}
 use Rattle.std.proofs.Math.Bool.{Bool, and-true, and_assoc}
 use mathlib.Core.List.Memᴰ
 use mathlib.Core.List.{List, map, Memᴰ}
@@ -10,7 +10,8 @@ use Rattle.std.specs.Int.Signed.{non_neg}
 use Rattle.laws.specs.Booleans.{same_test, yes_true, implied, implies}
 use Rattle.laws.specs.Bits.{bit, bit-of-zero}
 use Rattle.laws.specs.Lists.{all, all-member, all_intro, all-next, tabulate, length-tabulate, get_d_tabulate, tabulate-member, tabulate_inverse}
-use Rattle.laws.specs.Scans.{failing-never, failing-exactly}
+use Rattle.laws.specs.Scans.{failing-never}
+use Rattle.laws.specs.Failure.{failure_found, no-failure}
 use Rattle.limits.specs.Limits.{max_events}
 use Rattle.nets.specs.Nets.{Log, Counts, Step, Place, no_place, tokens, surplus, place_permits, rows, allowed, allowed_steps, fits}
 use Rattle.nets.specs.CountLaws.{length-counts}
@@ -159,15 +160,9 @@ module _ (b : List ℕ) (count : ℕ) (size : length (net_in b) ≡ count) where
       (λ i. (0 ≤ i) × (i < count) × Fits i false × ((k : ℕ) → 0 ≤ k → k < i → Fits k true))
       → r ≡ misfit b
   unfolding misfit
-  misfit_first None all =
-      let none : misfit_in b ≡ length (net_in b) =
-      failing-never (fits (events_in b) (log_in b)) no_place (net_in b) (λ k h. all k zero-le (omega arith)) in
-      rw (le-ltb (misfit_in b) (length (net_in b)) (omega arith))
-  misfit_first (Some i) (_, below, here, before) =
-      let first = ((failing-exactly (fits (events_in b) (log_in b)) no_place (net_in b) i).1 (omega arith, here, λ k h. before k zero-le h)).0 in
-      rw (lt-ltb (misfit_in b) (length (net_in b)) (omega arith), ← first)
+  misfit_first = failure_found (fits (events_in b) (log_in b)) no_place (net_in b) count size
 
 -- where all places fit, there is none
 pub misfit-none : (b : List ℕ) → misfit_in b ≡ length (net_in b) → None ≡ misfit b
 unfolding misfit
-misfit-none b e = rw (le-ltb (misfit_in b) (length (net_in b)) (omega arith))
+misfit-none b e = no-failure (fits (events_in b) (log_in b)) (net_in b) e

@@ -1,2 +1,3 @@
+pub mod Noted
 pub mod Taken
 pub mod Heads

@@ -1,9 +1,9 @@
 -- Signed numbers as differences of two natural numbers, `sub_ℕ a b`: each law takes a statement on signed numbers to one on natural
 -- numbers, which `omega` reads.
 use Rattle.std.specs.Prelude.{◌≡◌, refl, Bool, true, false, not, cond, ◌↔◌, ℕ, zero, suc, ◌+◌, ◌-◌, ◌*◌, ◌≤◌, ◌<◌, T, eqb, ltb, ℤ, pos, negsuc, neg_ℤ, ◌+ℤ◌, ◌-ℤ◌, ◌*ℤ◌, ◌≤ℤ◌}
-use Rattle.std.proofs.Common.{sym, ap, ap₂, ◌∙◌, subst, zero-le, add-zero, zero-mul, suc-mul, arith, eqb→eq, le→leb, leb→le, ltb-true, ltb-false, le-ltb, le-leb, ne_eqb}
-use Rattle.std.proofs.Math.IntN.{pos-ne-negsuc, sub_ℕ, +ℤ_assoc, +ℤ_comm, +ℤ_idl, +ℤ_idr, neg_ℤ-+ℤ, zero-*ℤ, suc_ℤ-*ℤ}
-use Rattle.std.specs.Int.Signed.{mag, non_neg, le_z, le_z_yes, yes_non_neg}
+use Rattle.std.proofs.Common.{sym, ap, ap₂, ◌∙◌, subst, zero-le, add-zero, zero-mul, suc-mul, mul_comm, arith, eqb→eq, le→leb, leb→le, ltb-true, ltb-false, le-ltb, le-leb, ne_eqb}
+use Rattle.std.proofs.Math.IntN.{pos-ne-negsuc, sub_ℕ, +ℤ_assoc, +ℤ_comm, +ℤ_idl, +ℤ_idr, neg_ℤ-+ℤ, *ℤ_comm, zero-*ℤ, suc_ℤ-*ℤ}
+use Rattle.std.specs.Int.Signed.{mag, non_neg, le_z, le_z_yes, ≤ℤ_refl, yes_non_neg}
 use Rattle.laws.specs.Sums.{sum}
 
 pub difference : (a b : ℕ) → pos a -ℤ pos b ≡ sub_ℕ a b
@@ -97,6 +97,35 @@ le_difference a (pos b) = (
 le_difference zero (negsuc b) = ((λ h. absurd h.le), λ t. absurd (let none : suc b ≤ 0 = (non_neg_difference 0 (suc b)).0 t in omega arith))
 le_difference (suc a) (negsuc b) = ((λ h. absurd h.le), λ t. absurd t)
 
+-- of two differences
+pub le-differences : (a b c d : ℕ) → (sub_ℕ a b ≤ℤ sub_ℕ c d) ↔ (a + d ≤ c + b)
+le-differences a b c d = ((λ h. to (ltb a b) refl (ltb c d) refl h.le), λ h. le_z_yes (from (ltb a b) refl (ltb c d) refl h))
+  where
+    diff : Bool → ℕ → ℕ → ℤ
+    diff s x y = cond s (negsuc (y - suc x)) (pos (x - y))
+
+    to : (s : Bool) → ltb a b ≡ s → (t : Bool) → ltb c d ≡ t → T (le_z (diff s a b) (diff t c d)) → a + d ≤ c + b
+    to true p true q h = omega (arith, ltb-true a b p, ltb-true c d q, leb→le (d - suc c) (b - suc a) h)
+    to true p false q h = omega (arith, ltb-true a b p, ltb-false c d q)
+    to false p true q h = absurd h
+    to false p false q h = omega (arith, ltb-false a b p, ltb-false c d q, leb→le (a - b) (c - d) h)
+
+    from : (s : Bool) → ltb a b ≡ s → (t : Bool) → ltb c d ≡ t → a + d ≤ c + b → T (le_z (diff s a b) (diff t c d))
+    from true p true q h = le→leb (d - suc c) (b - suc a) (omega (arith, ltb-true a b p, ltb-true c d q, h))
+    from true p false q h = tt
+    from false p true q h = absurd (omega (arith, ltb-false a b p, ltb-true c d q, h))
+    from false p false q h = le→leb (a - b) (c - d) (omega (arith, ltb-false a b p, ltb-false c d q, h))
+
+-- of a difference and a natural number
+natural : (a : ℕ) → pos a ≡ sub_ℕ a 0
+natural a = sym (pos_of_difference a 0 zero-le ∙ ap pos (omega arith))
+
+pub difference-at-most : (a b c : ℕ) → (sub_ℕ a b ≤ℤ pos c) ↔ (a ≤ c + b)
+difference-at-most a b c = rw (natural c) (subst (λ (x : ℕ). (sub_ℕ a b ≤ℤ sub_ℕ c 0) ↔ (x ≤ c + b)) (add-zero a) (le-differences a b c 0))
+
+pub difference-at-least : (a b c : ℕ) → (pos c ≤ℤ sub_ℕ a b) ↔ (c + b ≤ a)
+difference-at-least a b c = rw (natural c) (subst (λ (x : ℕ). (sub_ℕ c 0 ≤ℤ sub_ℕ a b) ↔ (c + b ≤ x)) (add-zero a) (le-differences c 0 a b))
+
 -- a difference of two numbers below a bound is within the signed range of that bound
 pub mag_difference : (a b h : ℕ) → a < h → b < h → mag (sub_ℕ a b) < h
 mag_difference a b h p q = go (ltb a b)
@@ -116,6 +145,15 @@ pub zero-exactly : (z : ℤ) → T (is_zero_ℤ z) ↔ (z ≡ pos 0)
 unfolding is_zero_ℤ
 zero-exactly (pos n) = ((λ t. ap pos (eqb→eq n 0 t)), λ e. subst (λ (z : ℤ). T (is_zero_ℤ z)) (sym e) tt)
 zero-exactly (negsuc n) = ((λ t. absurd t), λ e. absurd (pos-ne-negsuc 0 n (sym e)))
+
+pub difference-zero : (a b : ℕ) → (sub_ℕ a b ≡ pos 0) ↔ (a ≡ b)
+difference-zero a b = (
+  (λ e.
+      let less : sub_ℕ a b ≤ℤ pos 0 = subst (λ (z : ℤ). z ≤ℤ pos 0) (sym e) (≤ℤ_refl (pos 0)) in
+      let more : pos 0 ≤ℤ sub_ℕ a b = subst (λ (z : ℤ). pos 0 ≤ℤ z) (sym e) (≤ℤ_refl (pos 0)) in
+      omega (arith, (difference-at-most a b 0).0 less, (difference-at-least a b 0).0 more)),
+  λ e. difference-same a b 0 0 (omega (arith, e)),
+)
 
 -- ---- How far below 0
 
@@ -147,6 +185,27 @@ negative-difference a b = go (ltb a b) refl
     go : (t : Bool) → ltb a b ≡ t → negative_part (cond t (negsuc (b - suc a)) (pos (a - b))) ≡ b - a
     go true e = omega (arith, ltb-true a b e)
     go false e = omega (arith, ltb-false a b e)
+
+-- ---- The two parts of a signed number
+
+-- the positive part: 0 where it is 0 or less, else itself
+unfoldable pub positive_part : ℤ → ℕ
+positive_part (pos n) = n
+positive_part (negsuc n) = 0
+
+-- it is the difference of the two
+pub part-difference : (z : ℤ) → z ≡ sub_ℕ (positive_part z) (negative_part z)
+unfolding positive_part negative_part
+part-difference (pos n) = natural n
+part-difference (negsuc n) = sym (+ℤ_idl (negsuc n))
+
+-- and so is a multiple of it
+pub part-mul : (z : ℤ) (k : ℕ) → z *ℤ pos k ≡ sub_ℕ (positive_part z * k) (negative_part z * k)
+part-mul z k =
+    *ℤ_comm z (pos k)
+    ∙ ap (λ (t : ℤ). pos k *ℤ t) (part-difference z)
+    ∙ difference-mul k (positive_part z) (negative_part z)
+    ∙ ap₂ sub_ℕ (mul_comm k (positive_part z)) (mul_comm k (negative_part z))
 
 -- ---- Sums
 

@@ -10,6 +10,7 @@ pub mod Parts
 pub mod Pieces
 pub mod Chunks
 pub mod Scans
+pub mod Failure
 pub mod Sums
 pub mod Distance
 pub mod Primes

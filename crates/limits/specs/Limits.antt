@@ -58,6 +58,14 @@ max_places = 64
 abbrev pub max_terms : ℕ
 max_terms = 64
 
+-- the pairs of a certificate
+abbrev pub max_pairs : ℕ
+max_pairs = 64
+
+-- what the first byte of a bundle has beyond its event count in the new edition
+abbrev pub new_edition : ℕ
+new_edition = 128
+
 -- the events of a screened word
 abbrev pub max_word_events : ℕ
 max_word_events = 65535

@@ -22,8 +22,17 @@ pub const MAX_ROWS: usize = 256;
 // The places of a net.
 pub const MAX_PLACES: usize = 64;
 
+// A slot for each number that a byte can say: more than the words of a log.
+pub const MAX_WORDS: usize = 256;
+
 // The terms of a certificate.
 pub const MAX_TERMS: usize = 64;
+
+// The pairs of a certificate.
+pub const MAX_PAIRS: usize = 64;
+
+// What the first byte of a bundle has beyond its event count in the new edition.
+pub const NEW_EDITION: u8 = 128;
 
 // The events of a screened word.
 pub const MAX_WORD_EVENTS: usize = 65535;

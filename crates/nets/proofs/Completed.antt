@@ -20,9 +20,9 @@ use Rattle.nets.specs.Markings.{effect-append}
 use Rattle.nets.specs.Surplus.{put, taken, effect_is, tokens-effect}
 use Rattle.nets.specs.TokenGame.{Places, places_of, Language, language_of, initially, after_word, equation_1, initial_tokens, Run, run_end}
 use Rattle.nets.specs.Regions.{◌⊆◌, Region}
-use Rattle.nets.specs.Entries.{Completed, Returns}
+use Rattle.nets.specs.Entries.{Completed, Returns, NoneCompleted}
 use Rattle.nets.specs.Completed.{invariant_product, Invariant, concatenated, SoundRegion, sound_regions}
-use Rattle.nets.proofs.Entries.{completed-listed, completed-prefix, net-returns}
+use Rattle.nets.proofs.Entries.{completed-listed, completed-prefix, net-returns, none-word}
 use Rattle.nets.proofs.TokenGame.{run_language, run_reaches, language_permits}
 use Rattle.nets.proofs.Regions.{language_closed, language_fewer, language_places, region_permits, log-regions}
 
@@ -138,6 +138,11 @@ module _ (n : ℕ) (entries : List Entry) (below : LogBelow n (words entries)) w
 -- with no word in C they are the regions of L
 pub sound_none : (n : ℕ) (L C : Language) → ((w : Word) → C w → ⊥) → (p : Place) → SoundRegion n L C p ↔ Region n L p
 sound_none n L C none p = ((λ r. r.0), λ r. (r, λ w c. absurd (none w c)))
+
+-- so where no word is completed, all regions of the log are sound
+pub old-sound : (n : ℕ) (entries : List Entry) → NoneCompleted entries → (p : Place)
+    → sound_regions n entries p ↔ Region n (Prefix (words entries)) p
+old-sound n entries none = sound_none n (Prefix (words entries)) (Completed entries) (none-word entries none)
 
 module _ (n : ℕ) (entries : List Entry) where
   abbrev its_regions : Places

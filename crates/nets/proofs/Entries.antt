@@ -1,12 +1,16 @@
 -- Laws of entries and of the nets that obey their completed words; with no completed word, every net does.
-use Rattle.std.specs.Prelude.{◌≡◌, refl, ◌↔◌, ℕ, T}
-use Rattle.std.proofs.Common.{sym, ap, subst}
+use Rattle.std.specs.Prelude.{◌≡◌, refl, ◌↔◌, ℕ, ◌≤◌, ◌<◌, T, ltb, length, get_or}
+use Rattle.std.proofs.Common.{sym, ap, subst, ⊎_elim, ltb→lt, nltb→le}
 use mathlib.Core.List.Memᴰ
 use mathlib.Core.List.{List, [], ◌∷◌, Memᴰ}
+use Rattle.std.proofs.lemmas.List.{get_or_past}
+use Rattle.laws.specs.Booleans.{decide}
 use Rattle.laws.specs.Differences.{is_zero_ℤ, zero-exactly}
-use Rattle.laws.specs.Lists.{all-member, all_intro, keep, keep-member, keep_intro}
-use Rattle.nets.specs.Nets.{Word, Log, Entry, Net, Place, words, completed_words, counts, effect, place_obeys, obeys}
+use Rattle.laws.specs.Lists.{all-member, all_intro, keep, keep-member, keep_intro, get_d_member}
+use Rattle.nets.specs.Nets.{Word, Log, Entry, no_entry, Net, Place, words, completed_words, counts, effect, place_obeys, obeys}
+use Rattle.nets.specs.Bundle.{Pair, names_completed}
 use Rattle.nets.specs.Words.{Prefix, word-prefix, Obeys, EveryNetPermits, EveryObeyingNetPermits}
+use Rattle.nets.specs.LogLaws.{entry-word}
 use Rattle.nets.specs.Entries.{Completed, Returns, NoneCompleted}
 
 -- ---- completed words
@@ -26,11 +30,24 @@ module _ (entries : List Entry) where
 
   -- so a word of the log
   pub completed-listed : (w : Word) → Completed entries w → Memᴰ w (words entries)
-  unfolding words
-  completed-listed w m = let r = completed→ w m in Memᴰ.cast (sym r.3) (Memᴰ.map (λ (x : Entry). x.word) r.1)
+  completed-listed w m = let r = completed→ w m in Memᴰ.cast (sym r.3) (entry-word entries r.1)
 
   pub completed-prefix : (w : Word) → Completed entries w → Prefix (words entries) w
   completed-prefix w m = word-prefix (words entries) w (completed-listed w m)
+
+-- a pair that names a completed word names an entry of the log
+module _ (n : ℕ) (entries : List Entry) (q : Pair) (t : T (names_completed n entries q)) where
+  pub named-inside : q.number < length entries
+  unfolding names_completed
+  named-inside = ⊎_elim (λ h. ltb→lt q.number (length entries) h) (λ h. absurd (beyond (nltb→le q.number (length entries) h)))
+      (decide (ltb q.number (length entries)))
+    where
+      beyond : length entries ≤ q.number → ⊥
+      beyond h = subst (λ (x : Entry). T x.completed) (get_or_past entries q.number no_entry h) t
+
+  pub named-completed : Completed entries (get_or entries q.number no_entry).word
+  unfolding names_completed
+  named-completed = →completed entries (get_or entries q.number no_entry) (get_d_member entries q.number no_entry named-inside) t
 
 -- ---- obeying
 

@@ -20,3 +20,4 @@ pub mod Screening
 pub mod TokenGame
 pub mod Entries
 pub mod Completed
+pub mod CompletedCases

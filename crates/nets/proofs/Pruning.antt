@@ -9,9 +9,12 @@ use Rattle.std.specs.Float.Ieee.Fits.{and_i, and_l, and_r}
 use Rattle.laws.specs.Booleans.{yes_true}
 use Rattle.laws.specs.Lists.{any, all-member, all_intro, any_intro}
 use Rattle.laws.specs.Ranks.{keep_at, rank, keep_at-member}
-use Rattle.nets.specs.Nets.{Word, Log, Net, Place, Step, Certificate, by_place, by_weights, Bundle, step_after, place_permits, net_permits, permits_after, permits, refused_by, solves, solves_all, wrong_continuations, accepted, tally}
+use Rattle.nets.specs.Nets.{Word, Log, Entry, Net, Place, Step, step_after, place_permits, net_permits, permits_after, permits, refused_by, wrong_continuations}
+use Rattle.nets.specs.Bundle.{Certificate, by_place, by_weights, Bundle, log_of, completed_of, solves, solves_all, accepted, tally}
 use Rattle.nets.specs.Words.{Prefix, PermitsLog, permits-word, →permits_log}
+use Rattle.nets.proofs.Entries.{obeys-less}
 use Rattle.nets.specs.Acceptance.{accepted-parts}
+use Rattle.nets.specs.Comparison.{Contained}
 use Rattle.nets.proofs.Comparison.{contained-same, nets-agree, tallies_agree}
 use Rattle.nets.specs.Pruning.{names, named, renumbered, prune}
 
@@ -63,18 +66,18 @@ refused-kept n f (p ∷ net) (suc j) s e = go (f 0) (refused-kept n (λ i. f (su
     go false e = ap (λ (i : ℕ). refused_by n more i s) none ∙ e
 
 -- a certificate whose place, if it has one, is kept
-module _ (n : ℕ) (log : Log) (f : ℕ → Bool) (net : Net) where
+module _ (n : ℕ) (entries : List Entry) (f : ℕ → Bool) (net : Net) where
   abbrev Kept : Certificate → Type 0
   Kept (by_place j) = f j ≡ true
   Kept (by_weights w) = Unit {0}
 
-  solves-kept : (s : Step) (c : Certificate) → Kept c → solves n log (keep_at f net) s (renumbered f c) ≡ solves n log net s c
+  solves-kept : (s : Step) (c : Certificate) → Kept c → solves n entries (keep_at f net) s (renumbered f c) ≡ solves n entries net s c
   unfolding solves renumbered
   solves-kept s (by_place j) e = refused-kept n f net j s e
   solves-kept s (by_weights w) e = refl
 
   solves_all-kept : (ss : List Step) (cs : List Certificate) → ((c : Certificate) → Memᴰ c cs → Kept c)
-      → solves_all n log (keep_at f net) ss (map (renumbered f) cs) ≡ solves_all n log net ss cs
+      → solves_all n entries (keep_at f net) ss (map (renumbered f) cs) ≡ solves_all n entries net ss cs
   unfolding solves_all
   solves_all-kept [] [] kept = refl
   solves_all-kept [] (c ∷ cs) kept = refl
@@ -90,7 +93,13 @@ module _ (b : Bundle) where
   abbrev f : ℕ → Bool
   f = named b.certificates
 
-  all-kept : (c : Certificate) → Memᴰ c b.certificates → Kept b.events b.log f b.net c
+  abbrev kept : Net
+  kept = keep_at f b.net
+
+  stays : (p : Place) → Memᴰ p kept → Memᴰ p b.net
+  stays p m = keep_at-member f b.net m
+
+  all-kept : (c : Certificate) → Memᴰ c b.certificates → Kept b.events b.entries f b.net c
   all-kept (by_place j) m = named-member b.certificates j m
   all-kept (by_weights w) m = tt
 
@@ -99,23 +108,28 @@ module _ (b : Bundle) where
   unfolding prune
   prune-accepted t =
       let a = (accepted-parts b).0 t in
+      let same = solves_all-kept b.events b.entries f b.net (wrong_continuations b.events (log_of b)) b.certificates all-kept in
       (accepted-parts (prune b)).1 (record {
-        permitted = fewer-log b.events b.net (keep_at f b.net) (λ p m. keep_at-member f b.net m) b.log a.permitted;
-        solved = subst T (sym (solves_all-kept b.events b.log f b.net (wrong_continuations b.events b.log) b.certificates all-kept)) a.solved;
+        permitted = fewer-log b.events b.net kept stays (log_of b) a.permitted;
+        obeyed = obeys-less b.events b.net (keep_at f b.net) (completed_of b) (completed_of b) stays (λ w m. m) a.obeyed;
+        solved = subst T (sym same) a.solved;
       })
+
+  both : Contained b.events b.entries b.events b.entries
+  both = contained-same b.events b.entries
 
   -- with the same four counts
   pub prune-tally : T (accepted b) → tally (prune b) ≡ tally b
   unfolding prune
-  prune-tally t = sym (tallies_agree b (prune b) t (prune-accepted t) (contained-same b.events b.log) (contained-same b.events b.log))
+  prune-tally t = sym (tallies_agree b (prune b) t (prune-accepted t) both both)
 
   -- every log prefix with one event added gets the same yes or no
-  pub prune-permits : T (accepted b) → (w : Word) → Prefix b.log w → (e : ℕ) → e < b.events
+  pub prune-permits : T (accepted b) → (w : Word) → Prefix (log_of b) w → (e : ℕ) → e < b.events
       → permits b.events (prune b).net (w ++ e ∷ []) ≡ permits b.events b.net (w ++ e ∷ [])
   unfolding prune
-  prune-permits t w m e below = sym (nets-agree b (prune b) t (prune-accepted t) (contained-same b.events b.log) w m e below (contained-same b.events b.log))
+  prune-permits t w m e below = sym (nets-agree b (prune b) t (prune-accepted t) both w m e below both)
 
   -- any word that was permitted still is
   pub prune-more : (w : Word) → T (permits b.events b.net w) → T (permits b.events (prune b).net w)
   unfolding prune
-  prune-more w t = fewer-permits b.events b.net (keep_at f b.net) (λ p m. keep_at-member f b.net m) w t
+  prune-more w t = fewer-permits b.events b.net kept stays w t

@@ -1,5 +1,6 @@
 -- The regions of Badouel and Schlachter, section 2.2 and of 2.3 what is about single places, by their equation numbers, and that a place fits a log
--- exactly when it is a region of it. Their section 2.1 is in TokenGame.antt, 2.3 in SeparationProblems.antt, 3.1.1 in ParikhClosure.antt.
+-- exactly when it is a region of it. Their section 2.1 is in TokenGame.antt, 2.3 in SeparationProblems.antt, 3.1.1 in ParikhClosure.antt,
+-- 3.1.2 in Completed.antt.
 use Rattle.std.specs.Prelude.{◌≡◌, refl, ◌↔◌, [], ◌∷◌, ◌++◌, ℕ, ◌+◌, ◌*◌, ◌<◌, ℤ, neg_ℤ, ◌+ℤ◌, ◌-ℤ◌, ◌*ℤ◌, ◌≤ℤ◌}
 use Rattle.std.proofs.Math.Path.{sym, ap, ap₂, subst}
 use Rattle.std.proofs.Common.{◌∙◌}

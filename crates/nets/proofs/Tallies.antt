@@ -7,11 +7,12 @@ use mathlib.Core.List.{List, Memᴰ}
 use Rattle.std.proofs.Math.Dec.{not_T}
 use Rattle.laws.specs.Lists.{keep, keep-member, keep_intro}
 use Rattle.laws.specs.Distinct.{Cardinality, cardinality_same, distinct-keep}
-use Rattle.nets.specs.Nets.{Log, Net, Step, Certificate, Bundle, net_permits, rows, allowed, allowed_steps, wrong_continuations, solves_all, accepted, is_by_place, tally}
+use Rattle.nets.specs.Nets.{Log, Entry, Net, Step, words, completed_words, net_permits, rows, allowed, allowed_steps, wrong_continuations}
+use Rattle.nets.specs.Bundle.{Certificate, Bundle, log_of, solves_all, accepted, is_by_place, tally}
 use Rattle.nets.specs.Acceptance.{accepted-parts}
-use Rattle.nets.specs.Words.{PermitsLog, Follows, allowed→, →allowed}
+use Rattle.nets.specs.Words.{PermitsLog, Obeys, Follows, allowed→, →allowed}
 use Rattle.nets.proofs.Rows.{row→, →row, rows-distinct, continuation→, →continuation, allowed_step→, allowed_steps-distinct, wrong→, →wrong, wrong_distinct}
-use Rattle.nets.specs.Fits.{LogBelow, net-fits}
+use Rattle.nets.specs.Fits.{LogBelow}
 use Rattle.nets.proofs.Fits.{allowed-listed}
 use Rattle.nets.proofs.Certificates.{kinds}
 use Rattle.nets.specs.Tallies.{PrefixCounts, WrongContinuation}
@@ -44,56 +45,64 @@ module _ (n : ℕ) (log : Log) where
         →wrong n log s there (not_T (allowed n log s) (λ t. h.2 (allowed→ n log s t))),
   )
 
-  module _ (net : Net) (permitted : PermitsLog n net log) (cs : List Certificate) (solved : T (solves_all n log net (wrong_continuations n log) cs)) where
-    -- the certificates of a kind are as many as the wrong continuations that the net refuses (f is the identity), or permits (f is `not`)
-    kind-number : (f : Bool → Bool)
-        → Cardinality (λ s. WrongContinuation n log s × T (f (not (net_permits n net s)))) (length (keep (λ c. f (is_by_place c)) cs))
-    kind-number f = record {
-      listed = keep kind (wrong_continuations n log);
-      once = distinct-keep kind (wrong_continuations n log) (wrong_distinct n log);
-      members = λ s. (
-        (λ m. let r = keep-member kind (wrong_continuations n log) m in ((wrong_exactly s).0 r.0, r.1)),
-        λ h. keep_intro kind (wrong_continuations n log) ((wrong_exactly s).1 h.0) h.1,
-      );
-      size = sym (kinds n log net (net-fits n net log permitted) f (wrong_continuations n log) (λ s m. ((wrong_exactly s).0 m).1) cs solved);
-    }
-      where
-        kind : Step → Bool
-        kind s = f (not (net_permits n net s))
+-- the certificates of a net that permits the log and obeys its completed words
+module _ (n : ℕ) (entries : List Entry) (net : Net) (permitted : PermitsLog n net (words entries)) (obeyed : Obeys n net (completed_words entries))
+    (cs : List Certificate) (solved : T (solves_all n entries net (wrong_continuations n (words entries)) cs)) where
+  abbrev wrongs : List Step
+  wrongs = wrong_continuations n (words entries)
 
-    pub refused-number : Cardinality (λ s. WrongContinuation n log s × T (not (net_permits n net s))) (length (keep is_by_place cs))
-    refused-number = kind-number (λ x. x)
+  -- those of a kind are as many as the wrong continuations that the net refuses (f is the identity), or permits (f is `not`)
+  kind-number : (f : Bool → Bool)
+      → Cardinality (λ s. WrongContinuation n (words entries) s × T (f (not (net_permits n net s)))) (length (keep (λ c. f (is_by_place c)) cs))
+  kind-number f = record {
+    listed = keep kind wrongs;
+    once = distinct-keep kind wrongs (wrong_distinct n (words entries));
+    members = λ s. (
+      (λ m. let r = keep-member kind wrongs m in ((wrong_exactly n (words entries) s).0 r.0, r.1)),
+      λ h. keep_intro kind wrongs ((wrong_exactly n (words entries) s).1 h.0) h.1,
+    );
+    size = sym (kinds n entries net permitted obeyed f wrongs (λ s m. ((wrong_exactly n (words entries) s).0 m).1) cs solved);
+  }
+    where
+      kind : Step → Bool
+      kind s = f (not (net_permits n net s))
 
-    pub permitted-number : Cardinality (λ s. WrongContinuation n log s × T (net_permits n net s)) (length (keep (λ c. not (is_by_place c)) cs))
-    permitted-number = cardinality_same
-        (λ s. let same = twice (net_permits n net s) in ((λ h. (h.0, same.0 h.1)), λ h. (h.0, same.1 h.1))) (kind-number not)
-      where
-        twice : (x : Bool) → T (not (not x)) ↔ T x
-        twice true = ((λ t. t), λ t. t)
-        twice false = ((λ t. t), λ t. t)
+  pub refused-number : Cardinality (λ s. WrongContinuation n (words entries) s × T (not (net_permits n net s))) (length (keep is_by_place cs))
+  refused-number = kind-number (λ x. x)
+
+  pub permitted-number : Cardinality (λ s. WrongContinuation n (words entries) s × T (net_permits n net s))
+      (length (keep (λ c. not (is_by_place c)) cs))
+  permitted-number = cardinality_same
+      (λ s. let same = twice (net_permits n net s) in ((λ h. (h.0, same.0 h.1)), λ h. (h.0, same.1 h.1))) (kind-number not)
+    where
+      twice : (x : Bool) → T (not (not x)) ↔ T x
+      twice true = ((λ t. t), λ t. t)
+      twice false = ((λ t. t), λ t. t)
 
 -- ---- of an accepted bundle
 
-module _ (b : Bundle) (below : LogBelow b.events b.log) (acc : T (accepted b)) where
+module _ (b : Bundle) (below : LogBelow b.events (log_of b)) (acc : T (accepted b)) where
   -- the distinct counts of prefixes
-  pub row_count : Cardinality (PrefixCounts b.events b.log) (tally b).row_count
+  pub row_count : Cardinality (PrefixCounts b.events (log_of b)) (tally b).row_count
   unfolding tally
-  row_count = rows-number b.events b.log
+  row_count = rows-number b.events (log_of b)
 
   -- the steps that some prefix with these counts is followed by
-  pub allowed-count : Cardinality (Follows b.events b.log) (tally b).allowed_count
+  pub allowed-count : Cardinality (Follows b.events (log_of b)) (tally b).allowed_count
   unfolding tally
-  allowed-count = allowed-number b.events b.log below
+  allowed-count = allowed-number b.events (log_of b) below
 
   -- the wrong continuations that the net refuses
-  pub refused-count : Cardinality (λ s. WrongContinuation b.events b.log s × T (not (net_permits b.events b.net s)))
+  pub refused-count : Cardinality (λ s. WrongContinuation b.events (log_of b) s × T (not (net_permits b.events b.net s)))
       (tally b).by_place_count
   unfolding tally
   refused-count =
-      let parts = (accepted-parts b).0 acc in refused-number b.events b.log b.net parts.permitted b.certificates parts.solved
+      let parts = (accepted-parts b).0 acc in
+      refused-number b.events b.entries b.net parts.permitted parts.obeyed b.certificates parts.solved
 
   -- and those that it permits
-  pub permitted-count : Cardinality (λ s. WrongContinuation b.events b.log s × T (net_permits b.events b.net s)) (tally b).by_weights_count
+  pub permitted-count : Cardinality (λ s. WrongContinuation b.events (log_of b) s × T (net_permits b.events b.net s)) (tally b).by_weights_count
   unfolding tally
   permitted-count =
-      let parts = (accepted-parts b).0 acc in permitted-number b.events b.log b.net parts.permitted b.certificates parts.solved
+      let parts = (accepted-parts b).0 acc in
+      permitted-number b.events b.entries b.net parts.permitted parts.obeyed b.certificates parts.solved

@@ -1,4 +1,5 @@
 pub mod Nets
+pub mod Bundle
 pub mod Cases
 pub mod Surplus
 pub mod Weights

@@ -1,11 +1,11 @@
 -- Laws for code that takes a log word by word: the prefixes, the rows and the allowed steps with one word more.
-use Rattle.std.specs.Prelude.{◌≡◌, ◌↔◌, ◌⊎◌, ℕ, ◌+◌, T, length}
+use Rattle.std.specs.Prelude.{◌≡◌, refl, ◌↔◌, ◌⊎◌, ℕ, suc, ◌+◌, T, length}
 use Rattle.std.proofs.Common.{◌∙◌, subst, inl, inr, ⊎_elim, arith}
 use Rattle.std.proofs.Math.Path.{ap}
 use mathlib.Core.List.Memᴰ
 use mathlib.Core.List.{List, [], ◌∷◌, ◌++◌, map, flat_map, foldl, append-nil, foldl-append, Memᴰ}
 use Rattle.laws.specs.Lists.{flat_map-append, map-append}
-use Rattle.nets.specs.Nets.{Word, Log, Step, event_count, counts, beginnings, prefixes, add_row, rows, allowed}
+use Rattle.nets.specs.Nets.{Word, Log, Entry, Step, words, event_count, counts, beginnings, prefixes, add_row, rows, allowed}
 use Rattle.nets.specs.Words.{Prefix, prefix→, empty-prefix, word-begins, Begins, →beginning, beginning→, allowed→, →allowed}
 
 module _ (log : Log) (w : Word) where
@@ -58,3 +58,31 @@ event_count_snoc a w = omega (arith, event_count-append a (w ∷ []))
 -- a longer log has the rows of its beginning
 pub prefixes-longer : (log more : Log) (u : Word) → Prefix log u → Prefix (log ++ more) u
 prefixes-longer log more u m = ⊎_elim (λ e. Memᴰ.cast e (empty-prefix (log ++ more))) (λ r. word-begins (log ++ more) (Memᴰ.append_left more r.1) u r.2) (prefix→ log u m)
+
+-- ---- the words of entries
+
+pub words_append : (xs ys : List Entry) → words (xs ++ ys) ≡ words xs ++ words ys
+unfolding words
+words_append xs ys = map-append (λ (x : Entry). x.word) xs ys
+
+pub words_snoc : (xs : List Entry) (x : Entry) → words (xs ++ x ∷ []) ≡ words xs ++ x.word ∷ []
+unfolding words
+words_snoc xs x = words_append xs (x ∷ [])
+
+pub length-words : (xs : List Entry) → length (words xs) ≡ length xs
+unfolding words
+length-words [] = refl
+length-words (x ∷ xs) = ap suc (length-words xs)
+
+-- a word of the log is that of an entry
+pub word-entry : (xs : List Entry) {w : Word} → Memᴰ w (words xs) → (x : Entry) × Memᴰ x xs × (x.word ≡ w)
+unfolding words
+word-entry xs m = Memᴰ.of_map (λ (x : Entry). x.word) xs m
+
+pub entry-word : (xs : List Entry) {x : Entry} → Memᴰ x xs → Memᴰ x.word (words xs)
+unfolding words
+entry-word xs m = Memᴰ.map (λ (x : Entry). x.word) m
+
+-- the events of the words, with an entry more
+pub events-snoc : (xs : List Entry) (x : Entry) → event_count (words (xs ++ x ∷ [])) ≡ event_count (words xs) + length x.word
+events-snoc xs x = ap event_count (words_snoc xs x) ∙ event_count_snoc (words xs) x.word

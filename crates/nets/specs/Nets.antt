@@ -1,6 +1,6 @@
--- Words, logs, places, nets, certificates and acceptance: the definitions of the product, with natural numbers of any size.
+-- Words, logs, places and nets: the definitions of the product, with natural numbers of any size. Certificates and acceptance: Bundle.antt.
 -- Events are the numbers below n. Every test is a Bool and computes; the laws are in the other files.
-use Rattle.std.specs.Prelude.{Bool, true, false, not, cond, ◌&&◌, ℕ, zero, suc, ◌+◌, ◌*◌, leb, eqb, ℤ, pos, ◌+ℤ◌, ◌-ℤ◌, ◌*ℤ◌, length, get_or, take}
+use Rattle.std.specs.Prelude.{Bool, true, false, not, cond, ◌&&◌, ℕ, zero, suc, ◌+◌, ◌*◌, eqb, ℤ, pos, ◌+ℤ◌, ◌-ℤ◌, ◌*ℤ◌, length, get_or, take}
 use mathlib.Core.List.{List, [], ◌∷◌, ◌++◌, map, flat_map, foldl}
 use Rattle.std.specs.Int.Signed.{non_neg}
 use Rattle.laws.specs.Lists.{all, any, keep, tabulate, equal, member}
@@ -21,6 +21,10 @@ Log = List Word
 pub record Entry : Type 0 where
   pub word : Word
   pub completed : Bool
+
+-- what `get_or` gives beyond the entries of a log
+abbrev pub no_entry : Entry
+no_entry = record { word = []; completed = false }
 
 -- a count vector v (Parikh vector): v(i) says how often event i occurs
 abbrev pub Counts : Type 0
@@ -53,30 +57,6 @@ scaled k p = record { initial = k * p.initial; produced = λ i. k * p.produced i
 -- what `get_or` gives beyond the places of a net: it permits every step
 abbrev pub no_place : Place
 no_place = record { initial = 0; produced = λ i. 0; consumed = λ i. 0 }
-
--- a weight g on a step
-pub record Term : Type 0 where
-  pub step : Step
-  pub weight : ℕ
-
--- k and weighted steps (Farkas weights)
-pub record Weights : Type 0 where
-  pub k : ℕ
-  pub terms : List Term
-
--- the certificate of a wrong continuation (the answer to a separation problem)
-pub data Certificate : Type 0 where
-  -- kind 0: the place of this number refuses the step
-  by_place : ℕ → Certificate
-  -- kind 1: weights that show that no place which fits can refuse it
-  by_weights : Weights → Certificate
-
--- what a bundle holds
-pub record Bundle : Type 0 where
-  pub events : ℕ
-  pub log : Log
-  pub net : Net
-  pub certificates : List Certificate
 
 -- the answer of screening a word
 pub data Answer : Type 0 where
@@ -122,10 +102,6 @@ at v i = get_or v i 0
 unfoldable pub weighed : {A : Type 0} → (A → ℕ) → (A → ℕ) → List A → ℕ
 weighed g h [] = 0
 weighed g h (x ∷ xs) = g x * h x + weighed g h xs
-
--- the weight g of a term
-abbrev pub weight_of : Term → ℕ
-weight_of t = t.weight
 
 -- ---- Prefixes
 
@@ -240,43 +216,11 @@ module _ (n : ℕ) where
   unfoldable pub obeys : Net → Log → Bool
   obeys net completed = all (place_obeys completed) net
 
-  -- ---- Certificates
-
   -- place number j is there, and refuses the step
   unfoldable pub refused_by : Net → ℕ → Step → Bool
   refused_by [] j s = false
   refused_by (p ∷ net) zero s = not (place_permits p s)
   refused_by (p ∷ net) (suc j) s = refused_by net j s
-
-  -- the second inequality at event i: the sum of g × u(i) is at most k × v(i)
-  unfoldable pub weighs_before : Step → Weights → ℕ → Bool
-  weighs_before s w i = leb (weighed weight_of (λ t. at t.step.row i) w.terms) (w.k * at s.row i)
-
-  -- the third: the sum of g × (u(i) + [f = i]) is at least k × (v(i) + [e = i])
-  unfoldable pub weighs_after : Step → Weights → ℕ → Bool
-  weighs_after s w i =
-      leb (w.k * (at s.row i + same s.event i)) (weighed weight_of (λ t. at t.step.row i + same t.step.event i) w.terms)
-
-  -- a kind 1 certificate holds: k is at least 1, the terms' steps are allowed, the sum of g is at most k, and the other two at each event
-  unfoldable pub weights_hold : Log → Step → Weights → Bool
-  weights_hold log s w =
-      leb 1 w.k
-      && all (λ t. allowed log t.step) w.terms
-      && leb (weighed weight_of (λ t. 1) w.terms) w.k
-      && all (weighs_before s w) (tabulate n (λ i. i))
-      && all (weighs_after s w) (tabulate n (λ i. i))
-
-  -- a certificate solves the separation problem of a step: it holds for it
-  unfoldable pub solves : Log → Net → Step → Certificate → Bool
-  solves log net s (by_place j) = refused_by net j s
-  solves log net s (by_weights w) = weights_hold log s w
-
-  -- one certificate for each step, in order
-  unfoldable pub solves_all : Log → Net → List Step → List Certificate → Bool
-  solves_all log net [] [] = true
-  solves_all log net [] (c ∷ cs) = false
-  solves_all log net (s ∷ ss) [] = false
-  solves_all log net (s ∷ ss) (c ∷ cs) = solves log net s c && solves_all log net ss cs
 
   -- ---- Screening
 
@@ -301,32 +245,3 @@ module _ (n : ℕ) where
   -- the first refused step of a word
   unfoldable pub screen : Net → Word → Answer
   screen net w = screen_after net [] w
-
--- ---- Acceptance
-
--- the net permits the log, and each wrong continuation has its certificate
-unfoldable pub accepted : Bundle → Bool
-accepted b =
-    permits_log b.events b.net b.log
-    && solves_all b.events b.log b.net (wrong_continuations b.events b.log) b.certificates
-
--- whether a certificate is of kind 0
-unfoldable pub is_by_place : Certificate → Bool
-is_by_place (by_place j) = true
-is_by_place (by_weights w) = false
-
--- the four counts of a verdict: rows, allowed steps, kind 0 and kind 1 certificates
-pub record Tally : Type 0 where
-  pub row_count : ℕ
-  pub allowed_count : ℕ
-  pub by_place_count : ℕ
-  pub by_weights_count : ℕ
-
--- as the definitions count them
-unfoldable pub tally : Bundle → Tally
-tally b = record {
-  row_count = length (rows b.events b.log);
-  allowed_count = length (allowed_steps b.events b.log);
-  by_place_count = length (keep is_by_place b.certificates);
-  by_weights_count = length (keep (λ c. not (is_by_place c)) b.certificates);
-}

@@ -3,7 +3,7 @@ use Rattle.std.specs.Prelude.{Bool, false, ℕ, eqb}
 use mathlib.Core.List.{List, map}
 use Rattle.laws.specs.Lists.{any}
 use Rattle.laws.specs.Ranks.{keep_at, rank}
-use Rattle.nets.specs.Nets.{Certificate, by_place, by_weights, Bundle}
+use Rattle.nets.specs.Bundle.{Certificate, by_place, by_weights, Bundle}
 
 -- ---- the definition
 
@@ -25,7 +25,7 @@ renumbered f (by_weights w) = by_weights w
 unfoldable pub prune : Bundle → Bundle
 prune b = record {
   events = b.events;
-  log = b.log;
+  entries = b.entries;
   net = keep_at (named b.certificates) b.net;
   certificates = map (renumbered (named b.certificates)) b.certificates;
 }

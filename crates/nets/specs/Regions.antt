@@ -1,5 +1,5 @@
 -- The regions of Badouel and Schlachter, section 2.2: the definitions. The theorems are in proofs/Regions.antt. Their section 2.1 is in
--- TokenGame.antt, 2.3 in SeparationProblems.antt, 3.1.1 in ParikhClosure.antt.
+-- TokenGame.antt, 2.3 in SeparationProblems.antt, 3.1.1 in ParikhClosure.antt, 3.1.2 in Completed.antt.
 use Rattle.std.specs.Prelude.{◌≡◌, [], ◌∷◌, ◌++◌, ℕ, ℤ, neg_ℤ, ◌+ℤ◌, ◌-ℤ◌, ◌*ℤ◌, ◌≤ℤ◌}
 use Rattle.std.proofs.Math.IntN.{pos}
 use Rattle.laws.specs.Differences.{sumℤ}

@@ -3,7 +3,7 @@ use Rattle.std.specs.Prelude.{◌≡◌, ◌↔◌, ℕ, ◌<◌, pos, ◌<ℤ�
 use mathlib.Core.List.{[], ◌∷◌, ◌++◌}
 use Rattle.nets.specs.Nets.{Word, Place, Step, counts}
 use Rattle.nets.specs.TokenGame.{Places, Language, language_of}
-use Rattle.nets.specs.Regions.{◌⊆◌, product, Region}
+use Rattle.nets.specs.Regions.{◌⊆◌, product}
 
 -- a place witnesses the separation problem ⟨v, e⟩, or solves it; if v = Ψ(w) for a word w that it permits, it inhibits e after reading w
 abbrev pub Witnesses : ℕ → Place → Step → Type 0
@@ -18,11 +18,14 @@ module _ (n : ℕ) (L : Language) where
   abbrev pub SeparationProblem : Step → Type 0
   SeparationProblem s = (w : Word) × L w × (counts n w ≡ s.row) × (s.event < n) × (L (w ++ s.event ∷ []) → ⊥)
 
-  -- a set of regions is complete when it witnesses all solvable separation problems
-  pub record Complete (R : Places) : Type 0 where
-    pub regions : R ⊆ Region n L
-    pub witnesses : (s : Step) → SeparationProblem s → SolvedIn n (Region n L) s → SolvedIn n R s
+  -- ---- of a set N of regions of L: N(L), or the sound regions (3.1.2)
 
-  -- a suboptimal solution: L(R) ∩ L-as-E = L(N(L)) ∩ L-as-E
-  abbrev pub Suboptimal : Places → Type 0
-  Suboptimal R = (w : Word) → L w → (e : ℕ) → e < n → language_of n R (w ++ e ∷ []) ↔ language_of n (Region n L) (w ++ e ∷ [])
+  module _ (N : Places) where
+    -- a set R of them is complete when it witnesses all separation problems that N solves
+    pub record Complete (R : Places) : Type 0 where
+      pub regions : R ⊆ N
+      pub witnesses : (s : Step) → SeparationProblem s → SolvedIn n N s → SolvedIn n R s
+
+    -- a suboptimal solution: L(R) ∩ L-as-E = L(N) ∩ L-as-E
+    abbrev pub Suboptimal : Places → Type 0
+    Suboptimal R = (w : Word) → L w → (e : ℕ) → e < n → language_of n R (w ++ e ∷ []) ↔ language_of n N (w ++ e ∷ [])

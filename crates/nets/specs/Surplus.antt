@@ -1,12 +1,12 @@
 -- The surplus in natural numbers: a place permits a step exactly when the tokens that the step needs are at most those that were put there.
-use Rattle.std.specs.Prelude.{◌≡◌, refl, ℕ, zero, suc, ◌+◌, ◌*◌, ◌≤◌, ◌<◌, ℤ, ◌+ℤ◌, ◌-ℤ◌, ◌*ℤ◌, take}
+use Rattle.std.specs.Prelude.{◌≡◌, refl, ◌↔◌, ℕ, zero, suc, ◌+◌, ◌*◌, ◌≤◌, ◌<◌, ℤ, ◌+ℤ◌, ◌-ℤ◌, ◌*ℤ◌, take}
 use Rattle.std.proofs.Common.{sym, ap₂, ◌∙◌, add-zero, add_assoc, zero-mul, add-one, arith, get_or-take}
 use Rattle.std.proofs.Math.Path.{ap, subst}
 use Rattle.std.proofs.Math.Dec.{T}
 use Rattle.std.proofs.Math.IntN.{pos, sub_ℕ, +ℤ_assoc, zero-*ℤ}
 use Rattle.std.specs.Int.Signed.{non_neg}
 use Rattle.laws.specs.Sums.{sum, sum-wide}
-use Rattle.laws.specs.Differences.{sumℤ, sumℤ-same, difference-sum, non_neg_difference, pos_difference, difference-minus}
+use Rattle.laws.specs.Differences.{sumℤ, sumℤ-same, difference-sum, difference-zero, non_neg_difference, pos_difference, difference-minus}
 use Rattle.nets.specs.Nets.{Place, Step, Counts, at, tokens, effect, surplus, place_permits}
 
 module _ (n : ℕ) where
@@ -33,6 +33,10 @@ tokens-is n p v =
 pub effect_is : (n : ℕ) (p : Place) (v : Counts) → effect n p v ≡ sub_ℕ (put n p v) (taken n p v)
 unfolding taken
 effect_is n p v = difference-sum n (at v) p.produced p.consumed
+
+-- 0 exactly when they put as many tokens there as they take
+pub effect-none : (n : ℕ) (p : Place) (v : Counts) → (effect n p v ≡ pos 0) ↔ (put n p v ≡ taken n p v)
+effect-none n p v = rw (effect_is n p v) (difference-zero (put n p v) (taken n p v))
 
 -- it is what they add to the initial tokens
 pub tokens-effect : (n : ℕ) (p : Place) (v : Counts) → tokens n p v ≡ pos p.initial +ℤ effect n p v

@@ -71,7 +71,7 @@ mark-cut marks k mark behind e =
 
 -- ---- while it walks
 
-module _ (cs : List CertificateFields) (k : ℕ) (more : k < length cs) where
+module _ (is_new : Bool) (cs : List CertificateFields) (k : ℕ) (more : k < length cs) where
   abbrev here : CertificateFields
   here = get_or cs k no_certificate
 
@@ -79,18 +79,19 @@ module _ (cs : List CertificateFields) (k : ℕ) (more : k < length cs) where
   longer = rw (add-one k) (take-suc cs k no_certificate more)
 
   -- the place that the certificate names is marked
-  pub walk_place : (j : ℕ) → place j ≡ piece_of here → set (marks_of (take k cs)) j true ≡ marks_of (take (k + 1) cs)
-  walk_place j e = rw (longer, place-back here j e) (marks-place (take k cs) j)
+  pub walk_place : (j : ℕ) → place j ≡ piece_of is_new here → set (marks_of (take k cs)) j true ≡ marks_of (take (k + 1) cs)
+  walk_place j e = rw (longer, place-back is_new here j e) (marks-place (take k cs) j)
 
   -- weights mark none
-  pub walk_weights : (bytes : List ℕ) → weights bytes ≡ piece_of here → marks_of (take k cs) ≡ marks_of (take (k + 1) cs)
-  walk_weights bytes e = let w = weights-back here bytes e in rw (longer, w.1) (marks-weights (take k cs) w.0)
+  pub walk_weights : (bytes : List ℕ) → weights bytes ≡ piece_of is_new here → marks_of (take k cs) ≡ marks_of (take (k + 1) cs)
+  walk_weights bytes e = let w = weights-back is_new here bytes e in rw (longer, w.1) (marks-weights (take k cs) w.0)
 
 -- a place that a certificate names is one of the first 64
-pub place-below : (c : Contents) → InLimits c → (k : ℕ) → k < length c.certificates → (j : ℕ) → place j ≡ piece_of (get_or c.certificates k no_certificate) → j < max_places
+pub place-below : (c : Contents) → InLimits c → (k : ℕ) → k < length c.certificates → (j : ℕ)
+    → place j ≡ piece_of c.head.is_new (get_or c.certificates k no_certificate) → j < max_places
 place-below c limits k more j e =
     let here = get_d_member c.certificates k no_certificate more in
-    omega (arith, limits.head.places_size, named-there c limits j (subst (λ (x : CertificateFields). Memᴰ x c.certificates) (place-back _ j e) here))
+    omega (arith, limits.head.places_size, named-there c limits j (subst (λ (x : CertificateFields). Memᴰ x c.certificates) (place-back c.head.is_new _ j e) here))
 
 -- ---- how many places are kept
 

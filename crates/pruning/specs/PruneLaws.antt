@@ -13,14 +13,18 @@ use Rattle.laws.specs.Booleans.{yes_true}
 use Rattle.laws.specs.Every.{Every, every_member, every_intro}
 use Rattle.laws.specs.Lists.{any, any_witness, any_intro}
 use Rattle.laws.specs.Ranks.{keep_at, rank, keep_at-at, keep_at-from, keep_at-member, keep_at-most, keep_at-all, keep_at-map, keep_at-same, rank-all, rank_same}
-use Rattle.nets.specs.Nets.{Net, Certificate, by_place, by_weights, Bundle, accepted, tally}
+use Rattle.nets.specs.Nets.{Net}
+use Rattle.nets.specs.Bundle.{Certificate, by_place, by_weights, Bundle, accepted, tally}
 use Rattle.nets.specs.Pruning as theory
 use Rattle.nets.specs.Pruning.{prune}
 use Rattle.nets.proofs.Pruning.{prune-accepted, prune-tally}
-use Rattle.bundles.specs.Layout.{PlaceFields, CertificateFields, kind0, kind1, Head, Contents, to_place, to_net, to_term, to_weights, to_certificate, to_bundle, place_bytes, places_bytes, weight_bytes, certificate_bytes, head_bytes, bytes_of, PlaceInLimits, HeadInLimits, CertificateInLimits, InLimits, words_in, head_with, front_bytes}
+use Rattle.bundles.specs.Layout.{PlaceFields, CertificateFields, kind0, kind1, Head, Contents, head_with}
+use Rattle.bundles.specs.Layout.{PlaceInLimits, HeadInLimits, CertificateInLimits, InLimits}
+use Rattle.bundles.specs.Layout.{to_place, to_net, to_term, to_weights, to_certificate, to_bundle}
+use Rattle.bundles.specs.Layout.{place_bytes, places_bytes, weight_bytes, certificate_bytes, front_bytes, head_bytes, bytes_of}
 use Rattle.bundles.specs.LayoutLaws.{every_map}
 use Rattle.bundles.specs.PlaceReading.{place_size}
-use Rattle.contents.specs.Contents.{places-length}
+use Rattle.contents.specs.Contents.{certificates_bytes, places-length}
 use Rattle.pruning.specs.Pruning.{names, named, renumbered, pruned}
 
 -- ---- the theory's bundle
@@ -50,7 +54,8 @@ module _ (c : Contents) where
 
   pub pruned-bundle : to_bundle (pruned c) ≡ prune (to_bundle c)
   unfolding to_bundle prune pruned to_net
-  pruned-bundle = ap₂ (λ (net : Net) (cs : List Certificate). record { events = c.head.events; log = words_in c.head; net = net; certificates = cs })
+  pruned-bundle = ap₂
+      (λ (net : Net) (cs : List Certificate). record { events = c.head.events; entries = c.head.entries; net = net; certificates = cs })
       (sym (keep_at-map to_place kept c.head.places) ∙ keep_at-same kept (theory.named (map (to_certificate c.head) c.certificates)) (map to_place c.head.places) (λ i h. sym (named-same c.head c.certificates i)))
       (numbers-same c.certificates)
 
@@ -96,7 +101,17 @@ module _ (c : Contents) (limits : InLimits c) where
       (keep_at-at (kept c) c.head.places j (record { initial = 0; produced = []; consumed = [] }) (named-member c.certificates j m) v.0).0 in
       (there, renumbered-limits cs (λ x n. of x (Memᴰ.tail n)) v.1)
   renumbered-limits (kind1 w ∷ cs) of v = (
-    record { positive = v.0.positive; factor = v.0.factor; terms_size = v.0.terms_size; terms = every_map _ _ (λ t l. record { row = l.row; event = l.event; weight = l.weight }) w.terms v.0.terms },
+    record {
+      positive = v.0.positive;
+      factor = v.0.factor;
+      terms_size = v.0.terms_size;
+      terms = every_map _ _ (λ t l. record { row = l.row; event = l.event; weight = l.weight }) w.terms v.0.terms;
+      pairs = record {
+        size = v.0.pairs.size;
+        each = every_map _ _ (λ q l. record { word = l.word; weight = l.weight }) w.pairs v.0.pairs.each;
+        edition = v.0.pairs.edition;
+      };
+    },
     renumbered-limits cs (λ x n. of x (Memᴰ.tail n)) v.1,
   )
 
@@ -105,7 +120,7 @@ module _ (c : Contents) (limits : InLimits c) where
   pruned-head = record {
     events = limits.head.events;
     log_size = limits.head.log_size;
-    words = limits.head.words;
+    entries = limits.head.entries;
     log_events = limits.head.log_events;
     places_size = omega (arith, limits.head.places_size, keep_at-most (kept c) c.head.places);
     places = every_kept (PlaceInLimits c.head.events) (kept c) c.head.places limits.head.places;
@@ -114,12 +129,19 @@ module _ (c : Contents) (limits : InLimits c) where
 -- ---- the length
 
 -- a renumbered certificate is as long
-pub certificates-length : (kept : ℕ → Bool) (cs : List CertificateFields) → length (flat_map certificate_bytes (map (renumbered kept) cs)) ≡ length (flat_map certificate_bytes cs)
+pub certificates-length : (is_new : Bool) (kept : ℕ → Bool) (cs : List CertificateFields)
+    → length (flat_map (certificate_bytes is_new) (map (renumbered kept) cs)) ≡ length (flat_map (certificate_bytes is_new) cs)
 unfolding flat_map renumbered certificate_bytes
-certificates-length kept [] = refl
-certificates-length kept (kind0 j ∷ cs) = omega (arith, certificates-length kept cs)
-certificates-length kept (kind1 w ∷ cs) =
-    omega (arith, length-append (1 ∷ weight_bytes w) (flat_map certificate_bytes (map (renumbered kept) cs)), length-append (1 ∷ weight_bytes w) (flat_map certificate_bytes cs), certificates-length kept cs)
+certificates-length is_new kept [] = refl
+certificates-length is_new kept (kind0 j ∷ cs) = omega (arith, certificates-length is_new kept cs)
+certificates-length is_new kept (kind1 w ∷ cs) =
+    let one : List ℕ = 1 ∷ weight_bytes is_new w in
+    omega (
+      arith,
+      length-append one (flat_map (certificate_bytes is_new) (map (renumbered kept) cs)),
+      length-append one (flat_map (certificate_bytes is_new) cs),
+      certificates-length is_new kept cs,
+    )
 
 module _ (c : Contents) (limits : InLimits c) where
   -- each place that is left out has its bytes left out, and nothing else changes in length
@@ -131,15 +153,15 @@ module _ (c : Contents) (limits : InLimits c) where
       let front = front_bytes c.head in
       let ps = c.head.places in
       let qs = keep_at (kept c) ps in
-      let cs = flat_map certificate_bytes c.certificates in
-      let ds = flat_map certificate_bytes (map (renumbered (kept c)) c.certificates) in
+      let cs = certificates_bytes c in
+      let ds = certificates_bytes (pruned c) in
       omega (
         arith,
         length-append (front ++ (length ps ∷ flat_map place_bytes ps)) cs,
         length-append (front ++ (length qs ∷ flat_map place_bytes qs)) ds,
         length-append front (length ps ∷ flat_map place_bytes ps),
         length-append front (length qs ∷ flat_map place_bytes qs),
-        certificates-length (kept c) c.certificates,
+        certificates-length c.head.is_new (kept c) c.certificates,
         places-length n ps limits.head.places,
         places-length n qs (every_kept (PlaceInLimits n) (kept c) ps limits.head.places),
       )

@@ -15,7 +15,7 @@ use Rattle.laws.specs.Spans.{set-tabulate}
 use Rattle.limits.specs.Limits.{max_places}
 use Rattle.bundles.specs.Layout.{PlaceFields, CertificateFields, Contents, InLimits, place_bytes, certificate_bytes, front_bytes, bytes_of}
 use Rattle.bundles.specs.PlaceReading.{place_size}
-use Rattle.contents.specs.Contents.{contents_of, bytes-parts, places-length}
+use Rattle.contents.specs.Contents.{contents_of, certificates_bytes, bytes-parts, places-length}
 use Rattle.contents.specs.Certificates.{place, weights, piece_of, place-back, weights-back}
 use Rattle.pruning.specs.Pruning.{named, renumbered, pruned}
 use Rattle.pruning.specs.PruneLaws.{certificates-length, pruned-head}
@@ -73,11 +73,11 @@ numbers-all f = tabulate-same max_places (λ i. cond (ltb i max_places) (rank f 
 
 -- what is written for a certificate: its bytes, with its place's new number
 abbrev pub certificate_piece : Contents → ℕ → CertificateFields → List ℕ
-certificate_piece c k x = certificate_bytes (renumbered (named c.certificates) x)
+certificate_piece c k x = certificate_bytes c.head.is_new (renumbered (named c.certificates) x)
 
-pub certificates-all : (c : Contents) → rewritten (certificate_piece c) c.certificates ≡ flat_map certificate_bytes (pruned c).certificates
+pub certificates-all : (c : Contents) → rewritten (certificate_piece c) c.certificates ≡ certificates_bytes (pruned c)
 unfolding pruned
-certificates-all c = rewritten-map certificate_bytes (renumbered (named c.certificates)) c.certificates
+certificates-all c = rewritten-map (certificate_bytes c.head.is_new) (renumbered (named c.certificates)) c.certificates
 
 module _ (c : Contents) (x : CertificateFields) where
   -- a place's new number
@@ -87,17 +87,17 @@ module _ (c : Contents) (x : CertificateFields) where
       ∙ rank_same (marked (marks_of c.certificates)) (named c.certificates) j (λ i l. marks-named c.certificates i (omega arith))
 
   -- with its place's new number, as the walk gives the place
-  pub piece-place : (j : ℕ) → place j ≡ piece_of x → j < max_places
+  pub piece-place : (j : ℕ) → place j ≡ piece_of c.head.is_new x → j < max_places
       → certificate_piece c 0 x ≡ 0 ∷ get_or (tabulate max_places (rank (marked (marks_of c.certificates)))) j 0 ∷ []
   unfolding renumbered certificate_bytes
-  piece-place j e h = rw (place-back x j e, number_is j h)
+  piece-place j e h = rw (place-back c.head.is_new x j e, number_is j h)
 
   -- as it is
-  pub piece-weights : (bytes : List ℕ) → weights bytes ≡ piece_of x → certificate_piece c 0 x ≡ bytes
+  pub piece-weights : (bytes : List ℕ) → weights bytes ≡ piece_of c.head.is_new x → certificate_piece c 0 x ≡ bytes
   unfolding renumbered
   piece-weights bytes e =
-      let (w, is, same) = weights-back x bytes e in
-      ap (λ (y : CertificateFields). certificate_piece c 0 y) is ∙ sym (same ∙ ap certificate_bytes is)
+      let (w, is, same) = weights-back c.head.is_new x bytes e in
+      ap (λ (y : CertificateFields). certificate_piece c 0 y) is ∙ sym (same ∙ ap (certificate_bytes c.head.is_new) is)
 
 -- ---- all parts
 
@@ -106,7 +106,7 @@ module _ (c : Contents) where
   places = flat_map place_bytes (pruned c).head.places
 
   abbrev certificates : List ℕ
-  certificates = flat_map certificate_bytes (pruned c).certificates
+  certificates = certificates_bytes (pruned c)
 
   -- the parts of the result
   pub result_parts : bytes_of (pruned c) ≡ ((front_bytes c.head ++ length (pruned c).head.places ∷ []) ++ places) ++ certificates
@@ -116,7 +116,9 @@ module _ (c : Contents) where
       bytes-parts (pruned c) ∙ sym (append_assoc (front_bytes c.head ++ k ∷ []) places certificates ∙ append_assoc (front_bytes c.head) (k ∷ []) (places ++ certificates))
 
   -- its length, where each place that is kept has so many bytes
-  pub result-length : InLimits c → length (front_bytes c.head) + 1 + length (pruned c).head.places * (2 * place_size c.head.events) + length (flat_map certificate_bytes c.certificates) ≡ length (bytes_of (pruned c))
+  pub result-length : InLimits c
+      → length (front_bytes c.head) + 1 + length (pruned c).head.places * (2 * place_size c.head.events) + length (certificates_bytes c)
+      ≡ length (bytes_of (pruned c))
   unfolding pruned
   result-length limits =
       let kept = keep_at (named c.certificates) c.head.places in
@@ -127,7 +129,7 @@ module _ (c : Contents) where
         length-append (front_bytes c.head ++ length kept ∷ []) places,
         length-append (front_bytes c.head) (length kept ∷ []),
         places-length c.head.events kept (pruned-head c limits).places,
-        certificates-length (named c.certificates) c.certificates,
+        certificates-length c.head.is_new (named c.certificates) c.certificates,
       )
 
   abbrev count : List ℕ

@@ -2,8 +2,8 @@
 ghost use Rattle.std.specs.Prelude.{◌≡◌, ◌≤◌, length};
 ghost use mathlib.Core.List.{flat_map};
 ghost use Rattle.laws.specs.Parts.{front};
-ghost use Rattle.bundles.specs.Layout.{place_bytes, certificate_bytes, bytes_of};
-ghost use Rattle.contents.specs.Contents.{contents_of};
+ghost use Rattle.bundles.specs.Layout.{place_bytes, bytes_of};
+ghost use Rattle.contents.specs.Contents.{contents_of, certificates_bytes};
 ghost use Rattle.pruning.specs.Pruning.{pruned};
 ghost use Rattle.pruning.specs.Pushing.{HasRoom, Pushed};
 
@@ -48,8 +48,8 @@ impl Marked<'_> {
 
     // The certificates, with the new numbers of their places.
     fn write_certificates(&self, writer: &mut Writer)
-        requires { HasRoom writer.old (flat_map certificate_bytes (pruned (contents_of self.now.parts.bundle.now)).certificates) }
-        ensures { Pushed writer.old writer.new (flat_map certificate_bytes (pruned (contents_of self.now.parts.bundle.now)).certificates) }
+        requires { HasRoom writer.old (certificates_bytes (pruned (contents_of self.now.parts.bundle.now))) }
+        ensures { Pushed writer.old writer.new (certificates_bytes (pruned (contents_of self.now.parts.bundle.now))) }
     {
         let numbers = self.numbers();
         for certificate in self.parts.each_certificate() {
@@ -63,7 +63,7 @@ impl Marked<'_> {
         }
     }
 
-    // Writes the pruned bundle to the front of the output: n and the log, the place count, the places, the certificates.
+    // Writes the pruned bundle to the front of the output: the first byte and the log, the place count, the places, the certificates.
     pub fn write(&self, output: &mut [u8])
         requires { length (bytes_of (pruned (contents_of self.now.parts.bundle.now))) ≤ length output.old }
         ensures { output.new ≡ front (bytes_of (pruned (contents_of self.now.parts.bundle.now))) output.old }

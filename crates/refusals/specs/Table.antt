@@ -1,7 +1,7 @@
 -- The numbers of the refusal table, by the names that the code has for them.
 use Rattle.std.specs.Prelude.{ℕ}
 use Rattle.refusals.specs.declared.Cause.{Cause}
-use Rattle.refusals.specs.declared.Cause.TheVariants.{FileLength, BlockSums, OutputShort, BundleLength, NumbersShort, BundleEnd, Value, Events, Rows, PlaceMisfit, PlacePermits, Weights, BytesFollow, WordLength, WordEvent, StateRange, BlockNumber, BlockUse, EventCounts}
+use Rattle.refusals.specs.declared.Cause.TheVariants.{FileLength, BlockSums, OutputShort, BundleLength, NumbersShort, BundleEnd, Value, Events, Rows, PlaceMisfit, PlacePermits, Weights, BytesFollow, WordLength, WordEvent, StateRange, BlockNumber, BlockUse, EventCounts, PlaceDisobeys}
 
 abbrev pub file_length_number : ℕ
 file_length_number = 1
@@ -60,6 +60,9 @@ block_use_number = 18
 abbrev pub event_counts_number : ℕ
 event_counts_number = 19
 
+abbrev pub place_disobeys_number : ℕ
+place_disobeys_number = 20
+
 -- the number of a cause
 abbrev pub number : Cause → ℕ
 number FileLength = file_length_number
@@ -81,3 +84,4 @@ number StateRange = state_range_number
 number BlockNumber = block_number_number
 number BlockUse = block_use_number
 number EventCounts = event_counts_number
+number PlaceDisobeys = place_disobeys_number

@@ -57,6 +57,8 @@ pub enum Cause {
     BlockUse = 18,
     // The event counts of two bundles that are joined are not the same.
     EventCounts = 19,
+    // A place does not obey a completed word of the log: its effect on the place is not 0.
+    PlaceDisobeys = 20,
 }
 
 impl Cause {

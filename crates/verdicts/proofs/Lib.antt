@@ -4,3 +4,4 @@ pub mod Acceptance
 pub mod Causes
 pub mod Reached
 pub mod Stopping
+pub mod OldEdition

@@ -12,18 +12,20 @@ use Rattle.laws.specs.Numbers.{Bytes}
 use Rattle.limits.specs.Limits.{max_rows}
 use Rattle.refusals.specs.Table.{place_permits_number, weights_number}
 use Rattle.refusals.specs.Results.{refused, refuses-wider}
-use Rattle.nets.specs.Nets.{Step, accepted}
+use Rattle.nets.specs.Nets.{Step}
+use Rattle.nets.specs.Bundle.{accepted}
 use Rattle.nets.specs.Acceptance.{accepted-parts}
 use Rattle.bundles.specs.Reading.{got, each}
-use Rattle.bundles.specs.Layout.{CertificateFields, kind0, kind1, Head, Contents, CertificateInLimits, wrong_in, fits_in, to_net, certificate_bytes, head_bytes, bytes_of, to_bundle}
+use Rattle.bundles.specs.Layout.{CertificateFields, kind0, kind1, Head, Contents, CertificateInLimits, wrong_in}
+use Rattle.bundles.specs.Layout.{certificate_bytes, head_bytes, bytes_of, to_bundle}
 use Rattle.bundles.specs.Readers.{head, certificate, rows_in_limit}
 use Rattle.bundles.specs.ReadingLaws.{Law, Part, part-front, part-append, part_right, EachValid, law-tested, law-each}
 use Rattle.bundles.specs.LayoutLaws.{law-certificate}
 use Rattle.bundles.specs.Limits.{log-below, got→front, front→got}
 use Rattle.bundles.specs.Causes.{each-refused}
 use Rattle.verdicts.specs.Judging.{unsolved, solved}
-use Rattle.verdicts.specs.Acceptance.{permitted, fitting, Solving, Acceptable}
-use Rattle.verdicts.proofs.Acceptance.{few-rows, one-row, permitted-fitting, each→all, all→each}
+use Rattle.verdicts.specs.Acceptance.{all_fit, all_obey, Solving, Acceptable}
+use Rattle.verdicts.proofs.Acceptance.{few-rows, one-row, places-fit, places-obey, each→all, all→each}
 use Rattle.verdicts.specs.Stopping.{InHead, InCertificate, head_numbers, head-refuses, certificate-refuses, solved-refused}
 use Rattle.verdicts.specs.Reached.{HeadThere, JudgedTo, CertificateDue, UnsolvedNext, Misread, NotSolved}
 
@@ -31,10 +33,10 @@ use Rattle.verdicts.specs.Reached.{HeadThere, JudgedTo, CertificateDue, Unsolved
 
 -- a bundle that was judged to somewhere begins with a head
 judged-head : {b : List ℕ} {d : Contents} {done : List Step} {rest : List ℕ} → JudgedTo b d done rest
-    → HeadThere b d.head (flat_map certificate_bytes d.certificates ++ rest)
+    → HeadThere b d.head (flat_map (certificate_bytes d.head.is_new) d.certificates ++ rest)
 unfolding bytes_of
 judged-head {b} {d} {done} {rest} j =
-    let layout = j.layout ∙ append_assoc (head_bytes d.head) (flat_map certificate_bytes d.certificates) rest in
+    let layout = j.layout ∙ append_assoc (head_bytes d.head) (flat_map (certificate_bytes d.head.is_new) d.certificates) rest in
     record { front = record { layout = layout; limits = j.limits }; row_count = j.row_count }
 
 -- contents that solve all their wrong continuations are acceptable, and the other way
@@ -46,6 +48,7 @@ acceptable-judged d a layout = record {
   row_count = a.row_count;
   certificates = a.certificates;
   permits = ((accepted-parts (to_bundle d)).0 a.accepted).permitted;
+  obeys = ((accepted-parts (to_bundle d)).0 a.accepted).obeyed;
   solves = ((accepted-parts (to_bundle d)).0 a.accepted).solved;
 }
 
@@ -55,7 +58,7 @@ judged-acceptable d j = record {
   head = j.limits;
   row_count = j.row_count;
   certificates = j.certificates;
-  accepted = (accepted-parts (to_bundle d)).1 (record { permitted = j.permits; solved = j.solves });
+  accepted = (accepted-parts (to_bundle d)).1 (record { permitted = j.permits; obeyed = j.obeys; solved = j.solves });
 }
 
 -- a certificate that does not solve its step is refused with 11 or 12
@@ -76,10 +79,10 @@ module _ (b : List ℕ) (bytes : Bytes b) where
   there-head h rest t = front→got rows_in_limit one-row few-rows b bytes h rest t.front (le→leb _ max_rows t.row_count)
 
   module _ (h : Head) (rest : List ℕ) (t : HeadThere b h rest) where
-    law-this : Law b (certificate h) certificate_bytes (CertificateInLimits h)
-    law-this = law-certificate b bytes h t.front.limits.events.1 t.row_count t.front.limits.places_size
+    law-this : Law b (certificate h) (certificate_bytes h.is_new) (CertificateInLimits h)
+    law-this = law-certificate b bytes h t.front.limits.events.1 t.row_count t.front.limits.places_size t.front.limits.log_size
 
-    law-all : (ss : List Step) → Law b (each (solved h) ss []) (flat_map certificate_bytes) (EachValid (Solving h) ss [])
+    law-all : (ss : List Step) → Law b (each (solved h) ss []) (flat_map (certificate_bytes h.is_new)) (EachValid (Solving h) ss [])
     unfolding solved
     law-all ss = law-each b (λ s before. law-tested b law-this _ _ _) ss
 
@@ -87,17 +90,17 @@ module _ (b : List ℕ) (bytes : Bytes b) where
   certificate-due : (number spot : ℕ) → InCertificate b number spot
       ↔ ((d : Contents) × (s : Step) × (rest : List ℕ) × CertificateDue b d s rest
       × (solved d.head s d.certificates b (length (bytes_of d)) ≡ refused number spot))
-  unfolding bytes_of fitting permitted
+  unfolding bytes_of
   certificate-due number spot = (to, from)
     where
       to : InCertificate b number spot → (d : Contents) × (s : Step) × (rest : List ℕ) × CertificateDue b d s rest
           × (solved d.head s d.certificates b (length (bytes_of d)) ≡ refused number spot)
-      to (h, mid, is, fit, e) =
+      to (h, mid, is, fit, obey, e) =
           let t = head-there h mid is in
           let w = (each-refused (solved h) b number spot (wrong_in h) [] mid).0 e in
           let l = (law-all h (drop mid b) t.0 w.first).sound mid w.items w.mid w.read in
           let v = each→all h w.first [] w.items l.0 in
-          let whole = part-append b 0 mid w.mid (head_bytes h) (flat_map certificate_bytes w.items) t.1 l.1 in (
+          let whole = part-append b 0 mid w.mid (head_bytes h) (flat_map (certificate_bytes h.is_new) w.items) t.1 l.1 in (
             record { head = h; certificates = w.items },
             w.this,
             drop w.mid b,
@@ -110,7 +113,8 @@ module _ (b : List ℕ) (bytes : Bytes b) where
                 limits = t.0.front.limits;
                 row_count = t.0.row_count;
                 certificates = v.0;
-                permits = (permitted-fitting h (log-below h t.0.front.limits)).0 (rw fit tt);
+                permits = (places-fit h (log-below h t.0.front.limits)).0 (rw fit tt);
+                obeys = (places-obey h).0 (rw obey tt);
                 solves = v.1;
               };
             },
@@ -126,11 +130,12 @@ module _ (b : List ℕ) (bytes : Bytes b) where
           let whole = part-front b (bytes_of d) rest j.layout in
           let read = (law-all h _ t due.done).complete (length (head_bytes h)) d.certificates (length (bytes_of d))
           (all→each h due.done [] d.certificates j.certificates j.solves)
-          (rw zero-add at (part_right b 0 (length (bytes_of d)) (head_bytes h) (flat_map certificate_bytes d.certificates) whole)) in (
+          (rw zero-add at (part_right b 0 (length (bytes_of d)) (head_bytes h) (flat_map (certificate_bytes h.is_new) d.certificates) whole)) in (
             h,
             length (head_bytes h),
             there-head h _ t,
-            yes_true (all (fits_in h) (to_net h)) ((permitted-fitting h (log-below h j.limits)).1 j.permits),
+            yes_true (all_fit h) ((places-fit h (log-below h j.limits)).1 j.permits),
+            yes_true (all_obey h) ((places-obey h).1 j.obeys),
             (each-refused (solved h) b number spot (wrong_in h) [] (length (head_bytes h))).1
                 (record {
                   first = due.done;
@@ -148,24 +153,26 @@ module _ (b : List ℕ) (bytes : Bytes b) where
   -- the certificate that is due stands there
   due-there : (d : Contents) (s : Step) (rest : List ℕ) → CertificateDue b d s rest → (c : CertificateFields) (next : ℕ)
       → certificate d.head b (length (bytes_of d)) ≡ got c next
-      → CertificateInLimits d.head c × CertificateDue b d s (certificate_bytes c ++ drop next b)
+      → CertificateInLimits d.head c × CertificateDue b d s (certificate_bytes d.head.is_new c ++ drop next b)
   unfolding bytes_of
   due-there d s rest due c next e =
       let j = due.judged in
       let t = judged-head j in
       let l = (law-this d.head _ t).sound (length (bytes_of d)) c next e in
-      let whole = part-append b 0 (length (bytes_of d)) next (bytes_of d) (certificate_bytes c) (part-front b (bytes_of d) rest j.layout) l.1 in (
+      let these = certificate_bytes d.head.is_new c in
+      let whole = part-append b 0 (length (bytes_of d)) next (bytes_of d) these (part-front b (bytes_of d) rest j.layout) l.1 in (
         l.0,
         record {
           done = due.done;
           more = due.more;
           steps = due.steps;
           judged = record {
-            layout = whole.bytes ∙ append_assoc (bytes_of d) (certificate_bytes c) (drop next b);
+            layout = whole.bytes ∙ append_assoc (bytes_of d) these (drop next b);
             limits = j.limits;
             row_count = j.row_count;
             certificates = j.certificates;
             permits = j.permits;
+            obeys = j.obeys;
             solves = j.solves;
           };
         },
@@ -177,11 +184,12 @@ module _ (b : List ℕ) (bytes : Bytes b) where
   there-due d s c u =
       let j = u.due.judged in
       let t = judged-head j in
-      let whole = part-front b (bytes_of d ++ certificate_bytes c) u.rest
-      (j.layout ∙ sym (append_assoc (bytes_of d) (certificate_bytes c) u.rest)) in (
-        length (bytes_of d ++ certificate_bytes c),
-        (law-this d.head _ t).complete (length (bytes_of d)) c (length (bytes_of d ++ certificate_bytes c)) u.limits
-            (rw zero-add at (part_right b 0 (length (bytes_of d ++ certificate_bytes c)) (bytes_of d) (certificate_bytes c) whole)),
+      let these = certificate_bytes d.head.is_new c in
+      let whole = part-front b (bytes_of d ++ these) u.rest
+      (j.layout ∙ sym (append_assoc (bytes_of d) these u.rest)) in (
+        length (bytes_of d ++ these),
+        (law-this d.head _ t).complete (length (bytes_of d)) c (length (bytes_of d ++ these)) u.limits
+            (rw zero-add at (part_right b 0 (length (bytes_of d ++ these)) (bytes_of d) these whole)),
       )
 
   -- judging stops in a certificate: it is refused itself, or it does not solve its step
@@ -208,7 +216,7 @@ module _ (b : List ℕ) (bytes : Bytes b) where
             (certificate-due number spot).1 (
               d,
               s,
-              certificate_bytes c ++ u.rest,
+              certificate_bytes d.head.is_new c ++ u.rest,
               u.due,
               (solved-refused d.head s d.certificates b
                   (length (bytes_of d)) number spot).1 (inr (c, t.0, t.1, n, at, u.unsolved)),

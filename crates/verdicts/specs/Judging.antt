@@ -3,16 +3,19 @@ use Rattle.std.specs.Prelude.{cond, ◌&&◌, List, [], ℕ, leb, length, Err, O
 use Rattle.laws.specs.Lists.{all}
 use Rattle.laws.specs.Scans.{first_failing}
 use Rattle.limits.specs.Limits.{right_size}
-use Rattle.refusals.specs.Table.{numbers_short_number, place_misfit_number, place_permits_number, weights_number, bytes_follow_number}
+use Rattle.refusals.specs.Table.{numbers_short_number, bytes_follow_number}
+use Rattle.refusals.specs.Table.{place_misfit_number, place_disobeys_number, place_permits_number, weights_number}
 use Rattle.refusals.specs.Answers.{refusal, Answer}
 use Rattle.refusals.specs.Results.{value, refused}
-use Rattle.nets.specs.Nets.{Step, tally}
-use Rattle.nets.specs.Nets as nets
+use Rattle.nets.specs.Nets.{Step}
+use Rattle.nets.specs.Bundle.{tally}
+use Rattle.nets.specs.Bundle as bundle
 use Rattle.rows.specs.Rows.{with_rows, cleared}
 use Rattle.logs.specs.Answers.{table_size}
 use Rattle.logs.specs.Log.{log_rows}
 use Rattle.bundles.specs.Reading.{Read, item, Reader, ◌>>=◌, ◌>>◌, give, require, each}
-use Rattle.bundles.specs.Layout.{CertificateFields, kind0, kind1, Head, Contents, wrong_in, fits_in, solves_in, to_net, to_bundle, words_in}
+use Rattle.bundles.specs.Layout.{CertificateFields, kind0, kind1, Head, Contents, to_net, to_bundle}
+use Rattle.bundles.specs.Layout.{words_in, wrong_in, fits_in, obeys_in, solves_in}
 use Rattle.bundles.specs.Readers.{head, certificate, rows_in_limit, bundle_size}
 use Rattle.verdicts.specs.declared.Tally.{Tally}
 
@@ -34,10 +37,12 @@ solved h s before = do
 unfoldable pub at_end : Reader (Unit {0})
 at_end b at = require (leb (length b) at) bytes_follow_number at b at
 
--- behind the last place: 10 with the lowest place that does not fit, then one certificate for each wrong continuation
+-- behind the last place: 10 with the lowest place that does not fit, 20 with the lowest that does not obey the completed words, then one
+-- certificate for each wrong continuation
 unfoldable pub after_head : Head → Reader Contents
 after_head h = do
   require (all (fits_in h) (to_net h)) place_misfit_number (first_failing (fits_in h) (to_net h))
+  require (all (obeys_in h) (to_net h)) place_disobeys_number (first_failing (obeys_in h) (to_net h))
   cs ← each (solved h) (wrong_in h) []
   give (record { head = h; certificates = cs })
 
@@ -62,7 +67,7 @@ judged table_length = do
   judging
 
 -- the definitions' tally, as a verdict has it
-abbrev pub tally_of : nets.Tally → Tally
+abbrev pub tally_of : bundle.Tally → Tally
 tally_of t = record { rows = t.row_count; allowed = t.allowed_count; by_place = t.by_place_count; by_weights = t.by_weights_count }
 
 -- the verdict: the four counts, or the refusal

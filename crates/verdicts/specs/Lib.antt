@@ -4,3 +4,4 @@ pub mod Acceptance
 pub mod RefusalNumbers
 pub mod Stopping
 pub mod Reached
+pub mod OldEdition

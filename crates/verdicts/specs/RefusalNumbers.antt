@@ -1,11 +1,13 @@
--- The refusal numbers of judging are those of its line in the order of refusals: 4, 5, then 6 to 13 in bundle order; and what a refusal leaves.
+-- The refusal numbers of judging are those of its line in the order of refusals: 4, 5, then 6 to 10, 20 and 11 to 13 in bundle order; and what a
+-- refusal leaves.
 use Rattle.std.specs.Prelude.{◌≡◌, refl, Bool, true, false, not, cond, ◌&&◌, List, [], ◌∷◌, ℕ, T, leb, length, Err}
 use Rattle.std.proofs.Common.{sym, ◌∙◌, subst, inr}
 use Rattle.std.proofs.lemmas.Bool.{false≢true}
 use Rattle.laws.specs.Booleans.{impossible, yes_true}
 use Rattle.laws.specs.Lists.{all, any, among, among-all}
 use Rattle.limits.specs.Limits.{right_size}
-use Rattle.refusals.specs.Table.{bundle_length_number, numbers_short_number, bundle_end_number, value_number, events_number, rows_number, place_misfit_number, place_permits_number, weights_number, bytes_follow_number}
+use Rattle.refusals.specs.Table.{bundle_length_number, numbers_short_number, bundle_end_number, value_number, events_number, rows_number}
+use Rattle.refusals.specs.Table.{place_misfit_number, place_disobeys_number, place_permits_number, weights_number, bytes_follow_number}
 use Rattle.refusals.specs.Results.{value, refused, bind, number_in, Refuses, refuses-wider, numbers-listed}
 use Rattle.refusals.specs.Answers.{refusal}
 use Rattle.refusals.specs.declared.Refusal.{Refusal}
@@ -15,16 +17,20 @@ use Rattle.bundles.specs.Reading.{Read, got, item, and_then, ◌>>◌, require, 
 use Rattle.bundles.specs.Readers.{rows_in_limit, bundle_size}
 use Rattle.bundles.specs.Layout.{CertificateFields, kind0, kind1, Contents}
 use Rattle.bundles.specs.Refusing.{ReaderRefuses, Among, reader_give, reader_require, reader_then, reader_each, reader_head, reader_certificate}
-use Rattle.verdicts.specs.Judging.{unsolved, solved, at_end, after_head, contents, judging, judged, verdict_of, verdict, verdict_number, table_on, table_after, Verdict}
+use Rattle.verdicts.specs.Judging.{unsolved, solved, at_end, after_head, contents, judging, judged}
+use Rattle.verdicts.specs.Judging.{Verdict, verdict_of, verdict, verdict_number, table_on, table_after}
 
 -- in bundle order
 abbrev pub field_numbers : List ℕ
-field_numbers = bundle_end_number ∷ value_number ∷ events_number ∷ rows_number ∷ place_misfit_number ∷ place_permits_number ∷ weights_number ∷ bytes_follow_number ∷ []
+field_numbers =
+    bundle_end_number ∷ value_number ∷ events_number ∷ rows_number
+    ∷ place_misfit_number ∷ place_disobeys_number ∷ place_permits_number ∷ weights_number ∷ bytes_follow_number ∷ []
 
 abbrev pub judge_numbers : List ℕ
 judge_numbers = bundle_length_number ∷ numbers_short_number ∷ field_numbers
 
-unsolved-listed : (numbers : List ℕ) → Among numbers place_permits_number → Among numbers weights_number → (c : CertificateFields) → Among numbers (unsolved c)
+unsolved-listed : (numbers : List ℕ) → Among numbers place_permits_number → Among numbers weights_number
+    → (c : CertificateFields) → Among numbers (unsolved c)
 unfolding unsolved
 unsolved-listed numbers place weights (kind0 j) = place
 unsolved-listed numbers place weights (kind1 w) = weights
@@ -34,9 +40,11 @@ unfolding judging contents after_head solved at_end any
 judging-refuses =
     reader_then
     (reader_then (reader_head refl refl refl rows_in_limit (λ n log. inr refl)) (λ h.
-    reader_then (reader_require _ place_misfit_number _ (inr refl)) (λ u.
-    reader_then (reader_each (λ s before. reader_then (reader_certificate refl refl h) (λ c. reader_then (reader_require _ _ _ (inr (unsolved-listed field_numbers refl refl c))) (λ u. reader_give c))) _ []) (λ cs.
-    reader_give _))))
+    reader_then (reader_require _ _ _ (inr refl)) (λ u.
+    reader_then (reader_require _ _ _ (inr refl)) (λ u.
+    reader_then (reader_each (λ s before. reader_then (reader_certificate refl refl h) (λ c.
+    reader_then (reader_require _ _ _ (inr (unsolved-listed field_numbers refl refl c))) (λ u. reader_give c))) _ []) (λ cs.
+    reader_give _)))))
     (λ c. reader_then (record { only = λ b at. (reader_require _ bytes_follow_number at (inr refl)).only b at }) (λ u. reader_give c))
 
 -- a refusal in bundle order has one of these numbers, and so none of the others
@@ -60,7 +68,7 @@ verdict-numbers {numbers} {m} only = same m ∙ numbers-listed only
     same (value (item c next)) = refl
     same (refused number spot) = refl
 
--- judge: a verdict of acceptance, or 4, 5, .., 13
+-- judge: a verdict of acceptance, or 4, 5, .., 13, or 20
 pub judge_numbers_lem : (table_length : ℕ) (b : List ℕ) → among (verdict_number (verdict table_length b)) (0 ∷ judge_numbers) ≡ true
 unfolding verdict
 judge_numbers_lem table_length b = verdict-numbers ((judged-refuses table_length).only b 0)
@@ -96,7 +104,9 @@ refused_judge table b r e = go (right_size (length b)) (leb table_size (length t
         let same : refusal number spot ≡ r = cc in
         subst (λ (x : Refusal). Left table table x.number) same ((λ h. refl), (λ h. absurd (false≢true (sym h ∙ listed))))
 
-    go : (p q : Bool) → verdict_of (and_then (cond p (got (tt {0}) 0) (refused bundle_length_number 0)) (λ u. require q numbers_short_number table_size >> judging) b) ≡ Err r
+    go : (p q : Bool)
+        → verdict_of (and_then (cond p (got (tt {0}) 0) (refused bundle_length_number 0))
+        (λ u. require q numbers_short_number table_size >> judging) b) ≡ Err r
         → Left table (cond (p && q) (table_on (judging b 0) table) table) r.number
     go true true e = read_left b table r (judging b 0) refl e
     go true false e = first numbers_short_number table_size refl e

@@ -1,4 +1,4 @@
--- The four ways in which judging stops behind the tests of the sizes, and which numbers each has. That there are no others,
+-- The five ways in which judging stops behind the tests of the sizes, and which numbers each has. That there are no others,
 -- `judging-refused`, is in proofs/Stopping.antt.
 use Rattle.std.specs.Prelude.{◌≡◌, Bool, ◌↔◌, ◌⊎◌, ℕ, ◌<◌}
 use Rattle.std.proofs.Math.Path.{refl, sym}
@@ -7,19 +7,32 @@ use Rattle.std.proofs.Math.Logic.{inl, inr, ⊎_elim}
 use mathlib.Core.List.{List, [], ◌∷◌}
 use Rattle.std.proofs.Math.ListN.{length}
 use Rattle.laws.specs.Booleans.{impossible}
-use Rattle.laws.specs.Lists.{all, any}
+use Rattle.laws.specs.Lists.{any}
 use Rattle.laws.specs.Scans.{first_failing}
-use Rattle.refusals.specs.Table.{bundle_end_number, value_number, events_number, rows_number, place_misfit_number, bytes_follow_number}
+use Rattle.refusals.specs.Table.{bundle_end_number, value_number, events_number, rows_number}
+use Rattle.refusals.specs.Table.{place_misfit_number, place_disobeys_number, bytes_follow_number}
 use Rattle.refusals.specs.Results.{refused, bind}
 use Rattle.nets.specs.Nets.{Step}
 use Rattle.bundles.specs.Reading.{got, Reader, ◌>>◌, give, require, each, onward}
-use Rattle.bundles.specs.Layout.{CertificateFields, Head, Contents, wrong_in, fits_in, solves_in, to_net}
+use Rattle.bundles.specs.Layout.{CertificateFields, Head, Contents, wrong_in, fits_in, obeys_in, solves_in, to_net}
 use Rattle.bundles.specs.Readers.{head, certificate, rows_in_limit}
 use Rattle.bundles.specs.Refusing.{ReaderRefuses, reader_head, reader_certificate}
 use Rattle.bundles.specs.Causes.{and_then-refused}
 use Rattle.verdicts.specs.Judging.{unsolved, solved, contents}
+use Rattle.verdicts.specs.Acceptance.{all_fit, all_obey}
 
--- ---- The four ways in which judging stops behind the tests of the sizes
+-- a test is failed, or passed, and what follows it refuses
+pub tested-refused : {A : Type 0} (ok : Bool) (n s : ℕ) (r : Reader A) (b : List ℕ) (at number spot : ℕ)
+    → ((require ok n s >> r) b at ≡ refused number spot)
+    ↔ (((number ≡ n) × (spot ≡ s) × (ok ≡ false)) ⊎ ((ok ≡ true) × (r b at ≡ refused number spot)))
+unfolding require bind onward
+tested-refused true n s r b at number spot = ((λ e. inr (refl, e)), ⊎_elim (λ (_, _, never). impossible cc) (λ (_, e). e))
+tested-refused false n s r b at number spot = (
+  (λ e. let p : n ≡ number = cc in let q : s ≡ spot = cc in inl (sym p, sym q, refl)),
+  ⊎_elim (λ (p, q, _). rw (p, q)) (λ (never, _). impossible cc),
+)
+
+-- ---- The five ways in which judging stops behind the tests of the sizes
 
 module _ (b : List ℕ) (number spot : ℕ) where
   -- in the head
@@ -27,18 +40,27 @@ module _ (b : List ℕ) (number spot : ℕ) where
   InHead = head rows_in_limit b 0 ≡ refused number spot
 
   -- at a place that does not fit
-  abbrev pub AtPlace : Type 0
-  AtPlace = (h : Head) × (mid : ℕ) × (head rows_in_limit b 0 ≡ got h mid) × (number ≡ place_misfit_number) × (spot ≡ first_failing (fits_in h) (to_net h))
-      × (all (fits_in h) (to_net h) ≡ false)
+  abbrev pub AtMisfit : Type 0
+  AtMisfit = (h : Head) × (mid : ℕ) × (head rows_in_limit b 0 ≡ got h mid) × (number ≡ place_misfit_number)
+      × (spot ≡ first_failing (fits_in h) (to_net h)) × (all_fit h ≡ false)
+
+  -- at a place that does not obey, where all fit
+  abbrev pub AtDisobeying : Type 0
+  AtDisobeying = (h : Head) × (mid : ℕ) × (head rows_in_limit b 0 ≡ got h mid) × (all_fit h ≡ true) × (number ≡ place_disobeys_number)
+      × (spot ≡ first_failing (obeys_in h) (to_net h)) × (all_obey h ≡ false)
 
   -- in a certificate
   abbrev pub InCertificate : Type 0
-  InCertificate = (h : Head) × (mid : ℕ) × (head rows_in_limit b 0 ≡ got h mid) × (all (fits_in h) (to_net h) ≡ true)
+  InCertificate = (h : Head) × (mid : ℕ) × (head rows_in_limit b 0 ≡ got h mid) × (all_fit h ≡ true) × (all_obey h ≡ true)
       × (each (solved h) (wrong_in h) [] b mid ≡ refused number spot)
 
   -- at the end
   abbrev pub AtEnd : Type 0
   AtEnd = (d : Contents) × (mid : ℕ) × (contents b 0 ≡ got d mid) × (number ≡ bytes_follow_number) × (spot ≡ mid) × (mid < length b)
+
+  -- in one of these ways
+  abbrev pub Stops : Type 0
+  Stops = InHead ⊎ (AtMisfit ⊎ (AtDisobeying ⊎ (InCertificate ⊎ AtEnd)))
 
 -- ---- Which numbers each of them has
 
@@ -58,24 +80,29 @@ pub solved-refused : (h : Head) (s : Step) (before : List CertificateFields) (b 
     → (solved h s before b at ≡ refused number spot)
     ↔ ((certificate h b at ≡ refused number spot) ⊎ ((c : CertificateFields) × (next : ℕ) × (certificate h b at ≡ got c next) × (number ≡ unsolved c)
     × (spot ≡ length before) × (solves_in h s c ≡ false)))
-unfolding solved require bind onward
+unfolding solved
 solved-refused h s before b at number spot = (to, from)
   where
     due : CertificateFields → Reader CertificateFields
     due c = require (solves_in h s c) (unsolved c) (length before) >> give c
 
-    failed : (c : CertificateFields) (next : ℕ) (ok : Bool) → (require ok (unsolved c) (length before) >> give c) b next ≡ refused number spot
-        → (number ≡ unsolved c) × (spot ≡ length before) × (ok ≡ false)
-    failed c next true e = impossible cc
-    failed c next false e = let n : unsolved c ≡ number = cc in let p : length before ≡ spot = cc in (sym n, sym p, refl)
+    whole : (solved h s before b at ≡ refused number spot)
+        ↔ ((certificate h b at ≡ refused number spot)
+        ⊎ ((c : CertificateFields) × (next : ℕ) × (certificate h b at ≡ got c next) × (due c b next ≡ refused number spot)))
+    whole = and_then-refused b (certificate h b at) due number spot
+
+    tested : (c : CertificateFields) (next : ℕ) → (due c b next ≡ refused number spot)
+        ↔ ((number ≡ unsolved c) × (spot ≡ length before) × (solves_in h s c ≡ false))
+    tested c next =
+        let law = tested-refused (solves_in h s c) (unsolved c) (length before) (give c) b next number spot in
+        ((λ e. ⊎_elim (λ q. q) (λ (_, never). impossible cc) (law.0 e)), λ q. law.1 (inl q))
 
     to : solved h s before b at ≡ refused number spot
         → (certificate h b at ≡ refused number spot) ⊎ ((c : CertificateFields) × (next : ℕ) × (certificate h b at ≡ got c next)
         × (number ≡ unsolved c) × (spot ≡ length before) × (solves_in h s c ≡ false))
-    to e = ⊎_elim (λ q. inl q) (λ (c, next, is, q). let f = failed c next (solves_in h s c) q in inr (c, next, is, f.0, f.1, f.2))
-        ((and_then-refused b (certificate h b at) due number spot).0 e)
+    to e = ⊎_elim (λ q. inl q) (λ (c, next, is, q). let f = (tested c next).0 q in inr (c, next, is, f.0, f.1, f.2)) (whole.0 e)
 
     from : (certificate h b at ≡ refused number spot) ⊎ ((c : CertificateFields) × (next : ℕ) × (certificate h b at ≡ got c next)
         × (number ≡ unsolved c) × (spot ≡ length before) × (solves_in h s c ≡ false))
         → solved h s before b at ≡ refused number spot
-    from = ⊎_elim (λ e. rw e) (λ (c, next, is, n, p, q). rw (is, n, p, q))
+    from = ⊎_elim (λ e. whole.1 (inl e)) (λ (c, next, is, n, p, q). whole.1 (inr (c, next, is, (tested c next).1 (n, p, q))))

@@ -1,11 +1,10 @@
 -- Reading the terms of a certificate in a loop, with their sums.
-use Rattle.std.specs.Prelude.{◌≡◌, Bool, true, false, cond, ◌&&◌, List, [], ◌∷◌, ◌++◌, ℕ, zero, suc, ◌+◌, ◌*◌, ◌-◌, ◌≤◌, ◌<◌, leb, length, get_or, take, drop, set, replicate}
+use Rattle.std.specs.Prelude.{◌≡◌, Bool, true, false, cond, ◌&&◌, Option, List, [], ◌∷◌, ◌++◌, ℕ, ◌+◌, ◌*◌, ◌-◌, ◌≤◌, ◌<◌, leb, length, get_or, drop, set, replicate}
 use Rattle.std.proofs.Math.Path.{refl}
-use Rattle.std.proofs.Common.{sym, ap, ◌∙◌, subst, ⊎_elim, ltb-true, lt-ltb, get_or-drop}
+use Rattle.std.proofs.Common.{sym, ap, ◌∙◌, subst, ltb-true, lt-ltb, get_or-drop}
 use native.Mathlib.Omega.{arith}
-use Rattle.std.proofs.Math.ListN.{get_or-eq_default}
-use Rattle.laws.specs.Booleans.{impossible, lt_or_le}
-use Rattle.laws.specs.Lists.{get_d_copies}
+use Rattle.laws.specs.Booleans.{impossible}
+use Rattle.laws.specs.Lists.{tabulate}
 use Rattle.laws.specs.Bits.{bit}
 use Rattle.laws.specs.Numbers.{number_at}
 use Rattle.limits.specs.Limits.{max_events, max_terms}
@@ -13,17 +12,20 @@ use Rattle.refusals.specs.Table.{bundle_end_number, value_number}
 use Rattle.refusals.specs.Results.{value, refused, bind}
 use Rattle.nets.specs.Nets.{Counts, at}
 use Rattle.rows.specs.Rows.{row_size, new_row, none, row_at, rows_of}
-use Rattle.rows.specs.Flat.{rows_at, counts-row_at, length-rows}
+use Rattle.rows.specs.Flat.{rows_at}
 use Rattle.bundles.specs.Reading.{Read, Reader, got, item, ◌>>=◌, and_then, give, field, byte, number, times, onward}
-use Rattle.bundles.specs.Readers.{anything, term, weights}
+use Rattle.bundles.specs.Readers.{anything, term, pairs, weights}
 use Rattle.bundles.specs.ReadingLaws.{and_then-got, ranged}
-use Rattle.bundles.specs.Chains.{map_read}
+use Rattle.bundles.specs.Chains.{map_read, mapped}
 use Rattle.bundles.specs.TermReading.{made_term, behind_event, behind_row}
 use Rattle.bundles.specs.FieldReading.{below, up_to, byte-there, number-there, byte-got}
 use Rattle.bundles.specs.WordReading.{rest, rest_all, rest-none, rest_more, rest-failed}
-use Rattle.bundles.specs.Layout.{TermFields, kind1, Head, rows_in}
-use Rattle.weights.specs.Terms.{row_of, holds_rows, holds_by, weighed_by, weighed_terms}
-use Rattle.weights.specs.Totals.{max_number, SmallRows, added, added_weight, sums_hold, Summed, summed-none, summed-next, summed-holds, room-before, room-event}
+use Rattle.bundles.specs.Layout.{TermFields, PairFields, WeightFields, kind1, Head, rows_in}
+use Rattle.pairs.specs.Pairs.{row_of, all_noted, paired_rows}
+use Rattle.pairs.specs.PairSums.{small-rows}
+use Rattle.weights.specs.Terms.{holds_rows, holds_by, weighed_by, weighed_pairs, weighed_terms}
+use Rattle.weights.specs.Totals.{max_number, added, added_weight, sums_hold, paired_hold, Summed, summed-none, summed-next, room-before, room-event}
+use Rattle.weights.specs.PairedTotals.{summed-paired, summed-alone}
 use Rattle.weights.specs.declared.Sums.{Sums}
 
 -- ---- a term that was read
@@ -34,7 +36,8 @@ unfolding number field
 number_in p b from x next e = go (leb (from + 2) (length b)) (p (number_at b from)) refl e
   where
     go : (there : Bool) (good : Bool) → p (number_at b from) ≡ good
-        → cond there (cond good (got (number_at b from) (from + 2)) (refused value_number from)) (refused bundle_end_number from) ≡ got x next → p x ≡ true
+        → cond there (cond good (got (number_at b from) (from + 2)) (refused value_number from)) (refused bundle_end_number from) ≡ got x next
+        → p x ≡ true
     go true true g q = let value : number_at b from ≡ x = cc in ap p (sym value) ∙ g
     go true false g q = impossible cc
     go false good g q = impossible cc
@@ -62,25 +65,15 @@ unfolding term bind onward ranged
 term-there n row_count b from there row event =
     let third : from + 2 + 1 ≡ from + 3 = omega arith in
     let end : from + 3 + 2 ≡ from + 5 = omega arith in
-    sym (rw (number-there (below row_count) b from (omega arith), lt-ltb _ _ row, byte-there (below n) b (from + 2) (omega arith), lt-ltb _ _ event, third, number-there anything b (from + 3) (omega arith), end) refl)
-
--- ---- the counts of a table
-
-at_take : (n : ℕ) (l : List ℕ) (i : ℕ) → get_or (take n l) i 0 ≤ get_or l i 0
-at_take zero l i = omega arith
-at_take (suc n) [] i = omega arith
-at_take (suc n) (x ∷ l) zero = omega arith
-at_take (suc n) (x ∷ l) (suc i) = at_take n l i
-
--- a row of a table of two-byte numbers, and all of them
-small_row : (t : List ℕ) → ((i : ℕ) → get_or t i 0 ≤ max_number) → (r i : ℕ) → at (row_at (drop (row_size * r) t)).counts i ≤ max_number
-small_row t h r i = rw counts-row_at (omega (arith, at_take max_events (drop (row_size * r) t) i, get_or-drop (row_size * r) t i 0, h (row_size * r + i)))
-
-small-rows : (k : ℕ) (t : List ℕ) → ((i : ℕ) → get_or t i 0 ≤ max_number) → SmallRows (rows_of k t)
-small-rows k t h r i = ⊎_elim
-    (λ b. rw (rows_at k t r (new_row none) b) (small_row t h r i))
-    (λ b. rw (get_or-eq_default (rows_of k t) (new_row none) {n = r} (omega (arith, length-rows k t))) (omega (arith, get_d_copies {A = ℕ} max_events i 0)))
-    (lt_or_le r k)
+    sym (rw (
+      number-there (below row_count) b from (omega arith),
+      lt-ltb _ _ row,
+      byte-there (below n) b (from + 2) (omega arith),
+      lt-ltb _ _ event,
+      third,
+      number-there anything b (from + 3) (omega arith),
+      end,
+    ) refl)
 
 -- ---- the loop
 
@@ -100,7 +93,8 @@ pub record HasRoom (t : List ℕ) (s : Sums) (x : TermFields) : Type 0 where
   pub row : row_size * x.row + row_size ≤ length t
   pub event : x.event < max_events
   pub total_room : s.total + x.weight ≤ max_terms * max_number
-  pub before_room : (i : ℕ) → at s.before i + added_weight (s.total + x.weight) x.weight * at (row_at (drop (row_size * x.row) t)).counts i ≤ max_number * max_number
+  pub before_room : (i : ℕ)
+      → at s.before i + added_weight (s.total + x.weight) x.weight * at (row_at (drop (row_size * x.row) t)).counts i ≤ max_number * max_number
   pub event_room : at s.of_event x.event + added_weight (s.total + x.weight) x.weight ≤ max_number
 
 -- the sums with a term more, whose row is in the table t
@@ -120,23 +114,39 @@ no_sums = record { total = 0; before = replicate max_events 0; of_event = replic
 
 module _ (n row_count : ℕ) (t b : List ℕ) (from count : ℕ) where
   pub terms-start : TermsLeft n row_count t b from count from count no_sums
-  terms-start = record { terms = []; same = rest_all (λ before. term n row_count) b count from; few = omega arith; summed = summed-none (rows_of row_count t) }
+  terms-start =
+      record { terms = []; same = rest_all (λ before. term n row_count) b count from; few = omega arith; summed = summed-none (rows_of row_count t) }
 
   module _ {next left : ℕ} {s : Sums} (l : TermsLeft n row_count t b from count next left s) where
-    -- all terms are read
-    pub terms-done : left ≤ 0 → (v : Counts) (e k : ℕ) → k ≤ max_number
-        → weighed_terms (holds_rows (rows_of row_count t) v e k) (times count (term n row_count)) b from
+    -- all terms are read: whether these sums hold with those of the pairs behind them, and without any
+    pub terms-done : left ≤ 0 → (noted : List (Option ℕ)) (v : Counts) (e k : ℕ) → k ≤ max_number → (behind : Reader (List PairFields))
+        → weighed_terms (holds_rows (rows_of row_count t) noted v e) k behind (times count (term n row_count)) b from
+        ≡ mapped (λ qs. s.allowed && all_noted noted qs && leb s.total k
+        && paired_hold s.before s.of_event (tabulate max_events (paired_rows (rows_of row_count t) noted qs)) v e k) behind b next
+    unfolding bind onward map_read
+    terms-done h noted v e k most behind = let none : left ≡ 0 = omega arith in rw (l.same, none, rest-none) (go (behind b next))
+      where
+        go : (m : Read (List PairFields))
+            → map_read (λ qs. holds_rows (rows_of row_count t) noted v e (record { k = k; terms = l.terms; pairs = qs })) m
+            ≡ map_read (λ qs. s.allowed && all_noted noted qs && leb s.total k
+            && paired_hold s.before s.of_event (tabulate max_events (paired_rows (rows_of row_count t) noted qs)) v e k) m
+        go (value (item qs next)) = ap (λ (x : Bool). got x next) (sym (summed-paired (rows_of row_count t) l.summed noted v e k most qs))
+        go (refused number spot) = refl
+
+    pub terms-alone : left ≤ 0 → (noted : List (Option ℕ)) (v : Counts) (e k : ℕ) → k ≤ max_number
+        → weighed_terms (holds_rows (rows_of row_count t) noted v e) k (give []) (times count (term n row_count)) b from
         ≡ got (s.allowed && leb s.total k && sums_hold s.before s.of_event v e k) next
-    unfolding map_read
-    terms-done h v e k most =
+    unfolding bind onward map_read
+    terms-alone h noted v e k most =
         let none : left ≡ 0 = omega arith in
-        rw (l.same, none, rest-none, summed-holds (rows_of row_count t) l.summed v e k most)
+        rw (l.same, none, rest-none, summed-alone (rows_of row_count t) l.summed noted v e k most)
 
     module _ (more : 0 < left) where
-      pub terms-failed : (test : List TermFields → Bool) {number spot : ℕ} → term n row_count b next ≡ refused number spot
-          → weighed_terms test (times count (term n row_count)) b from ≡ refused number spot
-      unfolding map_read
-      terms-failed test {number} {spot} e = rw (l.same, rest-failed (λ before. term n row_count) b left l.terms next number spot more e)
+      pub terms-failed : (test : WeightFields → Bool) (k : ℕ) (behind : Reader (List PairFields)) {number spot : ℕ}
+          → term n row_count b next ≡ refused number spot
+          → weighed_terms test k behind (times count (term n row_count)) b from ≡ refused number spot
+      unfolding bind onward map_read
+      terms-failed test k behind {number} {spot} e = rw (l.same, rest-failed (λ before. term n row_count) b left l.terms next number spot more e)
 
       -- the next term
       module _ {x : TermFields} {after : ℕ} (read : term n row_count b next ≡ got x after) (two_bytes : x.weight ≤ max_number)
@@ -162,21 +172,23 @@ module _ (n row_count : ℕ) (t b : List ℕ) (from count : ℕ) where
           terms = l.terms ++ x ∷ [];
           same = l.same ∙ rest_more (λ before. term n row_count) b left l.terms next x after more read;
           few = omega (arith, l.few);
-          summed = rw (← mask-row_at t (row_size * x.row), ← is) (summed-next (rows_of row_count t) (small-rows row_count t numbers) l.summed x (omega (arith, bounds.event)));
+          summed = rw (← mask-row_at t (row_size * x.row), ← is)
+              (summed-next (rows_of row_count t) (small-rows row_count t numbers) l.summed x (omega (arith, bounds.event)));
         }
 
 -- ---- the answer
 
 -- the answer by the reads that it makes: behind k, and behind the term count
-module _ (test : ℕ → List TermFields → Bool) (n row_count : ℕ) where
+module _ (test : WeightFields → Bool) (n row_count : ℕ) (behind : Reader (List PairFields)) where
   abbrev pub behind_count : ℕ → ℕ → Reader Bool
-  behind_count k count = weighed_terms (test k) (times count (term n row_count))
+  behind_count k count = weighed_terms test k behind (times count (term n row_count))
 
   abbrev pub behind_factor : ℕ → Reader Bool
   behind_factor k = byte (up_to max_terms) >>= behind_count k
 
-chain : (test : ℕ → List TermFields → Bool) (h : Head) (b : List ℕ) (from : ℕ)
-    → weighed_by test (weights h) b from ≡ (number (leb 1) >>= behind_factor test h.events (length (rows_in h))) b from
+chain : (test : WeightFields → Bool) (h : Head) (b : List ℕ) (from : ℕ)
+    → weighed_by test (weights h) b from
+    ≡ (number (leb 1) >>= behind_factor test h.events (length (rows_in h)) (pairs h.is_new (length h.entries))) b from
 unfolding weights bind onward map_read holds_by
 chain test h b from = by_factor (number (leb 1) b from)
   where
@@ -186,26 +198,41 @@ chain test h b from = by_factor (number (leb 1) b from)
     row_count : ℕ
     row_count = length (rows_in h)
 
-    by_terms : (k : ℕ) (m : Read (List TermFields)) → map_read (holds_by test) (and_then m (λ ts. give (kind1 (record { k = k; terms = ts }))) b) ≡ map_read (test k) m
-    by_terms k (value (item ts next)) = refl
+    behind : Reader (List PairFields)
+    behind = pairs h.is_new (length h.entries)
+
+    by_pairs : (k : ℕ) (ts : List TermFields) (m : Read (List PairFields))
+        → map_read (holds_by test) (and_then m (λ qs. give (kind1 (record { k = k; terms = ts; pairs = qs }))) b)
+        ≡ map_read (λ qs. test (record { k = k; terms = ts; pairs = qs })) m
+    by_pairs k ts (value (item qs next)) = refl
+    by_pairs k ts (refused cause spot) = refl
+
+    by_terms : (k : ℕ) (m : Read (List TermFields))
+        → map_read (holds_by test) (and_then m (λ ts. behind >>= λ qs. give (kind1 (record { k = k; terms = ts; pairs = qs }))) b)
+        ≡ and_then m (λ ts. weighed_pairs test k ts behind) b
+    by_terms k (value (item ts next)) = by_pairs k ts (behind b next)
     by_terms k (refused cause spot) = refl
 
     by_count : (k : ℕ) (m : Read ℕ)
-        → map_read (holds_by test) (and_then m (λ count. times count (term n row_count) >>= λ ts. give (kind1 (record { k = k; terms = ts }))) b)
-        ≡ and_then m (behind_count test n row_count k) b
+        → map_read (holds_by test)
+        (and_then m (λ count. times count (term n row_count) >>= λ ts. behind >>= λ qs. give (kind1 (record { k = k; terms = ts; pairs = qs }))) b)
+        ≡ and_then m (behind_count test n row_count behind k) b
     by_count k (value (item count next)) = by_terms k (times count (term n row_count) b next)
     by_count k (refused cause spot) = refl
 
     by_factor : (m : Read ℕ)
         → map_read (holds_by test)
-        (and_then m (λ k. byte (up_to max_terms) >>= λ count. times count (term n row_count) >>= λ ts. give (kind1 (record { k = k; terms = ts }))) b)
-        ≡ and_then m (behind_factor test n row_count) b
+        (and_then m (λ k. byte (up_to max_terms) >>= λ count. times count (term n row_count)
+        >>= λ ts. behind >>= λ qs. give (kind1 (record { k = k; terms = ts; pairs = qs }))) b)
+        ≡ and_then m (behind_factor test n row_count behind) b
     by_factor (value (item factor next)) = by_count factor (byte (up_to max_terms) b next)
     by_factor (refused cause spot) = refl
 
-pub weights_chain : (test : ℕ → List TermFields → Bool) (h : Head) (n row_count : ℕ) → h.events ≡ n → row_count ≡ length (rows_in h) → (b : List ℕ) (from : ℕ)
-    → weighed_by test (weights h) b from ≡ (number (leb 1) >>= behind_factor test n row_count) b from
+pub weights_chain : (test : WeightFields → Bool) (h : Head) (n row_count : ℕ)
+    → h.events ≡ n → row_count ≡ length (rows_in h) → (b : List ℕ) (from : ℕ)
+    → weighed_by test (weights h) b from ≡ (number (leb 1) >>= behind_factor test n row_count (pairs h.is_new (length h.entries))) b from
 weights_chain test h n row_count events size b from =
+    let behind = pairs h.is_new (length h.entries) in
     chain test h b from
-    ∙ ap (λ (k : ℕ). (number (leb 1) >>= behind_factor test k (length (rows_in h))) b from) events
-    ∙ ap (λ (k : ℕ). (number (leb 1) >>= behind_factor test n k) b from) (sym size)
+    ∙ ap (λ (k : ℕ). (number (leb 1) >>= behind_factor test k (length (rows_in h)) behind) b from) events
+    ∙ ap (λ (k : ℕ). (number (leb 1) >>= behind_factor test n k behind) b from) (sym size)

@@ -1,21 +1,23 @@
 // Whether the weights of a certificate hold, from the rows of the log table.
 #![tactic(auto)]
 
-ghost use Rattle.std.specs.Prelude.{◌≡◌, ℕ, ◌+◌, ◌*◌, ◌≤◌, ◌<◌, length};
+ghost use Rattle.std.specs.Prelude.{◌≡◌, true, ℕ, ◌+◌, ◌*◌, ◌≤◌, ◌<◌, length};
 ghost use Rattle.limits.specs.Limits.{max_events, max_terms};
 ghost use Rattle.nets.specs.Nets.{at};
-ghost use Rattle.bundles.specs.Chains.{ReadAs, ReadBy};
+ghost use Rattle.bundles.specs.Chains.{ReadAs, ReadBy, mapped};
+ghost use Rattle.pairs.specs.PairSums.{Bounded};
 ghost use Rattle.bundles.specs.Reading.{times};
-ghost use Rattle.bundles.specs.Readers.{head_of, term, weights};
+ghost use Rattle.bundles.specs.Readers.{head_of, term, pairs, weights};
 ghost use Rattle.bundles.specs.TermReading.{term_fields};
 ghost use Rattle.weights.specs.Terms.{weighed_terms, weighed_by};
 ghost use Rattle.weights.specs.TermSums.{HasRoom, with_term};
-ghost use Rattle.weights.specs.Totals.{max_number, added_weight, added, sums_hold};
+ghost use Rattle.weights.specs.Totals.{max_number, added_weight, added, sums_hold, paired_hold};
 
 use bundles::Reader;
 use bundles::terms::Term;
 use heads::TakenHead;
 use limits::{MAX_EVENTS, MAX_TERMS};
+use pairs::read_pairs;
 use places::has_bit;
 use refusals::Refusal;
 use rows::{Counts, counts_of, mask_of};
@@ -86,6 +88,25 @@ impl Sums {
         }
         hold
     }
+
+    // The same with the sums of pairs, which are added to those of the weights.
+    fn hold_paired(&self, paired: &[i64; MAX_EVENTS], k: u32, counts: &Counts, event: usize) -> bool
+        requires small { (k ≤ max_number)
+            × ((i : ℕ) → at self.now.before i ≤ max_number * max_number)
+            × ((i : ℕ) → at self.now.of_event i ≤ max_number) }
+        requires bounded { Bounded paired.now }
+        ensures { result ≡ paired_hold self.now.before self.now.of_event paired.now counts.now event k }
+    {
+        let mut hold = true;
+        for (i, count) in counts.iter().enumerate() {
+            let count = u32::from(*count);
+            let sum = i64::from(self.before[i]) + paired[i];
+            hold &= (sum <= i64::from(k * count))
+                & (i64::from(k * (count + u32::from(event == i)))
+                    <= sum + i64::from(self.of_event[i]));
+        }
+        hold
+    }
 }
 
 // The next term, as `Reader::term` reads it, but faster where it is there and in range: its five bytes are tested for at once.
@@ -118,7 +139,7 @@ pub struct Step<'a> {
 }
 
 impl Step<'_> {
-    ghost use Rattle.weights.specs.Steps.{counts_before, holds_for};
+    ghost use Rattle.weights.specs.Steps.{counts_before, holds_for, holds_paired, pairs_for};
 
     // The counts before the event.
     #[inline(always)]
@@ -128,10 +149,25 @@ impl Step<'_> {
         counts_of(self.head.table, self.row)
     }
 
-    // Reads so many terms, and says whether they hold with k for the step.
+    // Reads the pairs behind terms, and says whether the terms' sums hold with them and k for the step. The sums are handed over: so the compiler
+    // keeps them in vectors while terms are added.
+    fn weigh_pairs(&self, reader: &mut Reader, sums: Sums, k: u32) -> Result<bool, Refusal>
+        requires { (k ≤ max_number)
+            × ((i : ℕ) → at sums.before i ≤ max_number * max_number)
+            × ((i : ℕ) → at sums.of_event i ≤ max_number) }
+        ensures { ReadBy reader.old reader.new result
+            (mapped (holds_paired self.now sums k) (pairs true (length (head_of self.now.head.now.net.bundle.now).entries))) }
+    {
+        let pairs = read_pairs(self.head, reader)?;
+        let holds = sums.hold_paired(&pairs.weighed, k, self.counts(), usize::from(self.event));
+        Ok(sums.allowed & pairs.completed & (sums.total <= k) & holds)
+    }
+
+    // Reads so many terms, and in the new edition the pairs behind them, and says whether they hold with k for the step.
     fn weigh_terms(&self, reader: &mut Reader, count: u8, k: u16) -> Result<bool, Refusal>
         requires { count ≤ max_terms }
-        ensures { ReadBy reader.old reader.new result (weighed_terms (holds_for self.now k) (times count (term self.now.head.now.net.n self.now.head.now.rows))) }
+        ensures { ReadBy reader.old reader.new result
+            (weighed_terms (holds_for self.now) k (pairs_for self.now) (times count (term self.now.head.now.net.n self.now.head.now.rows))) }
     {
         let TakenHead {
             net,
@@ -151,12 +187,15 @@ impl Step<'_> {
             sums.add(table, &term);
         }
         let k = u32::from(k);
+        if self.head.is_new {
+            return self.weigh_pairs(reader, sums, k);
+        }
         let holds = sums.hold(k, self.counts(), usize::from(self.event));
         Ok(sums.allowed & (sums.total <= k) & holds)
     }
 
-    // Reads k, the term count and the terms of a certificate, and says whether its weights hold for the step. All of it is read before the answer.
-    // (Inner function.)
+    // Reads k, the term count, the terms and the pairs of a certificate, and says whether its weights hold for the step. All of it is read before
+    // the answer. (Inner function.)
     pub fn read_weights(&self, reader: &mut Reader) -> Result<bool, Refusal>
         ensures { ReadBy reader.old reader.new result (weighed_by (holds_for self.now) (weights (head_of self.now.head.now.net.bundle.now))) }
     {

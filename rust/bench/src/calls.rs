@@ -1,9 +1,10 @@
 //! The calls that are timed, but for those of [`crate::pruning`] and [`crate::words`]. A
 //! further one is a further entry in [`on_files`], [`on_logs`] or [`on_bundles`].
 
-use differential::bundles::SAMPLE_A;
+use differential::bundles::{SAMPLE_A, SAMPLE_NEW};
 use differential::limits::{Size, LARGEST, MIDDLE};
 use differential::rng::Rng;
+use differential::sales::{Sales, LARGEST_NEW, MIDDLE_NEW};
 use hovmekhar::{
     Summary, CONTENTS_SIZE, MAX_BLOCKS, MAX_FILE_SIZE, MAX_LOG_EVENTS, MAX_ROWS, TABLE_SIZE,
 };
@@ -110,6 +111,27 @@ pub fn on_bundles() -> Vec<Call<Vec<u8>, u16>> {
             name: "judge",
             size: "64,512 bytes, 256 rows",
             prepare: || with_table(bundle_of(LARGEST)),
+            ours: judge_ours,
+            reference: judge_reference,
+        },
+        Call {
+            name: "judge",
+            size: "80 bytes, 4 rows, new edition",
+            prepare: || with_table(SAMPLE_NEW.to_vec()),
+            ours: judge_ours,
+            reference: judge_reference,
+        },
+        Call {
+            name: "judge",
+            size: "1,464 bytes, 42 rows, new edition",
+            prepare: || with_table(new_bundle_of(MIDDLE_NEW)),
+            ours: judge_ours,
+            reference: judge_reference,
+        },
+        Call {
+            name: "judge",
+            size: "64,512 bytes, 256 rows, new edition",
+            prepare: || with_table(new_bundle_of(LARGEST_NEW)),
             ours: judge_ours,
             reference: judge_reference,
         },
@@ -240,5 +262,10 @@ fn judge_reference(buffers: &mut Buffers<Vec<u8>, u16>) -> Option<usize> {
 
 /// A bundle of this size, the same in every run.
 fn bundle_of(size: Size) -> Vec<u8> {
+    size.certified(&mut Rng::new(0)).bundle.bytes()
+}
+
+/// The same in the new edition, with completed words and pairs.
+fn new_bundle_of(size: Sales) -> Vec<u8> {
     size.certified(&mut Rng::new(0)).bundle.bytes()
 }

@@ -1,6 +1,8 @@
 //! Nets, and words to screen with them.
 
-use differential::bundles::{Bundle, Place, MAX_PLACES, SAMPLE_A};
+use differential::bundles::{Bundle, Place, MAX_PLACES, SAMPLE_A, SAMPLE_NEW};
+use differential::rng::Rng;
+use differential::sales::LARGEST_NEW;
 use differential::screening::net;
 use hovmekhar::{MAX_EVENTS, MAX_WORD_EVENTS};
 
@@ -24,6 +26,23 @@ pub fn sample_word() -> Screening<1> {
     Screening {
         bundles: [SAMPLE_A.to_vec()],
         word: vec![0, 1],
+    }
+}
+
+/// A completed word, on the net of its log.
+pub fn new_sample_word() -> Screening<1> {
+    Screening {
+        bundles: [SAMPLE_NEW.to_vec()],
+        word: vec![0, 1],
+    }
+}
+
+/// As many sales as a word can have, on the net of the largest bundle of the new edition.
+pub fn longest_sales() -> Screening<1> {
+    let bundle = LARGEST_NEW.certified(&mut Rng::new(0)).bundle;
+    Screening {
+        bundles: [bundle.bytes()],
+        word: [0, 1].repeat(MAX_WORD_EVENTS / 2),
     }
 }
 

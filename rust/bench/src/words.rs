@@ -3,8 +3,8 @@
 
 use crate::calls::{Buffers, Call};
 use crate::nets::{
-    behind, largest_net, longest_stop, longest_word, sample_stop, sample_word, small_net,
-    Screening, AT_ONCE, LAST, NEAR_THE_END,
+    behind, largest_net, longest_sales, longest_stop, longest_word, new_sample_word, sample_stop,
+    sample_word, small_net, Screening, AT_ONCE, LAST, NEAR_THE_END,
 };
 use std::hint::black_box;
 
@@ -50,6 +50,20 @@ pub fn on_one_net() -> Vec<Call<Screening<1>, u8>> {
             name: "screen",
             size: "64 places, 65,535 events, stopped at 1",
             prepare: || without_output(longest_stop(AT_ONCE)),
+            ours: screen_ours,
+            reference: screen_reference,
+        },
+        Call {
+            name: "screen",
+            size: "2 places, 2 events, new edition",
+            prepare: || without_output(new_sample_word()),
+            ours: screen_ours,
+            reference: screen_reference,
+        },
+        Call {
+            name: "screen",
+            size: "64 places, 65,534 events, new edition",
+            prepare: || without_output(longest_sales()),
             ours: screen_ours,
             reference: screen_reference,
         },

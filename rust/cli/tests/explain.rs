@@ -14,6 +14,7 @@ use differential::limits::{LARGEST, MIDDLE, MOST_WORDS};
 use differential::nets::{small_certified, Certified};
 use differential::rng::Rng;
 use differential::run::Run;
+use differential::sales::{LARGEST_NEW, MIDDLE_NEW};
 use reference::{log_rows, Refusal, Tally};
 
 /// Looks at a file: the verdict is the reference's, and it is explained. Returns the
@@ -54,12 +55,13 @@ fn explained(run: &mut Run, file: &[u8]) -> (Vec<String>, Option<Refusal>) {
     (lines, refusal)
 }
 
-/// Looks at a bundle like [`explained`], and checks the words for 10, 11 and 12.
+/// Looks at a bundle like [`explained`], and checks the words for 10, 20, 11 and 12.
 fn explained_bundle(run: &mut Run, bundle: &[u8]) -> (Vec<String>, Option<Refusal>) {
     let (lines, refusal) = explained(run, &build(bundle));
     if let Some(
         refused @ Refusal {
-            number: 10..=12, ..
+            number: 10..=12 | 20,
+            ..
         },
     ) = refusal
     {
@@ -129,10 +131,14 @@ fn accepted_bundles() {
             assert_eq!(page, head.clone() + &body, "{run}");
             let is_kind_0 = body.contains("\nkind 0");
             run.note(if is_kind_0 { "kind 0" } else { "kind 1" });
+            if body.contains("\n  pair 0: ") {
+                run.note("pairs");
+            }
         }
         assert!(look.certificate_page("name", count).is_err(), "{run}");
     }
-    run.finish_with_classes(&[(0, 300)], &[("kind 0", 1_000), ("kind 1", 200)]);
+    let kinds = [("kind 0", 1_000), ("kind 1", 200), ("pairs", 100)];
+    run.finish_with_classes(&[(0, 300)], &kinds);
 }
 
 /// Each way for a bundle to be wrong, with its words.
@@ -156,11 +162,12 @@ fn one_fault() {
     }
     run.finish(&[
         (6, 60),
-        (7, 9 * 60),
-        (10, 3 * 60),
+        (7, 12 * 60),
+        (10, 4 * 60),
         (11, 2 * 60),
-        (12, 10 * 60),
+        (12, 14 * 60),
         (13, 60),
+        (20, 2 * 60),
     ]);
 }
 
@@ -180,6 +187,7 @@ fn check_fault(
             expect_words(run, lines, refused, &words);
         }
         BundleFault::StepNotAllowed => says(", which is not allowed"),
+        BundleFault::PairPartial => says(", which is partial"),
         BundleFault::SumTooLarge => says(": the sum of g is "),
         BundleFault::BeforeTooLarge => says(": the sum of g * u("),
         BundleFault::AfterTooSmall => says(": the sum of g * (u("),
@@ -359,7 +367,7 @@ fn noise() {
         bytes
             .iter_mut()
             .for_each(|byte| *byte = (usize::from(*byte) % small) as u8);
-        bytes[0] = run.rng.below(14) as u8;
+        bytes[0] = (run.rng.choose(&[0, 128]) + run.rng.below(14)) as u8;
         if case % 4 == 0 {
             let file = run
                 .rng
@@ -418,8 +426,10 @@ fn largest_numbers() {
 #[test]
 fn limits() {
     let mut run = Run::start("hov_show_limits");
-    for size in [MIDDLE, LARGEST, MOST_WORDS] {
-        let certified = size.certified(&mut Rng::new(3));
+    let mut rng = Rng::new(3);
+    let old = [MIDDLE, LARGEST, MOST_WORDS].map(|size| size.certified(&mut rng));
+    let new = [MIDDLE_NEW, LARGEST_NEW].map(|size| size.certified(&mut rng));
+    for certified in old.into_iter().chain(new) {
         let (lines, _) = explained(&mut run, &build(&certified.bundle.bytes()));
         assert_eq!(
             lines[3..].join("\n") + "\n",
@@ -433,5 +443,5 @@ fn limits() {
             }
         }
     }
-    run.finish(&[(0, 3)]);
+    run.finish(&[(0, 5)]);
 }

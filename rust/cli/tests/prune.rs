@@ -119,7 +119,7 @@ fn refusals() {
             inputs.push((build(&bundle), refused.number, refused.spot));
         }
     }
-    assert_eq!(inputs.len(), 4 + 8);
+    assert_eq!(inputs.len(), 4 + 9);
     for (bytes, number, spot) in inputs {
         write(directory.join("in"), &bytes);
         for output in ["there", "new", "-"] {

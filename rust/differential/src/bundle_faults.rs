@@ -1,7 +1,9 @@
 //! Bundles that have to be refused, each with one fault, and bundles with several
 //! changes.
 
-use crate::bundles::{Bundle, Certificate, Field, Layout, MAX_PLACES, MAX_TERMS};
+mod completed;
+
+use crate::bundles::{Bundle, Certificate, Field, Layout, MAX_PAIRS, MAX_PLACES, MAX_TERMS, NEW};
 use crate::logs::MAX_EVENTS;
 use crate::nets::{term, weights_but_for, Certified, Step};
 use crate::rng::Rng;
@@ -48,15 +50,30 @@ pub enum BundleFault {
     /// The same, and only one sum of g × (u(i) + \[f = i\]) is too small:
     /// refusal 12.
     AfterTooSmall,
+    /// A place does not obey a completed word: refusal 20.
+    Disobeys,
+    /// Two places do not obey: refusal 20 for the lower one.
+    TwoDisobey,
+    /// A place does not obey, and another does not fit: refusal 10 for the latter.
+    DisobeysAndMisfit,
+    /// The weight of a pair is another: refusal 12.
+    PairWeight,
+    /// A pair is missing: refusal 12.
+    PairDropped,
+    /// A pair is there twice: refusal 12.
+    PairRepeated,
+    /// A further pair, of weight 0 too, has a partial word: refusal 12.
+    PairPartial,
     /// Bytes follow: refusal 13.
     BytesFollow,
 }
 
 impl BundleFault {
     /// All of them.
-    pub const ALL: [BundleFault; 26] = [
+    pub const ALL: [BundleFault; 36] = [
         BundleFault::Cut,
         BundleFault::Value(Field::EventCount),
+        BundleFault::Value(Field::Mark),
         BundleFault::Value(Field::Event),
         BundleFault::Value(Field::PlaceCount),
         BundleFault::Value(Field::Kind),
@@ -65,6 +82,8 @@ impl BundleFault {
         BundleFault::Value(Field::TermCount),
         BundleFault::Value(Field::TermRow),
         BundleFault::Value(Field::TermEvent),
+        BundleFault::Value(Field::PairCount),
+        BundleFault::Value(Field::PairWord),
         BundleFault::InitialTooFew,
         BundleFault::OutTooMany,
         BundleFault::TwoPlaces,
@@ -80,6 +99,13 @@ impl BundleFault {
         BundleFault::SumTooLarge,
         BundleFault::BeforeTooLarge,
         BundleFault::AfterTooSmall,
+        BundleFault::Disobeys,
+        BundleFault::TwoDisobey,
+        BundleFault::DisobeysAndMisfit,
+        BundleFault::PairWeight,
+        BundleFault::PairDropped,
+        BundleFault::PairRepeated,
+        BundleFault::PairPartial,
         BundleFault::BytesFollow,
     ];
 
@@ -142,6 +168,16 @@ impl BundleFault {
                 let spot = self.break_one_inequality(rng, &mut changed)?;
                 Refusal { number: 12, spot }
             }
+            BundleFault::Disobeys | BundleFault::TwoDisobey | BundleFault::DisobeysAndMisfit => {
+                completed::break_obedience(self, rng, &mut changed)?
+            }
+            BundleFault::PairWeight
+            | BundleFault::PairDropped
+            | BundleFault::PairRepeated
+            | BundleFault::PairPartial => {
+                let spot = completed::change_pairs(self, rng, &mut changed)?;
+                Refusal { number: 12, spot }
+            }
         };
         Some((changed.bundle.bytes(), refusal))
     }
@@ -152,7 +188,7 @@ impl BundleFault {
     fn change_weights(self, rng: &mut Rng, changed: &mut Certified) -> Option<usize> {
         let wrong = changed.wrong_continuations();
         let number = any_of_kind_1(rng, changed)?;
-        let Certificate::Weights { k, terms } = &mut changed.bundle.certificates[number] else {
+        let Certificate::Weights { k, terms, .. } = &mut changed.bundle.certificates[number] else {
             return None;
         };
         let any = any_below(rng, terms.len())?;
@@ -192,7 +228,7 @@ impl BundleFault {
         };
         let number = any_of_kind_0(rng, changed)?;
         let step = changed.wrong_continuations()[number];
-        let weights = weights_but_for(rng, &changed.rows, step, inequality)?;
+        let weights = weights_but_for(rng, &changed.rows, &changed.completed(), step, inequality)?;
         changed.bundle.certificates[number] = weights;
         Some(number)
     }
@@ -264,7 +300,22 @@ fn wrong_value(rng: &mut Rng, certified: &Certified, field: Field) -> usize {
     let n = certified.bundle.n;
     let rows = certified.rows.len();
     match field {
-        Field::EventCount => rng.choose(&[0, MAX_EVENTS + 1, MAX_EVENTS + 2, 128, 255]),
+        Field::EventCount => {
+            let between = rng.within(MAX_EVENTS + 1..=NEW);
+            let above = rng.within(NEW + MAX_EVENTS + 1..=255);
+            rng.choose(&[
+                0,
+                MAX_EVENTS + 1,
+                NEW,
+                NEW + MAX_EVENTS + 1,
+                255,
+                between,
+                above,
+            ])
+        }
+        Field::Mark => from(rng, 2, 255),
+        Field::PairCount => from(rng, MAX_PAIRS + 1, 255),
+        Field::PairWord => from(rng, certified.bundle.words.len(), 255),
         Field::Event | Field::TermEvent => from(rng, n, 255),
         Field::PlaceCount => from(rng, MAX_PLACES + 1, 255),
         Field::Kind => from(rng, 2, 255),

@@ -1,9 +1,12 @@
 //! Bundles: their parts, and the fields that these are written as.
 
+mod known;
+
 use crate::files::MAX_BUNDLE_SIZE;
-use crate::run::{refusal, Outcome};
-use reference::Tally;
 use std::ops::Range;
+
+pub use known::{five_long_words, one_for_each_answer, unbalanced};
+pub use known::{SAMPLE_A, SAMPLE_E, SAMPLE_F, SAMPLE_G, SAMPLE_H, SAMPLE_NEW};
 
 /// The largest number of words.
 pub const MAX_WORDS: usize = 255;
@@ -13,6 +16,10 @@ pub const MAX_LENGTH: usize = 255;
 pub const MAX_PLACES: usize = 64;
 /// The largest number of terms in a certificate.
 pub const MAX_TERMS: usize = 64;
+/// The largest number of pairs in a certificate.
+pub const MAX_PAIRS: usize = 64;
+/// By how much the first byte of the new edition is above the event count.
+pub const NEW: usize = 128;
 
 /// What a bundle says. It may be one that has to be refused, as long as there are
 /// bytes for it.
@@ -22,6 +29,9 @@ pub struct Bundle {
     pub n: usize,
     /// The log.
     pub words: Vec<Vec<u8>>,
+    /// In the new edition for each word whether it is completed; a word without a mark
+    /// is partial.
+    pub marks: Option<Vec<bool>>,
     /// The net.
     pub places: Vec<Place>,
     /// One certificate for each wrong continuation.
@@ -50,7 +60,19 @@ pub enum Certificate {
         k: u16,
         /// The weights.
         terms: Vec<Term>,
+        /// The weights on completed words, in the new edition.
+        pairs: Vec<Pair>,
     },
+}
+
+impl Certificate {
+    /// The weights on completed words.
+    pub fn pairs(&self) -> &[Pair] {
+        match self {
+            Certificate::Place(_) => &[],
+            Certificate::Weights { pairs, .. } => pairs,
+        }
+    }
 }
 
 /// A weight on a step.
@@ -64,6 +86,15 @@ pub struct Term {
     pub weight: u16,
 }
 
+/// A signed weight on a completed word.
+#[derive(Clone, Copy, Debug, PartialEq, Eq)]
+pub struct Pair {
+    /// The word's number.
+    pub word: u8,
+    /// The weight.
+    pub weight: i16,
+}
+
 /// What a field of a bundle holds.
 #[derive(Clone, Copy, Debug, PartialEq, Eq)]
 pub enum Field {
@@ -73,6 +104,8 @@ pub enum Field {
     WordCount,
     /// How many events a word has.
     Length,
+    /// Whether a word is completed, in the new edition.
+    Mark,
     /// An event of a word.
     Event,
     /// How many places there are.
@@ -97,6 +130,12 @@ pub enum Field {
     TermEvent,
     /// The weight of a term.
     Weight,
+    /// How many pairs a certificate has, in the new edition.
+    PairCount,
+    /// The word of a pair.
+    PairWord,
+    /// The weight of a pair.
+    PairWeight,
 }
 
 /// The bytes of a bundle, and where its fields are.
@@ -142,10 +181,14 @@ impl Bundle {
     /// The bytes and the fields.
     pub fn layout(&self) -> Layout {
         let mut layout = Layout::default();
-        layout.byte(Field::EventCount, self.n);
+        let edition = if self.is_new() { NEW } else { 0 };
+        layout.byte(Field::EventCount, edition + self.n);
         layout.byte(Field::WordCount, self.words.len());
-        for word in &self.words {
+        for (number, word) in self.words.iter().enumerate() {
             layout.byte(Field::Length, word.len());
+            if self.is_new() {
+                layout.byte(Field::Mark, self.is_completed(number).into());
+            }
             for &event in word {
                 layout.byte(Field::Event, event.into());
             }
@@ -167,7 +210,7 @@ impl Bundle {
                     layout.byte(Field::Kind, 0);
                     layout.byte(Field::Listed, (*place).into());
                 }
-                Certificate::Weights { k, terms } => {
+                Certificate::Weights { k, terms, pairs } => {
                     layout.byte(Field::Kind, 1);
                     layout.number(Field::K, *k);
                     layout.byte(Field::TermCount, terms.len());
@@ -176,11 +219,35 @@ impl Bundle {
                         layout.byte(Field::TermEvent, term.event.into());
                         layout.number(Field::Weight, term.weight);
                     }
+                    self.lay_pairs(&mut layout, pairs);
                 }
             }
             layout.certificate_ends.push(layout.bytes.len());
         }
         layout
+    }
+
+    fn lay_pairs(&self, layout: &mut Layout, pairs: &[Pair]) {
+        if !self.is_new() {
+            assert!(pairs.is_empty(), "the old edition has no pairs");
+            return;
+        }
+        layout.byte(Field::PairCount, pairs.len());
+        for pair in pairs {
+            layout.byte(Field::PairWord, pair.word.into());
+            layout.number(Field::PairWeight, pair.weight as u16);
+        }
+    }
+
+    /// Whether it has the new edition.
+    pub fn is_new(&self) -> bool {
+        self.marks.is_some()
+    }
+
+    /// Whether the word with this number is completed.
+    pub fn is_completed(&self, word: usize) -> bool {
+        let marks = self.marks.as_deref().unwrap_or_default();
+        marks.get(word) == Some(&true)
     }
 
     /// The bytes.
@@ -192,73 +259,4 @@ impl Bundle {
     pub fn has_allowed_length(&self) -> bool {
         self.bytes().len() <= MAX_BUNDLE_SIZE
     }
-}
-
-/// Sample A: 53 bytes, accepted with the counts 5 4 5 1.
-pub const SAMPLE_A: [u8; 53] = [
-    // Two events and the words 1 and 0 0 1.
-    2, 2, 1, 1, 3, 0, 0, 1, //
-    // Two places.
-    2, 1, 0, 1, 0, 0, 0, 1, 0, 1, 0, //
-    2, 0, 0, 0, 0, 0, 1, 0, 0, 0, //
-    // Six certificates, the third of kind 1.
-    0, 0, //
-    0, 0, //
-    1, 2, 0, 2, 0, 0, 1, 1, 0, 3, 0, 1, 1, 0, //
-    0, 1, //
-    0, 0, //
-    0, 0,
-];
-
-/// Sample E: no word; one place refuses the only event.
-pub const SAMPLE_E: [u8; 11] = [1, 0, 1, 0, 0, 0, 0, 1, 0, 0, 0];
-
-/// Sample F: the certificate is missing.
-pub const SAMPLE_F: [u8; 3] = [1, 0, 0];
-
-/// Sample G: a certificate of kind 1 without terms.
-pub const SAMPLE_G: [u8; 7] = [1, 0, 0, 1, 1, 0, 0];
-
-/// Sample H: the same with k = 0.
-pub const SAMPLE_H: [u8; 7] = [1, 0, 0, 1, 0, 0, 0];
-
-/// Five words of 255 events 0, of `n` events. With the last the events pass 1,024, so it is
-/// refused with 8 at offset 2 + 4 × 256.
-pub fn five_long_words(n: u8) -> Vec<u8> {
-    let word = [[255].as_slice(), &[0; 255]].concat();
-    [vec![n, 5], word.repeat(5)].concat()
-}
-
-/// A bundle for each answer of the judge that does not depend on the table.
-pub fn one_for_each_answer() -> [(Vec<u8>, Outcome<Tally>); 10] {
-    let changed = |position: usize, value| {
-        let mut bundle = SAMPLE_A.to_vec();
-        bundle[position] = value;
-        bundle
-    };
-    let counts = Tally {
-        rows: 5,
-        allowed: 4,
-        by_place: 5,
-        by_weights: 1,
-    };
-    let long_word = [[255].as_slice(), &[0; 255]].concat();
-    [
-        (SAMPLE_A.to_vec(), Ok(counts)),
-        (Vec::new(), refusal(4, 0)),
-        (SAMPLE_F.to_vec(), refusal(6, 3)),
-        (SAMPLE_H.to_vec(), refusal(7, 4)),
-        (five_long_words(1), refusal(8, 2 + 4 * 256)),
-        // A word of 255 events 0, which needs all rows, and the word 1.
-        (
-            [vec![2, 2], long_word, vec![1, 1]].concat(),
-            refusal(9, 2 + 256),
-        ),
-        // The first place without a token.
-        (changed(9, 0), refusal(10, 0)),
-        // The second place for the first wrong continuation.
-        (changed(30, 1), refusal(11, 0)),
-        (SAMPLE_G.to_vec(), refusal(12, 0)),
-        ([SAMPLE_A.as_slice(), &[0]].concat(), refusal(13, 53)),
-    ]
 }

@@ -2,10 +2,29 @@
 //! reference, kept as close to their wording as possible and without regard to
 //! speed.
 
-use crate::logs::MAX_LOG_EVENTS;
+use crate::logs::{counts_below, MAX_LOG_EVENTS};
 use crate::places::Place;
 use crate::run::{refusal, Outcome};
 use reference::log_rows;
+
+/// The log of a bundle.
+pub struct Log {
+    /// Its words.
+    pub words: Vec<Vec<u8>>,
+    /// In the new edition for each word whether it is completed.
+    pub marks: Option<Vec<bool>>,
+}
+
+impl Log {
+    /// How often each event below `n` occurs in a word, where it is completed. Nothing
+    /// for a partial word.
+    pub fn completed(&self, n: usize, word: usize) -> Option<Vec<usize>> {
+        if !self.marks.as_ref()?[word] {
+            return None;
+        }
+        Some(counts_below(n, &self.words[word]))
+    }
+}
 
 /// A bundle, and the offset of its next field.
 pub struct Fields<'b> {
@@ -52,15 +71,40 @@ impl<'b> Fields<'b> {
         Ok(value)
     }
 
-    /// The words of a log, which may have so many rows.
-    pub fn words(&mut self, n: usize, most_rows: usize) -> Outcome<Vec<Vec<u8>>> {
+    /// The first field: the event count, and whether the edition is the new one.
+    pub fn event_count(&mut self) -> Outcome<(usize, bool)> {
+        let (value, offset) = self.field(1)?;
+        match value {
+            1..=12 => Ok((value, false)),
+            129..=140 => Ok((value - 128, true)),
+            _ => refusal(7, offset),
+        }
+    }
+
+    /// A field of two bytes in two's complement.
+    pub fn signed(&mut self) -> Outcome<i32> {
+        let value = self.field(2)?.0 as i32;
+        Ok(if value < 32_768 {
+            value
+        } else {
+            value - 65_536
+        })
+    }
+
+    /// The words of a log, which may have so many rows, and in the new edition their
+    /// marks.
+    pub fn log(&mut self, n: usize, is_new: bool, most_rows: usize) -> Outcome<Log> {
         let mut words: Vec<Vec<u8>> = Vec::new();
+        let mut marks = Vec::new();
         let mut events = 0;
         for _ in 0..self.within(1, 0, 255)? {
             let (length, offset) = self.field(1)?;
             events += length;
             if events > MAX_LOG_EVENTS {
                 return refusal(8, offset);
+            }
+            if is_new {
+                marks.push(self.within(1, 0, 1)? == 1);
             }
             let mut word = Vec::new();
             for _ in 0..length {
@@ -72,7 +116,8 @@ impl<'b> Fields<'b> {
                 return refusal(9, offset);
             }
         }
-        Ok(words)
+        let marks = is_new.then_some(marks);
+        Ok(Log { words, marks })
     }
 
     /// The places of a net.

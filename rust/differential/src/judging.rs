@@ -5,6 +5,7 @@
 use crate::fields::Fields;
 use crate::files::MAX_BUNDLE_SIZE;
 use crate::logs::{table_of, MAX_ROWS, TABLE};
+use crate::places::Place;
 use crate::run::{refusal, Outcome, Run};
 use reference::{log_rows, Row, Tally};
 
@@ -41,12 +42,19 @@ pub fn reference_verdict(file: &[u8]) -> Outcome<Tally> {
 
 /// Reads a whole bundle. Gives back the counts and the table.
 fn accepted(fields: &mut Fields) -> Outcome<(Tally, Vec<u16>)> {
-    let n = fields.within(1, 1, 12)?;
-    let words = fields.words(n, MAX_ROWS)?;
-    let rows = log_rows(n, &words);
+    let (n, is_new) = fields.event_count()?;
+    let log = fields.log(n, is_new, MAX_ROWS)?;
+    let rows = log_rows(n, &log.words);
     let places = fields.places(n)?;
     if let Some(lowest) = places.iter().position(|place| !place.fits(&rows)) {
         return refusal(10, lowest);
+    }
+    let completed: Vec<_> = (0..log.words.len())
+        .map(|word| log.completed(n, word))
+        .collect();
+    let obeys = |place: &Place| completed.iter().flatten().all(|u| place.returns(u));
+    if let Some(lowest) = places.iter().position(|place| !obeys(place)) {
+        return refusal(20, lowest);
     }
 
     let mut counts = Tally {
@@ -71,7 +79,10 @@ fn accepted(fields: &mut Fields) -> Outcome<(Tally, Vec<u16>)> {
                     counts.by_place += 1;
                 }
                 _ => {
-                    let weights = weights(fields, n, rows.len())?;
+                    let mut weights = weights(fields, n, rows.len())?;
+                    if is_new {
+                        weights.pairs = pairs(fields, &completed)?;
+                    }
                     if !weights.hold(&rows, &row.counts, e) {
                         return refusal(12, number);
                     }
@@ -82,13 +93,20 @@ fn accepted(fields: &mut Fields) -> Outcome<(Tally, Vec<u16>)> {
         }
     }
     fields.finish()?;
-    Ok((counts, table_of(n, &words)))
+    Ok((counts, table_of(n, &log.words)))
 }
 
 /// A certificate of kind 1.
 struct Weights {
     k: i128,
     terms: Vec<Term>,
+    pairs: Vec<Pair>,
+}
+
+/// The weight h on a word with the counts u; nothing for a partial word.
+struct Pair {
+    u: Option<Vec<usize>>,
+    h: i128,
 }
 
 /// The weight g on the step (u, f), with u by its row.
@@ -108,11 +126,25 @@ fn weights(fields: &mut Fields, n: usize, rows: usize) -> Outcome<Weights> {
         let g = fields.field(2)?.0 as i128;
         terms.push(Term { u, f, g });
     }
-    Ok(Weights { k, terms })
+    let pairs = Vec::new();
+    Ok(Weights { k, terms, pairs })
+}
+
+/// Reads the second list of a certificate of kind 1.
+fn pairs(fields: &mut Fields, completed: &[Option<Vec<usize>>]) -> Outcome<Vec<Pair>> {
+    let mut pairs = Vec::new();
+    for _ in 0..fields.within(1, 0, 64)? {
+        let word = fields.one_of(1, completed.len())?;
+        let h = fields.signed()?.into();
+        let u = completed[word].clone();
+        pairs.push(Pair { u, h });
+    }
+    Ok(pairs)
 }
 
 impl Weights {
-    /// Whether the steps are allowed and the inequalities hold for (v, e).
+    /// Whether the steps are allowed, the words completed, and the inequalities hold
+    /// for (v, e).
     fn hold(&self, rows: &[Row], v: &[usize], e: usize) -> bool {
         let sum = |factor: &dyn Fn(&Term) -> i128| -> i128 {
             self.terms.iter().map(|term| term.g * factor(term)).sum()
@@ -121,12 +153,24 @@ impl Weights {
         let u = |term: &Term, i: usize| rows[term.u].counts[i] as i128;
         let v = |i: usize| v[i] as i128;
         let n = rows[0].counts.len();
+        let Some(words) = self.words() else {
+            return false;
+        };
+        let of_words = |i: usize| -> i128 { words.iter().map(|(h, u)| h * u[i] as i128).sum() };
 
         self.terms.iter().all(|term| rows[term.u].allowed[term.f])
             && sum(&|_| 1) <= self.k
-            && (0..n).all(|i| sum(&|term| u(term, i)) <= self.k * v(i))
+            && (0..n).all(|i| sum(&|term| u(term, i)) + of_words(i) <= self.k * v(i))
             && (0..n).all(|i| {
-                sum(&|term| u(term, i) + one_if(term.f == i)) >= self.k * (v(i) + one_if(e == i))
+                let after = sum(&|term| u(term, i) + one_if(term.f == i));
+                after + of_words(i) >= self.k * (v(i) + one_if(e == i))
             })
+    }
+
+    /// The weight of each pair, and the counts of its word. Nothing when one of them
+    /// is partial.
+    fn words(&self) -> Option<Vec<(i128, &Vec<usize>)>> {
+        let pairs = self.pairs.iter();
+        pairs.map(|pair| Some((pair.h, pair.u.as_ref()?))).collect()
     }
 }

@@ -8,11 +8,13 @@
 //! - [`logs`]: logs and log tables.
 //! - [`bundles`]: bundles and their fields.
 //! - [`nets`]: nets and certificates for logs, with the method of [`simplex`].
-//! - [`limits`]: bundles up to the limits.
-//! - [`bundle_faults`]: bundles that have to be refused.
+//! - [`limits`], [`sales`]: bundles up to the limits, in the old edition and the new.
+//! - [`bundle_faults`], [`ordered_faults`]: bundles that have to be refused, for one fault or
+//!   for the first of several.
 //! - [`fields`], [`places`]: reading a bundle, and its places, by the definitions.
 //! - [`judging`], [`pruning`], [`screening`]: judging, pruning and screening, by the
 //!   definitions.
+//! - [`comparing`]: two accepted files compared.
 //! - [`long_words`]: long words, and places that have no token to spare on them.
 //! - [`samples`]: the files in `samples/`.
 //! - [`vectors`]: cases with their answers, from a file.
@@ -35,6 +37,7 @@
 pub mod bundle_faults;
 pub mod bundles;
 pub mod c_programs;
+pub mod comparing;
 pub mod faults;
 pub mod fields;
 pub mod files;
@@ -44,11 +47,13 @@ pub mod limits;
 pub mod logs;
 pub mod long_words;
 pub mod nets;
+pub mod ordered_faults;
 pub mod places;
 pub mod program;
 pub mod pruning;
 pub mod rng;
 pub mod run;
+pub mod sales;
 pub mod samples;
 pub mod screening;
 pub mod simplex;

@@ -65,6 +65,7 @@ impl Size {
             bundle: Bundle {
                 n: self.n,
                 words,
+                marks: None,
                 places,
                 certificates: Vec::new(),
             },
@@ -161,6 +162,7 @@ impl Size {
         Certificate::Weights {
             k: (factor * self.zeros) as u16,
             terms: rng.shuffled(&terms),
+            pairs: Vec::new(),
         }
     }
 }

@@ -49,6 +49,12 @@ pub fn counts_of(prefix: &[u8]) -> [u16; MAX_EVENTS] {
     counts
 }
 
+/// How often each event below `n` occurs in a word.
+pub fn counts_below(n: usize, word: &[u8]) -> Vec<usize> {
+    let count = |event: u8| word.iter().filter(|&&other| other == event).count();
+    (0u8..).take(n).map(count).collect()
+}
+
 /// The counts in a row of a table.
 pub fn counts_at(table: &[u16], row: usize) -> &[u16] {
     &table[row * ROW..][..MAX_EVENTS]

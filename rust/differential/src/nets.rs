@@ -1,12 +1,16 @@
 //! Nets and certificates for logs, so that their bundles are accepted.
 
-use crate::bundles::{Bundle, Certificate, Place, Term, MAX_PLACES, MAX_TERMS};
-use crate::logs::{random_word, Shape, MAX_EVENTS, MAX_ROWS};
-use crate::places;
+mod marks;
+mod solving;
+
+use crate::bundles::{Bundle, Certificate, Place, Term, MAX_PLACES};
+use crate::logs::{counts_below, random_word, Shape, MAX_EVENTS, MAX_ROWS};
 use crate::rng::Rng;
-use crate::simplex::{solve, Solution};
 use reference::{log_rows, Row, Tally};
-use std::iter;
+use solving::{decide, rewrite};
+
+pub use marks::marked_log;
+pub use solving::{add_pairs, obeying_place, strictest_net, weights_but_for};
 
 /// A bundle that has to be accepted.
 #[derive(Clone, Debug)]
@@ -30,6 +34,38 @@ impl Certified {
     pub fn allowed_steps(&self) -> Vec<Step> {
         steps(&self.rows, true)
     }
+
+    /// The completed words.
+    pub fn completed(&self) -> Vec<Completed> {
+        completed(&self.bundle)
+    }
+
+    /// A random place that fits and obeys, or nothing when its numbers would be too
+    /// large.
+    pub fn another_place(&self, rng: &mut Rng) -> Option<Place> {
+        any_place(rng, &self.rows, &self.completed())
+    }
+}
+
+/// A completed word.
+#[derive(Clone, Debug, PartialEq, Eq)]
+pub struct Completed {
+    /// Its number.
+    pub word: u8,
+    /// How often each event occurs in it.
+    pub counts: Vec<usize>,
+}
+
+/// The completed words of a bundle.
+pub fn completed(bundle: &Bundle) -> Vec<Completed> {
+    let words = bundle.words.iter().enumerate();
+    words
+        .filter(|&(number, _)| bundle.is_completed(number))
+        .map(|(number, word)| Completed {
+            word: number as u8,
+            counts: counts_below(bundle.n, word),
+        })
+        .collect()
 }
 
 /// An event after the counts of a row.
@@ -84,6 +120,15 @@ impl Place {
     }
 }
 
+/// A random place that fits and obeys completed words, or nothing when its numbers would
+/// be too large.
+fn any_place(rng: &mut Rng, rows: &[Row], completed: &[Completed]) -> Option<Place> {
+    match completed {
+        [] => fitting_place(rng, rows),
+        _ => obeying_place(rng, rows, completed),
+    }
+}
+
 /// A random place that fits, or nothing when its tokens would be too many.
 pub fn fitting_place(rng: &mut Rng, rows: &[Row]) -> Option<Place> {
     let n = rows[0].counts.len();
@@ -110,152 +155,12 @@ pub fn fitting_place(rng: &mut Rng, rows: &[Row]) -> Option<Place> {
     Some(place)
 }
 
-/// The numbers by which m, each in(i) and each out(i) count towards the surplus
-/// at a step, with the sign changed.
-fn column_numbers(rows: &[Row], step: Step) -> Vec<i128> {
-    let counts = || rows[step.row].counts.iter().map(|&count| count as i128);
-    let next_counts = counts()
-        .enumerate()
-        .map(|(i, count)| count + i128::from(i == step.event));
-    iter::once(-1)
-        .chain(counts().map(|count| -count))
-        .chain(next_counts)
-        .collect()
-}
-
-/// A place that fits and refuses a step, in whole numbers of any size, or multiples
-/// of the allowed steps that show that there is none. Nothing when numbers get too
-/// large on the way.
-fn solve_step(rng: &mut Rng, rows: &[Row], step: Step) -> Option<Solution> {
-    let constraints: Vec<Vec<i128>> = steps(rows, true)
-        .into_iter()
-        .map(|step| column_numbers(rows, step))
-        .collect();
-    solve(rng, &constraints, &column_numbers(rows, step))
-}
-
-/// A place that fits and refuses a step, or weights that show that there is none.
-/// Nothing when numbers are too large for a bundle.
-fn decide(rng: &mut Rng, rows: &[Row], step: Step) -> Option<Result<Place, Certificate>> {
-    let n = rows[0].counts.len();
-    match solve_step(rng, rows, step)? {
-        Solution::Ray(ray) => {
-            let numbers = two_bytes(&ray)?;
-            Some(Ok(Place {
-                m: numbers[0],
-                ins: numbers[1..=n].to_vec(),
-                outs: numbers[1 + n..].to_vec(),
-            }))
-        }
-        Solution::Multipliers { scale, multiples } => {
-            let allowed = steps(rows, true);
-            Some(Err(weights(&allowed, scale, &multiples)?))
-        }
-    }
-}
-
-/// A net that permits all words of a log and refuses each wrong continuation that
-/// any such net refuses, in whole numbers of any size. Nothing when numbers get too
-/// large on the way.
-pub fn strictest_net(rng: &mut Rng, rows: &[Row]) -> Option<Vec<places::Place>> {
-    let n = rows[0].counts.len();
-    let mut net = Vec::new();
-    for step in steps(rows, false) {
-        if let Solution::Ray(ray) = solve_step(rng, rows, step)? {
-            net.push(places::Place {
-                m: ray[0],
-                ins: ray[1..=n].to_vec(),
-                outs: ray[1 + n..].to_vec(),
-            });
-        }
-    }
-    Some(net)
-}
-
-/// Weights for which all inequalities hold but one: the first is that of the sum
-/// of the weights, then come those with u(i), then those with u(i) + \[f = i\].
-/// The step is one that a fitting place refuses, so they cannot all hold. Nothing
-/// when there are no such weights, or numbers are too large for a bundle.
-pub fn weights_but_for(
-    rng: &mut Rng,
-    rows: &[Row],
-    step: Step,
-    inequality: usize,
-) -> Option<Certificate> {
-    let without = |step| {
-        let mut numbers = column_numbers(rows, step);
-        numbers.remove(inequality);
-        numbers
-    };
-    let allowed = steps(rows, true);
-    let constraints: Vec<Vec<i128>> = allowed.iter().map(|&step| without(step)).collect();
-    match solve(rng, &constraints, &without(step))? {
-        Solution::Ray(_) => None,
-        Solution::Multipliers { scale, multiples } => weights(&allowed, scale, &multiples),
-    }
-}
-
-/// A certificate with the weights that are not 0.
-fn weights(allowed: &[Step], k: i128, multiples: &[i128]) -> Option<Certificate> {
-    let k = u16::try_from(k).ok()?;
-    let weights = two_bytes(multiples)?;
-    let terms: Vec<Term> = allowed
-        .iter()
-        .zip(weights)
-        .filter(|(_, weight)| *weight > 0)
-        .map(|(&step, weight)| term(step, weight))
-        .collect();
-    (terms.len() <= MAX_TERMS).then_some(Certificate::Weights { k, terms })
-}
-
 /// A weight on a step.
 pub fn term(step: Step, weight: u16) -> Term {
     Term {
         row: step.row as u16,
         event: step.event as u8,
         weight,
-    }
-}
-
-fn two_bytes(numbers: &[i128]) -> Option<Vec<u16>> {
-    let numbers = numbers.iter().map(|&number| u16::try_from(number).ok());
-    numbers.collect()
-}
-
-/// Writes the weights of a certificate in another way that says the same: larger
-/// by a factor, some of them as several terms, and with terms of weight 0.
-fn rewrite(rng: &mut Rng, allowed: &[Step], k: u16, terms: &[Term]) -> Certificate {
-    // No weight is above k.
-    let largest = 65_535 / usize::from(k);
-    let any = rng.within(1..=largest);
-    let factor = rng.choose(&[1, 1, 1, largest, any]) as u16;
-    let mut terms: Vec<Term> = terms
-        .iter()
-        .map(|&term| Term {
-            weight: term.weight * factor,
-            ..term
-        })
-        .collect();
-
-    let more = rng.choose(&[0, 0, 1, 3, MAX_TERMS]);
-    for _ in 0..more.min(MAX_TERMS - terms.len()) {
-        let split = rng.below(terms.len());
-        let moved = rng.within(0..=terms[split].weight.into()) as u16;
-        let added = match rng.below(3) {
-            0 => term(rng.choose(allowed), 0),
-            _ => {
-                terms[split].weight -= moved;
-                Term {
-                    weight: moved,
-                    ..terms[split]
-                }
-            }
-        };
-        terms.push(added);
-    }
-    Certificate::Weights {
-        k: k * factor,
-        terms: rng.shuffled(&terms),
     }
 }
 
@@ -270,19 +175,38 @@ pub fn refusing_place(rng: &mut Rng, places: &[Place], rows: &[Row], step: Step)
     Certificate::Place(rng.choose(&refusing))
 }
 
-/// A net and certificates for a log. Nothing when it has too many rows, or more
-/// places or larger numbers are needed than a bundle has room for.
+/// A net and certificates for a log, in the old edition. Nothing when it has too many
+/// rows, or more places or larger numbers are needed than a bundle has room for.
 pub fn certified(rng: &mut Rng, n: usize, words: Vec<Vec<u8>>) -> Option<Certified> {
+    certified_marked(rng, n, words, None)
+}
+
+/// A net and certificates for a log, as [`certified`] has them; with marks in the new
+/// edition.
+pub fn certified_marked(
+    rng: &mut Rng,
+    n: usize,
+    words: Vec<Vec<u8>>,
+    marks: Option<Vec<bool>>,
+) -> Option<Certified> {
     let rows = log_rows(n, &words);
     if rows.len() > MAX_ROWS {
         return None;
     }
+    let mut bundle = Bundle {
+        n,
+        words,
+        marks,
+        places: Vec::new(),
+        certificates: Vec::new(),
+    };
+    let completed = completed(&bundle);
     let allowed = steps(&rows, true);
     let wrong = steps(&rows, false);
 
     let random = rng.choose(&[0, 0, 1, 3, 10]);
     let mut places: Vec<Place> = (0..random)
-        .filter_map(|_| fitting_place(rng, &rows))
+        .filter_map(|_| any_place(rng, &rows, &completed))
         .collect();
     let mut weights = Vec::new();
     for &step in &wrong {
@@ -290,7 +214,7 @@ pub fn certified(rng: &mut Rng, n: usize, words: Vec<Vec<u8>>) -> Option<Certifi
         weights.push(if refused {
             None
         } else {
-            match decide(rng, &rows, step)? {
+            match decide(rng, &rows, &completed, step)? {
                 Ok(_) if places.len() == MAX_PLACES => return None,
                 Ok(place) => {
                     places.push(place);
@@ -301,15 +225,14 @@ pub fn certified(rng: &mut Rng, n: usize, words: Vec<Vec<u8>>) -> Option<Certifi
         });
     }
 
-    let places = rng.shuffled(&places);
+    bundle.places = rng.shuffled(&places);
     let mut by_place = 0;
-    let mut certificates = Vec::new();
     for (&step, weights) in wrong.iter().zip(weights) {
-        certificates.push(match weights {
-            Some(Certificate::Weights { k, terms }) => rewrite(rng, &allowed, k, &terms),
-            _ => {
+        bundle.certificates.push(match weights {
+            Some(weights) => rewrite(rng, &allowed, &completed, weights),
+            None => {
                 by_place += 1;
-                refusing_place(rng, &places, &rows, step)
+                refusing_place(rng, &bundle.places, &rows, step)
             }
         });
     }
@@ -318,12 +241,6 @@ pub fn certified(rng: &mut Rng, n: usize, words: Vec<Vec<u8>>) -> Option<Certifi
         allowed: allowed.len(),
         by_place,
         by_weights: wrong.len() - by_place,
-    };
-    let bundle = Bundle {
-        n,
-        words,
-        places,
-        certificates,
     };
     bundle.has_allowed_length().then_some(Certified {
         bundle,
@@ -373,11 +290,23 @@ fn gaps(rng: &mut Rng, n: usize) -> Vec<Vec<u8>> {
         .collect()
 }
 
-/// A bundle that has to be accepted, for a small log.
+/// A bundle that has to be accepted, for a small log, in either edition.
 pub fn small_certified(rng: &mut Rng) -> Certified {
+    let is_new = rng.below(2) == 0;
+    small_certified_in(rng, is_new)
+}
+
+/// A bundle that has to be accepted, for a small log, in the new edition or the old.
+pub fn small_certified_in(rng: &mut Rng, is_new: bool) -> Certified {
     loop {
-        let (n, words) = small_log(rng);
-        if let Some(certified) = certified(rng, n, words) {
+        let (n, words, marks) = if is_new {
+            let (n, words, marks) = marked_log(rng);
+            (n, words, Some(marks))
+        } else {
+            let (n, words) = small_log(rng);
+            (n, words, None)
+        };
+        if let Some(certified) = certified_marked(rng, n, words, marks) {
             return certified;
         }
     }

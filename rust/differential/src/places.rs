@@ -62,6 +62,22 @@ impl Place {
         place
     }
 
+    /// The place with all its numbers multiplied.
+    pub fn times(&self, factor: i128) -> Self {
+        let times = |numbers: &[i128]| numbers.iter().map(|number| factor * number).collect();
+        Self {
+            m: factor * self.m,
+            ins: times(&self.ins),
+            outs: times(&self.outs),
+        }
+    }
+
+    /// Whether events with these counts leave the tokens as they were: the sum of
+    /// u(i) × (in(i) − out(i)) is 0.
+    pub fn returns(&self, u: &[usize]) -> bool {
+        self.tokens(u) == self.m
+    }
+
     /// Whether the place permits every allowed step.
     pub fn fits(&self, rows: &[Row]) -> bool {
         rows.iter().all(|row| {

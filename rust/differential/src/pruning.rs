@@ -1,11 +1,11 @@
 //! A further reading of the rule for pruning besides the reference, kept as close to its
 //! wording as possible; and bundles with idle places.
 
-use crate::bundles::{Bundle, Certificate, Place, Term, MAX_PLACES};
-use crate::fields::Fields;
+use crate::bundles::{Bundle, Certificate, Pair, Place, Term, MAX_PLACES};
+use crate::fields::{Fields, Log};
 use crate::judging::judge_by_definitions;
 use crate::logs::TABLE;
-use crate::nets::{fitting_place, Certified};
+use crate::nets::Certified;
 use crate::rng::Rng;
 use crate::run::{output_lengths, refusal, Outcome, Run};
 
@@ -114,6 +114,7 @@ pub fn pruned(bundle: &Bundle) -> Bundle {
     Bundle {
         n: bundle.n,
         words: bundle.words.clone(),
+        marks: bundle.marks.clone(),
         places: places
             .filter(|(_, &named)| named)
             .map(|(place, _)| place.clone())
@@ -141,8 +142,8 @@ pub fn contents(bytes: &[u8]) -> Bundle {
 }
 
 fn read(fields: &mut Fields) -> Outcome<Bundle> {
-    let n = fields.field(1)?.0;
-    let words = fields.words(n, usize::MAX)?;
+    let (n, is_new) = fields.event_count()?;
+    let Log { words, marks } = fields.log(n, is_new, usize::MAX)?;
     let two_bytes = |numbers: &[i128]| numbers.iter().map(|&number| number as u16).collect();
     let places = fields.places(n)?;
     let places = places.iter().map(|place| Place {
@@ -153,17 +154,18 @@ fn read(fields: &mut Fields) -> Outcome<Bundle> {
     let mut bundle = Bundle {
         n,
         words,
+        marks,
         places: places.collect(),
         certificates: Vec::new(),
     };
     // There are as many certificates as there are bytes for.
     while fields.finish().is_err() {
-        bundle.certificates.push(certificate(fields)?);
+        bundle.certificates.push(certificate(fields, is_new)?);
     }
     Ok(bundle)
 }
 
-fn certificate(fields: &mut Fields) -> Outcome<Certificate> {
+fn certificate(fields: &mut Fields, is_new: bool) -> Outcome<Certificate> {
     if fields.field(1)?.0 == 0 {
         return Ok(Certificate::Place(fields.field(1)?.0 as u8));
     }
@@ -176,7 +178,15 @@ fn certificate(fields: &mut Fields) -> Outcome<Certificate> {
             weight: fields.field(2)?.0 as u16,
         });
     }
-    Ok(Certificate::Weights { k, terms })
+    let mut pairs = Vec::new();
+    let pair_count = if is_new { fields.field(1)?.0 } else { 0 };
+    for _ in 0..pair_count {
+        pairs.push(Pair {
+            word: fields.field(1)?.0 as u8,
+            weight: fields.signed()? as i16,
+        });
+    }
+    Ok(Certificate::Weights { k, terms, pairs })
 }
 
 /// Where places are added that no certificate names.
@@ -190,7 +200,7 @@ pub enum Idle {
     End,
     /// Anywhere, each by itself.
     Anywhere,
-    /// Copies of others, anywhere.
+    /// Copies of others where there are any, anywhere.
     Copies,
 }
 
@@ -225,8 +235,8 @@ impl Idle {
         let places = &certified.bundle.places;
         loop {
             let place = match self {
-                Idle::Copies => Some(places[rng.below(places.len())].clone()),
-                _ => fitting_place(rng, &certified.rows),
+                Idle::Copies if !places.is_empty() => Some(places[rng.below(places.len())].clone()),
+                _ => certified.another_place(rng),
             };
             if let Some(place) = place {
                 return place;

@@ -2,7 +2,7 @@
 //!
 //! `cargo run -p differential --example write_samples` writes them.
 
-use crate::bundles::{SAMPLE_A, SAMPLE_E, SAMPLE_F};
+use crate::bundles::{unbalanced, SAMPLE_A, SAMPLE_E, SAMPLE_F, SAMPLE_NEW};
 use crate::files::{build, BLOCK};
 use crate::limits::MIDDLE;
 use crate::rng::Rng;
@@ -31,6 +31,8 @@ pub fn all() -> Vec<Sample> {
         ("e.sealed", build(&SAMPLE_E), "accepted 1 0 1 0"),
         ("f.sealed", build(&SAMPLE_F), "refused 6 3"),
         ("several.sealed", build(&several), "accepted 43 42 177 39"),
+        ("sales.sealed", build(&SAMPLE_NEW), "accepted 4 3 7 2"),
+        ("unbalanced.sealed", build(&unbalanced()), "refused 20 1"),
         ("damaged.sealed", damaged, "refused 2 0"),
         ("shuffled.sealed", shuffled, "refused 17 1"),
         ("joined.sealed", joined, "refused 18 0"),

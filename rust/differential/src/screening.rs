@@ -56,9 +56,9 @@ fn read_net(bundle: &[u8]) -> Outcome<(usize, Vec<places::Place>)> {
         return refusal(4, 0);
     }
     let mut fields = Fields::new(bundle);
-    let n = fields.within(1, 1, 12)?;
-    // Rows are not counted.
-    fields.words(n, usize::MAX)?;
+    let (n, is_new) = fields.event_count()?;
+    // Rows are not counted, and completed words not obeyed.
+    fields.log(n, is_new, usize::MAX)?;
     Ok((n, fields.places(n)?))
 }
 
@@ -158,26 +158,36 @@ pub fn net(n: usize, places: Vec<Place>) -> Bundle {
     Bundle {
         n,
         words: Vec::new(),
+        marks: None,
         places,
         certificates: Vec::new(),
     }
 }
 
-/// A bundle without certificates, whose places need not fit its log; and a word.
-/// Each place permits a beginning of the word, and often no more of it.
+/// Marks for these words, or the old edition.
+fn any_edition(rng: &mut Rng, words: &[Vec<u8>]) -> Option<Vec<bool>> {
+    let is_new = rng.below(2) == 0;
+    is_new.then(|| words.iter().map(|_| rng.below(2) == 0).collect())
+}
+
+/// A bundle without certificates, in either edition, whose places need neither fit its log
+/// nor obey it; and a word. Each place permits a beginning of the word, and often no more
+/// of it.
 pub fn any_net(rng: &mut Rng) -> (Bundle, Vec<u8>) {
     let (n, words) = small_log(rng);
     let longest = rng.choose(&[5, 50, 500]);
     let word = random_word(rng, n, 1..=longest);
     let places = any_places(rng, n, &word);
     let bundle = Bundle {
+        marks: any_edition(rng, &words),
         words,
         ..net(n, places)
     };
     (bundle, word)
 }
 
-/// Two bundles over the same events, like those of [`any_net`]; and a word.
+/// Two bundles over the same events, like those of [`any_net`], each in its own edition; and
+/// a word.
 pub fn two_nets(rng: &mut Rng) -> (Bundle, Bundle, Vec<u8>) {
     let (first, word) = any_net(rng);
     let n = first.n;
@@ -189,6 +199,7 @@ pub fn two_nets(rng: &mut Rng) -> (Bundle, Bundle, Vec<u8>) {
     };
     let places = any_places(rng, n, &word);
     let second = Bundle {
+        marks: any_edition(rng, &words),
         words,
         ..net(n, places)
     };

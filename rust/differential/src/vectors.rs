@@ -182,11 +182,11 @@ pub fn table_line(table: &[u16], has_rows: bool) -> String {
     }
     let (front, rest) = table.split_at(TABLE);
     assert!(rest.iter().all(is_lent), "changed beyond the table");
-    if !has_rows {
-        let is_zero = front.iter().all(|&number| number == 0);
-        assert!(is_zero, "neither kept nor zero: {front:?}");
+    // The one row of a log without words is zero, too.
+    if front.iter().all(|&number| number == 0) {
         return "table zero".to_string();
     }
+    assert!(has_rows, "neither kept nor zero: {front:?}");
     // Every row but row 0 counts an event.
     let is_used = |row: &[u16]| row.iter().any(|&number| number > 0);
     let last = front.chunks_exact(ROW).rposition(is_used);

@@ -190,6 +190,7 @@ fn header_and_crate_agree() {
         ("HOV_STATE_RANGE", Refusal::STATE_RANGE),
         ("HOV_BLOCK_NUMBER", Refusal::BLOCK_NUMBER),
         ("HOV_BLOCK_USE", Refusal::BLOCK_USE),
+        ("HOV_EVENT_COUNTS", Refusal::EVENT_COUNTS),
     ] {
         assert!(
             has(&[name, "=", &format!("{number},")]),
@@ -198,9 +199,9 @@ fn header_and_crate_agree() {
     }
     // The last one of the enum, without a comma.
     assert!(has(&[
-        "HOV_EVENT_COUNTS",
+        "HOV_PLACE_DISOBEYS",
         "=",
-        &Refusal::EVENT_COUNTS.to_string()
+        &Refusal::PLACE_DISOBEYS.to_string()
     ]));
 
     for (name, size) in [
@@ -216,6 +217,8 @@ fn header_and_crate_agree() {
         ("HOV_MAX_LOG_EVENTS", hovmekhar::MAX_LOG_EVENTS),
         ("HOV_MAX_PLACES", hovmekhar::MAX_PLACES),
         ("HOV_MAX_TERMS", hovmekhar::MAX_TERMS),
+        ("HOV_MAX_PAIRS", hovmekhar::MAX_PAIRS),
+        ("HOV_NEW_EDITION", hovmekhar::NEW_EDITION.into()),
         ("HOV_MAX_WORD_EVENTS", hovmekhar::MAX_WORD_EVENTS),
         ("HOV_OK", 0),
         ("HOV_STOPPED", hovmekhar::ffi::STOPPED as usize),

@@ -1,211 +1,86 @@
-//! Demand 3: two sealed files that open and are accepted, with the same event count
-//! and every prefix in the first log a prefix in the second. Each prefix of the first
-//! log is continued with each event.
+//! Demand 3: two sealed files that open and are accepted, compared as `comparing` has it,
+//! in both editions.
 
 use differential::bundles::MAX_WORDS;
-use differential::files::{BLOCK, CONTENTS, MAX_BUNDLE_SIZE};
+use differential::comparing::{compare, File};
 use differential::limits::{LARGEST, MIDDLE, MOST_WORDS};
-use differential::logs::{table_of, TABLE};
-use differential::nets::{certified, small_log, strictest_net, Certified};
-use differential::places::{first_refused, Place};
+use differential::nets::{certified_marked, marked_log, small_log};
 use differential::run::Run;
-use differential::screening::screen;
-use reference::{log_rows, Row, Screened, Tally};
-use std::collections::BTreeSet;
 
-type Words = Vec<Vec<u8>>;
+/// Words, each with its mark: whether it is completed.
+type Words = Vec<(Vec<u8>, bool)>;
 
-/// A sealed file that was opened and accepted.
-struct File {
-    n: usize,
-    words: Words,
-    net: Vec<Place>,
-    /// As it was opened.
-    bundle: Vec<u8>,
-    /// As they were answered.
-    counts: Tally,
+/// A small log: in the new edition with completed words.
+fn any_log(run: &mut Run, is_new: bool) -> (usize, Words) {
+    if is_new {
+        let (n, words, marks) = marked_log(&mut run.rng);
+        return (n, words.into_iter().zip(marks).collect());
+    }
+    let (n, words) = small_log(&mut run.rng);
+    (n, words.into_iter().map(|word| (word, false)).collect())
 }
 
-impl File {
-    /// Seals, opens and judges, with outputs and a table that held something else.
-    fn accepted(run: &mut Run, certified: &Certified) -> Self {
-        let bundle = &certified.bundle;
-        let bytes = bundle.bytes();
-        let blocks = bytes.len().div_ceil(CONTENTS);
-        let longer = run.rng.choose(&[0, 1, 1_000]);
-        let sealed = run.seal(&bytes, blocks * BLOCK + longer);
-        let file_len = sealed.outcome.expect("the length is allowed");
-        let opened = run.open(&sealed.output[..file_len], MAX_BUNDLE_SIZE + longer);
-        let bundle_len = opened.outcome.expect("the file is sound");
-
-        let table = dirty_table(run, bundle.n);
-        let opened = &opened.output[..bundle_len];
-        let judged = run.judge(opened, &table).outcome;
-        let counts = judged.unwrap_or_else(|refused| panic!("{refused:?}, {bundle:?}, {run}"));
-        Self {
-            n: bundle.n,
-            words: bundle.words.clone(),
-            net: bundle.places.iter().map(Place::from).collect(),
-            bundle: opened.to_vec(),
-            counts,
-        }
-    }
-
-    /// The log's prefixes: all beginnings of its words, and the empty word.
-    fn prefixes(&self) -> BTreeSet<&[u8]> {
-        let of_words = self.words.iter().flat_map(|word| beginnings(word));
-        of_words.chain([[].as_slice()]).collect()
-    }
-
-    /// Whether the net permits a longer word, by the definitions and by screening.
-    fn permits(&self, run: &mut Run, longer: &[u8]) -> bool {
-        let permits = first_refused(self.n, &self.net, longer).is_none();
-        match screen(run, &self.bundle, longer) {
-            Ok(Screened::Permitted) => assert!(permits, "{longer:?}, {run}"),
-            Ok(Screened::Stopped { position, .. }) => {
-                assert!(!permits, "{longer:?}, {run}");
-                assert_eq!(position, longer.len() - 1, "the added event, {run}");
-            }
-            Err(refused) => panic!("{refused:?} for {longer:?}, {run}"),
-        }
-        permits
-    }
+/// A beginning of a word, often all of it. One that is whole can keep its mark.
+fn beginning_of(run: &mut Run, (word, mark): &(Vec<u8>, bool)) -> (Vec<u8>, bool) {
+    let end = run.rng.within(0..=word.len());
+    let end = run.rng.choose(&[end, word.len()]);
+    let keeps = *mark && end == word.len() && run.rng.below(4) > 0;
+    (word[..end].to_vec(), keeps)
 }
 
-fn beginnings(word: &[u8]) -> impl Iterator<Item = &[u8]> {
-    (0..=word.len()).map(move |end| &word[..end])
-}
-
-fn dirty_table(run: &mut Run, n: usize) -> Vec<u16> {
-    match run.rng.below(3) {
-        0 => vec![65_535; TABLE + 7],
-        1 => table_of(n, &[vec![0; 5], vec![0, 0]]),
-        _ => run.rng.items(TABLE),
-    }
-}
-
-/// Nets that permit all words of a log, with whole numbers of any size. The first is
-/// the strictest of all, when that is known.
-fn drawn_nets(run: &mut Run, n: usize, words: &[Vec<u8>]) -> (bool, Vec<Vec<Place>>) {
-    let rows: Vec<Row> = log_rows(n, words);
-    let strictest = strictest_net(&mut run.rng, &rows);
-    let is_known = strictest.is_some();
-    let mut nets: Vec<Vec<Place>> = strictest.into_iter().collect();
-    for places in [0, 1, 1, 3, 10] {
-        nets.push(
-            (0..places)
-                .map(|_| Place::fitting(&mut run.rng, &rows))
-                .collect(),
-        );
-    }
-    for net in &nets {
-        for word in words {
-            assert_eq!(
-                first_refused(n, net, word),
-                None,
-                "{net:?}, {word:?}, {run}"
-            );
-        }
-        run.note("nets that permit the first log");
-    }
-    (is_known, nets)
-}
-
-/// Compares two files, of which the second log has all prefixes of the first.
-fn compare(run: &mut Run, first: &File, second: &File) {
-    let n = first.n;
-    let prefixes = first.prefixes();
-    assert_eq!(n, second.n, "{run}");
-    assert!(prefixes.is_subset(&second.prefixes()), "{run}");
-    run.note("pairs");
-    let equal = prefixes == second.prefixes();
-    if equal {
-        assert_eq!(first.counts, second.counts, "{run}");
-        run.note("pairs with the same prefixes");
-    } else {
-        run.note("pairs with further prefixes in the second");
-    }
-
-    let (strictest_is_known, nets) = drawn_nets(run, n, &first.words);
-    for prefix in &prefixes {
-        for event in 0..n as u8 {
-            let longer = [prefix, [event].as_slice()].concat();
-            let permitted = first.permits(run, &longer);
-            let by_second = second.permits(run, &longer);
-            assert!(by_second || !permitted, "{longer:?}, {run}");
-            if equal {
-                assert_eq!(permitted, by_second, "{longer:?}, {run}");
-            }
-
-            let by_nets: Vec<bool> = nets
-                .iter()
-                .map(|net| first_refused(n, net, &longer).is_none())
-                .collect();
-            let by_all = by_nets.iter().all(|&permits| permits);
-            assert!(by_all || !permitted, "{longer:?}, {nets:?}, {run}");
-            // The first net refuses nothing that every net permits, either.
-            if strictest_is_known {
-                assert_eq!(by_nets[0], permitted, "{longer:?}, {nets:?}, {run}");
-                run.note("words compared with the strictest net");
-            }
-
-            run.note("longer words");
-            run.note(match (permitted, by_second) {
-                (true, _) if prefixes.contains(longer.as_slice()) => "permitted, in the first log",
-                (true, _) => "permitted, not in the first log",
-                (false, true) => "permitted by the second only",
-                (false, false) => "refused by both",
-            });
-            if by_nets[usize::from(strictest_is_known)..].contains(&false) {
-                run.note("refused by a random net");
-            }
-        }
-    }
-}
-
-/// Words whose prefixes are all prefixes of these words: some of them, cut.
+/// Words whose prefixes are all prefixes of these words: some of them, cut. Where they are
+/// completed, they are so there.
 fn part_of(run: &mut Run, words: &Words) -> Words {
     let rarity = run.rng.within(1..=4);
     let mut part = Vec::new();
     for word in words {
         if run.rng.below(rarity) == 0 {
-            let end = run.rng.within(0..=word.len());
-            let end = run.rng.choose(&[end, word.len()]);
-            part.push(word[..end].to_vec());
+            part.push(beginning_of(run, word));
         }
     }
     run.rng.shuffled(&part)
 }
 
-/// Words with the same prefixes as these: without those that begin another one, with
-/// some twice and some beginnings, in another order.
+/// Words with the same prefixes as these and the same completed words: without partial ones
+/// that begin another one, with some twice and some beginnings, in another order.
 fn rewritten(run: &mut Run, words: &Words) -> Words {
-    let begins_another = |word: &Vec<u8>| words.iter().any(|w| w != word && w.starts_with(word));
+    let begins_another =
+        |word: &Vec<u8>| words.iter().any(|(w, _)| w != word && w.starts_with(word));
     let mut others = words.clone();
     others.sort();
     others.dedup();
-    others.retain(|word| !begins_another(word));
+    others.retain(|(word, mark)| *mark || !begins_another(word));
     for word in words {
         if run.rng.below(3) == 0 && others.len() < MAX_WORDS {
-            let end = run.rng.within(0..=word.len());
-            let end = run.rng.choose(&[end, word.len()]);
-            others.push(word[..end].to_vec());
+            others.push(beginning_of(run, word));
         }
     }
     run.rng.shuffled(&others)
 }
 
 /// Small logs in pairs, as this makes the first of the second, until there are so
-/// many of them.
-fn compare_pairs(run: &mut Run, pairs: usize, make_first: fn(&mut Run, &Words) -> Words) {
+/// many of them. A log without completed words can have either edition.
+fn compare_pairs(
+    run: &mut Run,
+    pairs: usize,
+    is_new: bool,
+    make_first: fn(&mut Run, &Words) -> Words,
+) {
     let mut compared = 0;
     while compared < pairs {
-        let (n, words) = small_log(&mut run.rng);
+        let (n, words) = any_log(run, is_new);
         let first = make_first(run, &words);
         // Some logs need more places than there can be.
-        let nets = [first, words].map(|words| certified(&mut run.rng, n, words));
-        if let [Some(first), Some(second)] = nets {
-            let [first, second] = [first, second].map(|certified| File::accepted(run, &certified));
+        let files = [first, words].map(|words| {
+            let (words, marks): (Vec<_>, Vec<bool>) = words.into_iter().unzip();
+            let is_old = !marks.contains(&true) && (!is_new || run.rng.below(2) == 0);
+            certified_marked(&mut run.rng, n, words, (!is_old).then_some(marks))
+        });
+        if let [Some(first), Some(second)] = files {
+            if first.bundle.is_new() != second.bundle.is_new() {
+                run.note("an old and a new one");
+            }
+            let [first, second] = [first, second].map(|certified| File::accepted(run, certified));
             compare(run, &first, &second);
             compared += 1;
         }
@@ -216,12 +91,12 @@ fn compare_pairs(run: &mut Run, pairs: usize, make_first: fn(&mut Run, &Words) -
 fn included_logs() {
     let mut run = Run::start("included_logs");
     let pairs = run.cases(500);
-    compare_pairs(&mut run, pairs, part_of);
+    compare_pairs(&mut run, pairs, false, part_of);
     run.finish_with_classes(
         &[],
         &[
             ("pairs", 500),
-            ("pairs with further prefixes in the second", 200),
+            ("pairs with further ones in the second", 200),
             ("nets that permit the first log", 500 * 5),
             ("longer words", 5_000),
             ("words compared with the strictest net", 5_000),
@@ -238,12 +113,12 @@ fn included_logs() {
 fn equal_logs() {
     let mut run = Run::start("demand3::equal_logs");
     let pairs = run.cases(500);
-    compare_pairs(&mut run, pairs, rewritten);
+    compare_pairs(&mut run, pairs, false, rewritten);
     run.finish_with_classes(
         &[],
         &[
             ("pairs", 500),
-            ("pairs with the same prefixes", 500),
+            ("pairs with the same prefixes and completed words", 500),
             ("nets that permit the first log", 500 * 5),
             ("longer words", 10_000),
             ("words compared with the strictest net", 10_000),
@@ -255,6 +130,50 @@ fn equal_logs() {
     );
 }
 
+/// Completed words: those of the first log are completed in the second.
+#[test]
+fn included_completed_words() {
+    let mut run = Run::start("included_completed_words");
+    let pairs = run.cases(500);
+    compare_pairs(&mut run, pairs, true, part_of);
+    run.finish_with_classes(
+        &[],
+        &[
+            ("pairs", 500),
+            ("pairs with completed words", 150),
+            ("pairs with further ones in the second", 200),
+            ("an old and a new one", 50),
+            ("nets that permit the first log", 500 * 5),
+            ("words compared with the strictest net", 3_000),
+            ("permitted, in the first log", 800),
+            ("permitted, not in the first log", 200),
+            ("permitted by the second only", 300),
+            ("refused by both", 1_500),
+            ("refused by a random net", 1_000),
+        ],
+    );
+}
+
+/// The same completed words, and others that are listed as partial, too.
+#[test]
+fn equal_completed_words() {
+    let mut run = Run::start("equal_completed_words");
+    let pairs = run.cases(500);
+    compare_pairs(&mut run, pairs, true, rewritten);
+    run.finish_with_classes(
+        &[],
+        &[
+            ("pairs with completed words", 300),
+            ("pairs with the same prefixes and completed words", 500),
+            ("words compared with the strictest net", 5_000),
+            ("permitted, in the first log", 1_500),
+            ("permitted, not in the first log", 500),
+            ("refused by both", 2_500),
+            ("refused by a random net", 2_000),
+        ],
+    );
+}
+
 /// Two files with nets of their own for a log of 43 rows, where no net refuses 39 of
 /// the wrong continuations.
 #[test]
@@ -262,14 +181,14 @@ fn middle_files() {
     let mut run = Run::start("middle_files");
     let [first, second] = [(); 2].map(|()| {
         let certified = MIDDLE.certified(&mut run.rng);
-        File::accepted(&mut run, &certified)
+        File::accepted(&mut run, certified)
     });
     assert!(first.net != second.net, "{run}");
     compare(&mut run, &first, &second);
     run.finish_with_classes(
         &[],
         &[
-            ("pairs with the same prefixes", 1),
+            ("pairs with the same prefixes and completed words", 1),
             ("longer words", 43 * 6),
             ("words compared with the strictest net", 43 * 6),
             ("permitted, in the first log", 42),
@@ -285,7 +204,7 @@ fn largest_files() {
     let mut run = Run::start("largest_files");
     let [first, second] = [LARGEST, MOST_WORDS].map(|size| {
         let certified = size.certified(&mut run.rng);
-        File::accepted(&mut run, &certified)
+        File::accepted(&mut run, certified)
     });
     assert_ne!(first.words, second.words, "{run}");
     assert_eq!(first.prefixes(), second.prefixes(), "{run}");

@@ -14,12 +14,12 @@ fn document(name: &str) -> String {
     fs::read_to_string(root().join(name)).unwrap_or_else(|error| panic!("{name}: {error}"))
 }
 
-/// The annotated bytes of case A, joined, are the bundle of `samples/a.sealed`,
-/// and each row of the table stands at its offset.
+/// The annotated bytes of case A, joined, are the bundle of `samples/a.sealed`, those of the
+/// new edition that of `samples/sales.sealed`, and each row of a table stands at its offset.
 #[test]
 fn annotated_bytes() {
     let format = document("docs/FORMAT.md");
-    let mut bytes: Vec<u8> = Vec::new();
+    let mut bundles: Vec<Vec<u8>> = Vec::new();
     for line in format.lines() {
         let cells: Vec<&str> = line.split('|').map(str::trim).collect();
         let [_, offset, shown, _, _] = cells[..] else {
@@ -28,13 +28,21 @@ fn annotated_bytes() {
         let (Ok(offset), Some(shown)) = (offset.parse::<usize>(), between_ticks(shown)) else {
             continue;
         };
+        if offset == 0 {
+            bundles.push(Vec::new());
+        }
+        let bytes = bundles.last_mut().expect("a table begins at 0");
         assert_eq!(offset, bytes.len(), "{line}");
         let numbers = shown.split(' ').map(|byte| byte.parse::<u8>());
         bytes.extend(numbers.map(|byte| byte.expect("a byte")));
     }
-    assert_eq!(bytes.len(), 53);
-    let file = fs::read(directory().join("a.sealed")).expect("samples/a.sealed");
-    assert_eq!(&file[4..57], bytes);
+    for (sample, length) in [("a.sealed", 53), ("sales.sealed", 80)] {
+        let file = fs::read(directory().join(sample)).expect("a sample");
+        let bytes = bundles.remove(0);
+        assert_eq!(bytes.len(), length, "{sample}");
+        assert_eq!(file[4..4 + length], bytes, "{sample}");
+    }
+    assert!(bundles.is_empty(), "a further table of bytes");
 }
 
 fn between_ticks(cell: &str) -> Option<&str> {

@@ -72,7 +72,7 @@ fn accept(run: &mut Run, certified: &Certified) {
                     run.note("refused before the event puts tokens in");
                 }
             }
-            Certificate::Weights { k, terms } => {
+            Certificate::Weights { k, terms, .. } => {
                 let steps: HashSet<_> = terms.iter().map(|term| (term.row, term.event)).collect();
                 if steps.len() < terms.len() {
                     run.note("a repeated term");

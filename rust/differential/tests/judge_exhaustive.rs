@@ -1,7 +1,7 @@
 //! Judging: every beginning, every byte, and every very small bundle.
 
 use differential::bundle_faults::refusal_of_cut;
-use differential::bundles::{SAMPLE_A, SAMPLE_E};
+use differential::bundles::{NEW, SAMPLE_A, SAMPLE_E, SAMPLE_NEW};
 use differential::judging::judge;
 use differential::nets::{small_certified, Certified};
 use differential::run::Run;
@@ -53,6 +53,7 @@ fn every_byte() {
     let mut run = Run::start("every_byte");
     every_value(&mut run, &SAMPLE_A);
     every_value(&mut run, &SAMPLE_E);
+    every_value(&mut run, &SAMPLE_NEW);
     for _ in 0..run.cases(2) {
         let bundle = with_both_kinds(&mut run, 100).bundle.bytes();
         every_value(&mut run, &bundle);
@@ -64,6 +65,7 @@ fn every_byte() {
         (10, 1_000),
         (11, 1_000),
         (12, 500),
+        (20, 100),
     ]);
 }
 
@@ -71,30 +73,38 @@ fn every_byte() {
 #[test]
 fn every_pair_of_bytes() {
     let mut run = Run::start("every_pair_of_bytes");
-    for low in 0..SAMPLE_A.len() {
-        for high in low + 1..SAMPLE_A.len() {
-            for (first, second) in [(1, 1), (1, 255), (255, 1), (2, 1), (1, 2), (255, 255)] {
-                let mut bytes = SAMPLE_A;
-                bytes[low] = bytes[low].wrapping_add(first);
-                bytes[high] = bytes[high].wrapping_add(second);
+    for sample in [SAMPLE_A.as_slice(), &SAMPLE_NEW] {
+        for low in 0..sample.len() {
+            for high in low + 1..sample.len() {
+                for (first, second) in [(1, 1), (1, 255), (255, 1), (2, 1), (1, 2), (255, 255)] {
+                    let mut bytes = sample.to_vec();
+                    bytes[low] = bytes[low].wrapping_add(first);
+                    bytes[high] = bytes[high].wrapping_add(second);
+                    judge(&mut run, &bytes).ok();
+                }
+            }
+        }
+    }
+    let of_fields = [(6, 10), (7, 2_000)];
+    let of_nets = [(10, 1_000), (20, 500), (11, 1_000), (12, 500)];
+    run.finish(&[of_fields.as_slice(), &of_nets].concat());
+}
+
+/// Every bundle of up to eight bytes, all of them below 3 but for the first of the new
+/// edition.
+#[test]
+fn every_very_small_bundle() {
+    let mut run = Run::start("every_very_small_bundle");
+    for edition in [0, NEW as u8] {
+        for length in 1..=8u32 {
+            for number in 0..3usize.pow(length) {
+                let mut bytes: Vec<u8> = (0..length)
+                    .map(|position| (number / 3usize.pow(position) % 3) as u8)
+                    .collect();
+                bytes[0] += edition;
                 judge(&mut run, &bytes).ok();
             }
         }
     }
-    run.finish(&[(6, 10), (7, 2_000), (10, 1_000), (11, 1_000), (12, 500)]);
-}
-
-/// Every bundle of up to eight bytes, all of them below 3.
-#[test]
-fn every_very_small_bundle() {
-    let mut run = Run::start("every_very_small_bundle");
-    for length in 1..=8u32 {
-        for number in 0..3usize.pow(length) {
-            let bytes: Vec<u8> = (0..length)
-                .map(|position| (number / 3usize.pow(position) % 3) as u8)
-                .collect();
-            judge(&mut run, &bytes).ok();
-        }
-    }
-    run.finish(&[(6, 1_000), (7, 3_000), (12, 20)]);
+    run.finish(&[(6, 2_000), (7, 6_000), (12, 25)]);
 }

@@ -284,6 +284,7 @@ fn largest_numbers() {
             let bundle = Bundle {
                 n,
                 words: vec![word],
+                marks: None,
                 places: vec![Place {
                     m,
                     ins: vec![ins; n],

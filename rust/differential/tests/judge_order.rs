@@ -1,11 +1,11 @@
 //! Judging: several faults at once, and which of them is named.
 
-use differential::bundle_faults::{refusal_of_cut, write_value};
 use differential::bundles::{Certificate, Field, Layout};
 use differential::files::MAX_BUNDLE_SIZE;
 use differential::limits::Size;
 use differential::logs::TABLE;
 use differential::nets::Certified;
+use differential::ordered_faults::{judge_pairs, judge_sets, OrderedFault};
 use differential::run::{refusal, Run};
 use reference::Refusal;
 use std::ops::Range;
@@ -20,31 +20,16 @@ const SIZE: Size = Size {
     terms: 3 * 239,
 };
 
-/// A fault that leaves the fields where they are.
-struct Fault {
-    fields: Vec<(Range<usize>, usize)>,
-    refusal: Refusal,
-    /// How many bytes are read when it is noticed.
-    noticed: usize,
-}
-
 /// Faults in the order in which they are noticed.
-fn faults(run: &mut Run, certified: &Certified, layout: &Layout) -> Vec<Fault> {
+fn faults(run: &mut Run, certified: &Certified, layout: &Layout) -> Vec<OrderedFault> {
     let field = |kind, number: usize| layout.all(kind)[number].clone();
-    let value = |range: Range<usize>, value| Fault {
-        refusal: Refusal {
-            number: 7,
-            spot: range.start,
-        },
-        noticed: range.end,
-        fields: vec![(range, value)],
-    };
+    let value = OrderedFault::value;
     let last_length = field(Field::Length, SIZE.words - 1);
     let last_word = last_length.end..layout.all(Field::PlaceCount)[0].start;
     let any_event = run.rng.within(last_word.start..=last_word.end - 1);
     let in_last_word = |byte: usize, event| (byte..byte + 1, event);
     let out = |place: usize| field(Field::Out, place * SIZE.n);
-    let does_not_fit = |place| Fault {
+    let does_not_fit = |place| OrderedFault {
         fields: vec![(out(place), 65_535)],
         refusal: Refusal {
             number: 10,
@@ -65,7 +50,7 @@ fn faults(run: &mut Run, certified: &Certified, layout: &Layout) -> Vec<Fault> {
         .position(|certificate| matches!(certificate, Certificate::Weights { .. }))
         .expect("one of kind 1");
     let weight = field(Field::Weight, 2);
-    let does_not_hold = |range, value| Fault {
+    let does_not_hold = |range, value| OrderedFault {
         fields: vec![(range, value)],
         refusal: Refusal {
             number: 12,
@@ -77,7 +62,7 @@ fn faults(run: &mut Run, certified: &Certified, layout: &Layout) -> Vec<Fault> {
     vec![
         value(field(Field::EventCount, 0), 13),
         value(field(Field::Event, 0), 2),
-        Fault {
+        OrderedFault {
             // Four events are left besides those that the word has.
             fields: vec![(last_length.clone(), last_word.len() + 5)],
             refusal: Refusal {
@@ -87,7 +72,7 @@ fn faults(run: &mut Run, certified: &Certified, layout: &Layout) -> Vec<Fault> {
             noticed: last_length.end,
         },
         value(any_event..any_event + 1, 2),
-        Fault {
+        OrderedFault {
             // Each event of the word but the first needs a row.
             fields: last_word
                 .clone()
@@ -104,7 +89,7 @@ fn faults(run: &mut Run, certified: &Certified, layout: &Layout) -> Vec<Fault> {
         does_not_fit(1),
         does_not_fit(3),
         value(field(Field::Kind, 0), 2),
-        Fault {
+        OrderedFault {
             fields: vec![(field(Field::Listed, 0), permits(0))],
             refusal: Refusal {
                 number: 11,
@@ -132,42 +117,6 @@ fn read(layout: &Layout, range: Range<usize>) -> usize {
     usize::from(bytes[0]) + 256 * usize::from(bytes[1])
 }
 
-/// Judges a bundle with these faults, of which only so many bytes are there or
-/// to which bytes are added, so that it is not accepted. The first fault that is
-/// noticed has to be named.
-fn judge(run: &mut Run, layout: &Layout, faults: &[&Fault], length: usize) {
-    let mut bytes = layout.bytes.clone();
-    let whole = bytes.len();
-    for (range, value) in faults.iter().flat_map(|fault| &fault.fields) {
-        write_value(&mut bytes, range, *value);
-    }
-    bytes.resize(length, 0);
-
-    let noticed = faults.iter().find(|fault| fault.noticed <= length);
-    let expected = match noticed {
-        Some(fault) => Err(fault.refusal),
-        None if length < whole => Err(refusal_of_cut(layout, length)),
-        None => refusal(13, whole),
-    };
-    let table: Vec<u16> = run.rng.items(TABLE);
-    let judged = run.judge(&bytes, &table);
-    assert_eq!(judged.outcome, expected, "{length} bytes, {run}");
-    assert!(judged.table.iter().all(|&number| number == 0), "{run}");
-}
-
-/// A length other than that of the bundle, and at least 1.
-fn any_length(run: &mut Run, layout: &Layout, faults: &[Fault]) -> usize {
-    let whole = layout.bytes.len();
-    let any = run.rng.within(1..=whole - 1);
-    let noticed = faults[run.rng.below(faults.len())].noticed;
-    let longer = whole + run.rng.within(1..=100);
-    let near = run.rng.choose(&[noticed - 1, noticed, noticed + 1]);
-    match run.rng.choose(&[any, near.max(1), longer, longer]) {
-        length if length == whole => whole + 1,
-        length => length,
-    }
-}
-
 #[test]
 fn pairs_of_faults() {
     let mut run = Run::start("pairs_of_faults");
@@ -175,14 +124,7 @@ fn pairs_of_faults() {
         let certified = SIZE.certified(&mut run.rng);
         let layout = certified.bundle.layout();
         let faults = faults(&mut run, &certified, &layout);
-        for first in 0..faults.len() {
-            for second in first..faults.len() {
-                let both = [&faults[first], &faults[second]];
-                judge(&mut run, &layout, &both, layout.bytes.len() + 1);
-                let length = any_length(&mut run, &layout, &faults);
-                judge(&mut run, &layout, &both, length);
-            }
-        }
+        judge_pairs(&mut run, &layout, &faults);
     }
     run.finish(&[
         (6, 5),
@@ -202,15 +144,7 @@ fn sets_of_faults() {
         let certified = SIZE.certified(&mut run.rng);
         let layout = certified.bundle.layout();
         let faults = faults(&mut run, &certified, &layout);
-        for _ in 0..200 {
-            let rarity = run.rng.within(2..=12);
-            let set: Vec<&Fault> = faults
-                .iter()
-                .filter(|_| run.rng.below(rarity) == 0)
-                .collect();
-            let length = any_length(&mut run, &layout, &faults);
-            judge(&mut run, &layout, &set, length);
-        }
+        judge_sets(&mut run, &layout, &faults, 200);
     }
     run.finish(&[
         (6, 100),
@@ -241,9 +175,7 @@ fn lengths_come_first() {
             (MAX_BUNDLE_SIZE + 1, TABLE, refusal(4, 0)),
         ] {
             let mut bytes = layout.bytes.clone();
-            for (range, value) in &fault.fields {
-                write_value(&mut bytes, range, *value);
-            }
+            fault.write(&mut bytes);
             bytes.resize(bundle_len, 0);
             let table: Vec<u16> = run.rng.items(table_len);
             let judged = run.judge(&bytes, &table);

@@ -1,116 +1,18 @@
 //! The sample writer for modellers, `examples/write_bundle.py`, and the mistake with
 //! the order of bytes that docs/FORMAT.md speaks of.
 
+mod writing;
+
 use differential::bundles::SAMPLE_A;
-use differential::c_programs::root;
 use differential::limits::MIDDLE;
 use differential::logs::random_word;
 use differential::nets::small_log;
 use differential::rng::Rng;
 use differential::run::Run;
-use hovmekhar::{Judged, Refusal, Screened, Tally};
+use hovmekhar::{Refusal, Screened, Tally};
 use reference::log_rows;
 use std::fs;
-use std::ops::Deref;
-use std::path::{Path, PathBuf};
-use std::process::{self, Command, Output};
-
-/// Whether there is a Python that the writer runs on. Says so where there is none.
-fn has_python() -> bool {
-    let version = Command::new("python3")
-        .args(["-c", "import sys; sys.exit(sys.version_info < (3, 9))"])
-        .status();
-    let there = version.is_ok_and(|status| status.success());
-    if !there {
-        println!("skipped: there is no python3 of version 3.9 or later");
-    }
-    there
-}
-
-/// A directory of this run of a test alone, which goes with it.
-struct Scratch(PathBuf);
-
-impl Scratch {
-    fn new(name: &str) -> Self {
-        let name = format!("{name}_{}", process::id());
-        let directory = Path::new(env!("CARGO_TARGET_TMPDIR")).join(name);
-        fs::create_dir(&directory).expect("a new directory");
-        Self(directory)
-    }
-}
-
-impl Deref for Scratch {
-    type Target = Path;
-
-    fn deref(&self) -> &Path {
-        &self.0
-    }
-}
-
-impl Drop for Scratch {
-    fn drop(&mut self) {
-        // What is left of it disturbs nobody.
-        let _ = fs::remove_dir_all(&self.0);
-    }
-}
-
-fn files_in(directory: &Path) -> usize {
-    fs::read_dir(directory).expect("a directory").count()
-}
-
-fn run_writer<A: AsRef<str>>(out: &Path, arguments: &[A]) -> Output {
-    Command::new("python3")
-        .arg(root().join("examples/write_bundle.py"))
-        .arg(out)
-        .args(arguments.iter().map(AsRef::as_ref))
-        .output()
-        .expect("python3 runs")
-}
-
-/// The event count and the words, as the writer takes them.
-fn arguments(n: usize, words: &[Vec<u8>]) -> Vec<String> {
-    let events = |word: &Vec<u8>| word.iter().map(u8::to_string).collect::<Vec<_>>();
-    let words = words.iter().map(|word| events(word).join(","));
-    [n.to_string()].into_iter().chain(words).collect()
-}
-
-/// Has a log written, and judged: it is accepted, its words are those of the log,
-/// and its counts are those that are known and those that the writer told.
-fn write_and_judge(directory: &Path, n: usize, words: &[Vec<u8>]) -> Tally {
-    let log = format!("n = {n}, words {words:?}");
-    let out = directory.join("written.sealed");
-    let done = run_writer(&out, &arguments(n, words));
-    let errors = String::from_utf8_lossy(&done.stderr);
-    assert_eq!(done.status.code(), Some(0), "{log}: {errors}");
-    assert!(errors.is_empty(), "{log}: {errors}");
-    assert_eq!(files_in(directory), 1, "{log}: nothing else is left");
-
-    let file = fs::read(&out).expect("the file is written");
-    let Judged { bundle, tally, .. } =
-        hovmekhar::judge_file_vec(&file).unwrap_or_else(|refusal| panic!("{log}: {refusal}"));
-    let rows = log_rows(n, words);
-    let allowed = rows.iter().flat_map(|row| &row.allowed).filter(|&&is| is);
-    assert_eq!(tally.rows, rows.len(), "{log}");
-    assert_eq!(tally.allowed, allowed.count(), "{log}");
-
-    let mut head = vec![n as u8, words.len() as u8];
-    for word in words {
-        head.push(word.len() as u8);
-        head.extend(word);
-    }
-    assert!(bundle.starts_with(&head), "{log}: other words");
-
-    let line = format!(
-        "rows {}, allowed steps {}, places {}, certificates of kind 0 {}, of kind 1 {}\n",
-        tally.rows,
-        tally.allowed,
-        bundle[head.len()],
-        tally.by_place,
-        tally.by_weights
-    );
-    assert_eq!(String::from_utf8_lossy(&done.stdout), line, "{log}");
-    tally
-}
+use writing::{arguments, files_in, has_python, run_writer, write_and_judge, Scratch};
 
 #[test]
 fn known_logs_are_written() {
@@ -210,7 +112,8 @@ fn wrong_arguments_write_nothing() {
         refused(wrong, 2, "usage: write_bundle.py OUT N WORD...");
     }
     for word in [
-        ",", "0,", ",0", "0,,1", "0 1", " 0", "-1", "+1", "x", "0,x", "0\n", "٣", "1234",
+        ",", "0,", ",0", "0,,1", "0 1", " 0", "-1", "+1", "x", "0,x", "0\n", "٣", "1234", "..",
+        "0..", ".0", "0.1", "0.,1", "0,.", "0.\n",
     ] {
         refused(&["2", "0", word], 2, "no word of events joined by commas");
     }
@@ -251,7 +154,7 @@ fn what_does_not_fit_is_told() {
     }
     let directory = Scratch::new("what_does_not_fit_is_told");
     let refused = |n: usize, words: &[Vec<u8>], sentence: &str| {
-        let done = run_writer(&directory.join("out"), &arguments(n, words));
+        let done = run_writer(&directory.join("out"), &arguments(n, words, &[]));
         let errors = String::from_utf8_lossy(&done.stderr);
         assert_eq!(done.status.code(), Some(1), "{errors}");
         assert!(errors.contains(sentence), "{errors}");

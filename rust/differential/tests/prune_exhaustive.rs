@@ -1,6 +1,6 @@
 //! Pruning: every beginning, every byte, and every way to name few places.
 
-use differential::bundles::{Bundle, Certificate, Place, SAMPLE_A};
+use differential::bundles::{Bundle, Certificate, Place, SAMPLE_A, SAMPLE_NEW};
 use differential::logs::TABLE;
 use differential::pruning::{idle_count, prune_by_definitions, WITH_IDLE};
 use differential::run::{Outcome, Run};
@@ -43,10 +43,11 @@ fn every_beginning_and_every_byte() {
     let mut run = Run::start("prune::every_beginning_and_every_byte");
     every_change(&mut run, &SAMPLE_A);
     every_change(&mut run, &WITH_IDLE);
+    every_change(&mut run, &SAMPLE_NEW);
     // Nothing here is random but what the buffers held: these are all.
-    let of_bundles = [(0, 2_176), (6, 265), (7, 14_562), (10, 6_147)];
-    let of_certificates = [(11, 7_161), (12, 3_096), (13, 1)];
-    let all = [of_bundles.as_slice(), &of_certificates].concat();
+    let of_bundles = [(0, 2_256), (6, 598), (7, 24_426), (10, 9_234)];
+    let of_certificates = [(20, 2_051), (11, 9_216), (12, 6_185), (13, 1)];
+    let all = [of_bundles, of_certificates].concat();
     run.finish_with_classes(&all, &[("shorter", 1_609)]);
 }
 
@@ -67,6 +68,7 @@ fn every_naming() {
                 let bundle = Bundle {
                     n,
                     words: Vec::new(),
+                    marks: None,
                     places: (0..count).map(place).collect(),
                     certificates: (0..n)
                         .map(|event| Certificate::Place(digit(event) as u8))

@@ -3,7 +3,7 @@
 use differential::bundles::{Bundle, Certificate, MAX_PLACES};
 use differential::limits::MIDDLE;
 use differential::logs::{random_word, TABLE};
-use differential::nets::{certified, small_certified, small_log, Certified, Step};
+use differential::nets::{certified, completed, small_certified, small_log, Certified, Step};
 use differential::pruning::{
     contents, idle_count, insert, is_named, name_lowest, prune_accepted, Idle, LEAVES_EARLIER,
     WITHOUT_IDLE, WITH_IDLE,
@@ -65,8 +65,9 @@ fn judged_as_before() {
     run.finish_with_classes(&[(0, 2_400)], &[("shorter", 300), ("the same", 10)]);
 }
 
-/// What stays: n, the words, the certificates of kind 1 and what the others say, each place
-/// that is named, in the old order, and no other. There is always one.
+/// What stays: edition and n, the words and their marks, the certificates of kind 1 with
+/// their pairs and what the others say, each place that is named, in the old order, and no
+/// other. Without completed words there is always one.
 #[test]
 fn what_stays() {
     let mut run = Run::start("what_stays");
@@ -77,10 +78,14 @@ fn what_stays() {
         let new = contents(&result);
         assert!(new.bytes() == result, "{bytes:?}, {run}");
         assert_eq!((new.n, &new.words), (old.n, &old.words), "{run}");
+        assert_eq!(new.marks, old.marks, "{run}");
         assert_eq!(idle_count(&new), 0, "{bytes:?}, {run}");
         let left = old.places.len() - idle_count(&old);
         assert_eq!(new.places.len(), left, "{bytes:?}, {run}");
-        assert!(left > 0, "no net without a place is accepted: {run}");
+        // Where completed words return to it, every event can be permitted for ever.
+        let needs_places = completed(&old).is_empty();
+        assert!(left > 0 || !needs_places, "no place is left: {run}");
+        run.note(if old.is_new() { "new" } else { "old" });
         assert_eq!(new.certificates.len(), old.certificates.len(), "{run}");
 
         let mut numbers = BTreeSet::new();
@@ -102,7 +107,7 @@ fn what_stays() {
         let named = named.filter(|&place| is_named(&old, place.into()));
         assert!(numbers.into_iter().eq(named.zip(0..)), "{bytes:?}, {run}");
     }
-    run.finish(&[(0, 600)]);
+    run.finish_with_classes(&[(0, 600)], &[("old", 200), ("new", 200)]);
 }
 
 /// Each prefix of the log with each event behind it, once.

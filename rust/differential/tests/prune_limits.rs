@@ -24,6 +24,7 @@ fn empty_log(n: usize, places: Vec<Place>, named: &[usize]) -> Bundle {
     Bundle {
         n,
         words: Vec::new(),
+        marks: None,
         places,
         certificates: certificates.collect(),
     }
@@ -116,6 +117,7 @@ fn all_named_but(skipped: Option<usize>) -> Bundle {
     Bundle {
         n: 2,
         words: vec![vec![0; MAX_PLACES]],
+        marks: None,
         places,
         certificates,
     }

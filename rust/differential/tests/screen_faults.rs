@@ -2,7 +2,8 @@
 //! with events that are not there.
 
 use differential::bundle_faults::{altered, refusal_of_cut, BundleFault};
-use differential::bundles::{Bundle, Field, Place, MAX_PLACES, SAMPLE_A, SAMPLE_E};
+use differential::bundles::{Bundle, Field, Place, MAX_PLACES};
+use differential::bundles::{SAMPLE_A, SAMPLE_E, SAMPLE_NEW};
 use differential::logs::{random_word, MAX_LOG_EVENTS, TABLE};
 use differential::nets::{small_certified, Certified};
 use differential::run::{refusal, Run};
@@ -83,6 +84,7 @@ fn every_byte() {
     let words: [&[u8]; 4] = [&[0, 1], &[1, 0], &[0, 0, 0, 1], &[2]];
     every_value(&mut run, &SAMPLE_A, &words);
     every_value(&mut run, &SAMPLE_E, &[&[], &[0], &[1]]);
+    every_value(&mut run, &SAMPLE_NEW, &[&[0, 1, 2], &[1], &[0, 0], &[3]]);
     run.finish_with_classes(
         &[(0, 10_000), (6, 1_000), (7, 2_000), (15, 5_000)],
         &[("permitted", 3_000), ("stopped", 3_000)],
@@ -115,7 +117,13 @@ fn flipped_bits() {
 #[test]
 fn wrong_values() {
     let mut run = Run::start("wrong_values");
-    for field in [Field::EventCount, Field::Event, Field::PlaceCount] {
+    let fields = [
+        Field::EventCount,
+        Field::Mark,
+        Field::Event,
+        Field::PlaceCount,
+    ];
+    for field in fields {
         let mut made = 0;
         while made < run.cases(200) {
             let certified = small_certified(&mut run.rng);
@@ -128,7 +136,7 @@ fn wrong_values() {
             }
         }
     }
-    run.finish(&[(7, 600)]);
+    run.finish(&[(7, 800)]);
 }
 
 /// Whether a fault leaves everything up to the last place as it was.
@@ -246,6 +254,7 @@ fn places_up_to_the_limit() {
             let bundle = Bundle {
                 n,
                 words: vec![vec![0]],
+                marks: None,
                 places,
                 certificates: Vec::new(),
             };

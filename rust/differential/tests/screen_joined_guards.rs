@@ -81,11 +81,13 @@ fn guards_of_joined_screening_stay_as_they_were() {
 fn parts_of_each_other() {
     let mut run = Run::start("parts_of_each_other");
     for _ in 0..run.cases(200) {
-        let layout = small_certified(&mut run.rng).bundle.layout();
+        let certified = small_certified(&mut run.rng).bundle;
+        let layout = certified.layout();
         let bundle = &layout.bytes;
         for length in layout.all(Field::Length) {
-            let end = length.end + usize::from(bundle[length.start]);
-            for word in [&bundle[length.end..end], &bundle[length.end..=end]] {
+            let start = length.end + usize::from(certified.is_new());
+            let end = start + usize::from(bundle[length.start]);
+            for word in [&bundle[start..end], &bundle[start..=end]] {
                 let apart = run.screen_joined(bundle, bundle, word);
                 let mut answer = [9; 4];
                 let number = ffi::screen_joined(bundle, bundle, word, &mut answer);
@@ -95,5 +97,5 @@ fn parts_of_each_other() {
             }
         }
     }
-    run.finish_with_classes(&[(15, 200)], &[("permitted", 400), ("stopped", 100)]);
+    run.finish_with_classes(&[(15, 60)], &[("permitted", 400), ("stopped", 100)]);
 }

@@ -149,11 +149,14 @@ fn no_places() {
         // Of the bundle's events, where it has an allowed number of them.
         let n = match bytes.first() {
             Some(&n @ 1..=12) => n,
+            Some(&first @ 129..=140) => first - 128,
             _ => run.rng.within(1..=12) as u8,
         };
-        let empty = match run.rng.below(2) {
+        let empty = match run.rng.below(4) {
             0 => vec![n, 0, 0],
-            _ => vec![n, 2, 1, 0, 3, 0, 0, 0, 0, 77],
+            1 => vec![n, 2, 1, 0, 3, 0, 0, 0, 0, 77],
+            2 => vec![128 + n, 0, 0],
+            _ => vec![128 + n, 2, 1, 1, 0, 3, 0, 0, 0, 0, 0, 77],
         };
         let mut word = word;
         match run.rng.below(8) {

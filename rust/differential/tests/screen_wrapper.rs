@@ -127,18 +127,20 @@ fn stopped(position: usize, place: usize, shortfall: usize) -> Screened {
 fn word_in_the_bundle() {
     let mut run = Run::start("word_in_the_bundle");
     for _ in 0..run.cases(200) {
-        let layout = small_certified(&mut run.rng).bundle.layout();
+        let certified = small_certified(&mut run.rng).bundle;
+        let layout = certified.layout();
         let bundle = &layout.bytes;
         for length in layout.all(Field::Length) {
-            let end = length.end + usize::from(bundle[length.start]);
-            for word in [&bundle[length.end..end], &bundle[length.end..=end]] {
+            let start = length.end + usize::from(certified.is_new());
+            let end = start + usize::from(bundle[length.start]);
+            for word in [&bundle[start..end], &bundle[start..=end]] {
                 let apart = run.screen(bundle, word);
                 let together = hovmekhar::screen(bundle, word);
                 assert_eq!(outcome(together), apart, "{run}");
             }
         }
     }
-    run.finish_with_classes(&[(15, 200)], &[("permitted", 400), ("stopped", 100)]);
+    run.finish_with_classes(&[(15, 60)], &[("permitted", 400), ("stopped", 100)]);
 }
 
 /// Each refusal that screening can give is an error with its number, its spot and a

@@ -12,17 +12,17 @@ use differential::vectors::{
     line, rows_line, screened_line, table_line, written_line, Case, Cases,
 };
 
-const FILE: &str = include_str!("data/07.txt");
+const FILE: &str = include_str!("data/08.txt");
 
 /// The calls of the file, with how many cases each has. Each has a test below.
 const COUNTS: [(&str, usize); 7] = [
     ("judge", 120),
-    ("judge_lent", 147),
+    ("judge_lent", 551),
     ("log", 40),
-    ("prune", 45),
-    ("prune_lent", 63),
+    ("prune", 50),
+    ("prune_lent", 77),
     ("screen", 80),
-    ("screen_joined", 168),
+    ("screen_joined", 172),
 ];
 
 #[test]
@@ -53,11 +53,12 @@ fn judged() {
         assert_eq!(line(answer), case.answer, "{run}");
     }
     let of_files = [(1, 2), (17, 3), (18, 6), (2, 1)];
-    let of_bundles = [(7, 58), (10, 2), (11, 3), (12, 28)];
-    let refused = [of_files, of_bundles].concat();
-    all_of("judge", &[refused.as_slice(), &[(0, 17)]].concat());
+    let of_fields = [(6, 11), (7, 19), (13, 1)];
+    let of_nets = [(10, 17), (20, 8), (11, 1), (12, 17)];
+    let refused = [of_files.as_slice(), &of_fields, &of_nets].concat();
+    all_of("judge", &[refused.as_slice(), &[(0, 34)]].concat());
     // Each file that is opened, and each bundle that is accepted.
-    run.finish(&[refused.as_slice(), &[(0, 108 + 17)]].concat());
+    run.finish(&[refused.as_slice(), &[(0, 108 + 34)]].concat());
 }
 
 /// Each file that opens is the one that sealing makes of its bundle, whatever the
@@ -89,9 +90,9 @@ fn judged_with_lent_table() {
         let answer = format!("{} {table}", line(judged.outcome));
         assert_eq!(answer, case.answer, "{run}");
     }
-    let by_length = [(0, 3), (4, 14), (5, 4)];
-    let of_fields = [(6, 14), (7, 50), (8, 10), (9, 6), (13, 3)];
-    let of_nets = [(10, 17), (11, 9), (12, 17)];
+    let by_length = [(0, 30), (4, 24), (5, 6)];
+    let of_fields = [(6, 48), (7, 172), (8, 22), (9, 11), (13, 7)];
+    let of_nets = [(10, 91), (20, 45), (11, 34), (12, 61)];
     let numbers = [by_length.as_slice(), &of_fields, &of_nets].concat();
     all_of("judge_lent", &numbers);
     run.finish(&numbers);
@@ -112,9 +113,9 @@ fn pruned() {
         let answer = answer.as_deref().map_err(|refusal| *refusal);
         assert_eq!(written_line(answer), case.answer, "{run}");
     }
-    all_of("prune", &[(0, 42), (7, 1), (11, 1), (13, 1)]);
-    let written = [(0, 42 * 8), (3, 42 * 4), (5, 45 * 12)];
-    let refused = [(7, 12), (11, 12), (13, 12)];
+    all_of("prune", &[(0, 44), (7, 1), (12, 3), (13, 2)]);
+    let written = [(0, 44 * 8), (3, 44 * 4), (5, 50 * 12)];
+    let refused = [(7, 12), (12, 36), (13, 24)];
     run.finish_with_classes(&[written.as_slice(), &refused].concat(), &[("shorter", 35)]);
 }
 
@@ -132,8 +133,8 @@ fn pruned_with_lent_memory() {
         let answer = format!("{} {table}", written_line(written));
         assert_eq!(answer, case.answer, "{run}");
     }
-    let written = [(0, 24), (3, 24), (4, 1), (5, 2)];
-    let refused = [(6, 2), (7, 4), (8, 1), (11, 2), (12, 2), (13, 1)];
+    let written = [(0, 24), (3, 24), (4, 1), (5, 4)];
+    let refused = [(6, 7), (7, 6), (8, 2), (11, 2), (12, 5), (13, 2)];
     let numbers = [written.as_slice(), &refused].concat();
     all_of("prune_lent", &numbers);
     run.finish(&numbers);
@@ -147,9 +148,9 @@ fn screened() {
         let answer = screen(&mut run, &bundle.bytes(), &word.bytes());
         assert_eq!(screened_line(answer), case.answer, "{run}");
     }
-    let numbers = [(0, 44), (14, 5), (4, 3), (6, 4), (7, 2), (8, 2), (15, 20)];
+    let numbers = [(0, 35), (14, 10), (4, 3), (6, 7), (7, 3), (8, 3), (15, 19)];
     all_of("screen", &numbers);
-    run.finish_with_classes(&numbers, &[("permitted", 36), ("stopped", 8)]);
+    run.finish_with_classes(&numbers, &[("permitted", 25), ("stopped", 10)]);
 }
 
 #[test]
@@ -160,11 +161,11 @@ fn screened_on_two_nets() {
         let answer = screen_joined(&mut run, &first.bytes(), &second.bytes(), &word.bytes());
         assert_eq!(screened_line(answer), case.answer, "{run}");
     }
-    let answered = [(0, 30), (19, 18), (15, 14)];
-    let refused = [(14, 11), (4, 18), (6, 34), (7, 26), (8, 17)];
+    let answered = [(0, 34), (19, 19), (15, 9)];
+    let refused = [(14, 11), (4, 18), (6, 36), (7, 28), (8, 17)];
     let numbers = [answered.as_slice(), &refused].concat();
     all_of("screen_joined", &numbers);
-    run.finish_with_classes(&numbers, &[("permitted", 16), ("stopped", 14)]);
+    run.finish_with_classes(&numbers, &[("permitted", 18), ("stopped", 16)]);
 }
 
 /// The words of a log leave these rows in a table that held anything.

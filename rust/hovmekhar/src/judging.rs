@@ -9,6 +9,12 @@ pub const MAX_PLACES: usize = 64;
 /// The largest number of terms in a certificate of kind 1.
 pub const MAX_TERMS: usize = 64;
 
+/// The largest number of pairs in a certificate of kind 1 of the new edition.
+pub const MAX_PAIRS: usize = 64;
+
+/// By how much the first byte of a bundle of the new edition is above the event count.
+pub const NEW_EDITION: u8 = 128;
+
 /// The counts of an accepted bundle.
 #[derive(Clone, Copy, Debug, PartialEq, Eq, Hash)]
 pub struct Tally {
@@ -21,7 +27,7 @@ pub struct Tally {
     /// lists refuses them.
     pub by_place: usize,
     /// The wrong continuations with a certificate of kind 1: its weights show that
-    /// no net that permits the log refuses them.
+    /// no net that permits the log, and obeys its completed words, refuses them.
     pub by_weights: usize,
 }
 
@@ -39,11 +45,12 @@ pub struct Judged {
 
 /// Judges a bundle: its log, its places and its certificates.
 ///
-/// A bundle is accepted when its places permit every word of its log, and each
-/// wrong continuation, that is each event that does not follow the counts of a
-/// row in the log, has a certificate that holds. The first [`TABLE_SIZE`] numbers
-/// of `table` are then the rows of the log and zeros behind them, whatever they
-/// were before. The rest of `table` stays as it was.
+/// A bundle is accepted when its places permit every word of its log, have their
+/// initial tokens again after each word that is completed, and each wrong
+/// continuation, that is each event that does not follow the counts of a row in the
+/// log, has a certificate that holds. The first [`TABLE_SIZE`] numbers of `table` are
+/// then the rows of the log and zeros behind them, whatever they were before. The rest
+/// of `table` stays as it was. A bundle of the old edition has no completed word.
 ///
 /// # Errors
 ///
@@ -53,8 +60,8 @@ pub struct Judged {
 /// Else the first of these that applies in the order of the bundle; the first
 /// [`TABLE_SIZE`] numbers of `table` are then zero and the rest is as it was:
 /// [`Refusal::BUNDLE_END`], [`Refusal::VALUE`], [`Refusal::EVENTS`],
-/// [`Refusal::ROWS`], [`Refusal::PLACE_MISFIT`], [`Refusal::PLACE_PERMITS`],
-/// [`Refusal::WEIGHTS`], [`Refusal::BYTES_FOLLOW`].
+/// [`Refusal::ROWS`], [`Refusal::PLACE_MISFIT`], [`Refusal::PLACE_DISOBEYS`],
+/// [`Refusal::PLACE_PERMITS`], [`Refusal::WEIGHTS`], [`Refusal::BYTES_FOLLOW`].
 ///
 /// ```
 /// use hovmekhar::{Tally, ROW_SIZE, TABLE_SIZE};
@@ -88,6 +95,35 @@ pub struct Judged {
 /// assert_eq!(row, [2, 0, 0, 0, 0, 0, 0, 0, 0, 0, 0, 0, 0b10, 1]);
 /// assert!(table[5 * ROW_SIZE..].iter().all(|&number| number == 0));
 /// # Ok::<(), hovmekhar::Refusal>(())
+/// ```
+///
+/// A bundle of the new edition, with a completed word:
+///
+/// ```
+/// use hovmekhar::{Refusal, NEW_EDITION};
+///
+/// let mut bundle = [
+///     // Two events, and the word 0 1, completed.
+///     NEW_EDITION + 2, 1, 2, 1, 0, 1,
+///     // Two places: event 0 takes the token of the first, and event 1 puts it back; event
+///     // 1 takes what event 0 puts into the second.
+///     2, 1, 0, 0, 0, 1, 0, 1, 0, 0, 0,
+///     0, 0, 1, 0, 0, 0, 0, 0, 1, 0,
+///     // Certificates for event 1 at first, for event 0 after 0, and for events 0 and 1
+///     // after 0 1. There event 0 is as at first: its weight, and the word once.
+///     0, 1,
+///     0, 0,
+///     1, 1, 0, 1, 0, 0, 0, 1, 0, 1, 0, 1, 0,
+///     0, 1,
+/// ];
+/// let (counts, _) = hovmekhar::judge_vec(&bundle)?;
+/// assert_eq!((counts.by_place, counts.by_weights), (3, 1));
+///
+/// // With two tokens for each event 0 one stays in the second place.
+/// bundle[19] = 2;
+/// let refusal = hovmekhar::judge_vec(&bundle).unwrap_err();
+/// assert_eq!(refusal, Refusal { number: Refusal::PLACE_DISOBEYS, spot: 1 });
+/// # Ok::<(), Refusal>(())
 /// ```
 ///
 /// A certificate of kind 1 whose weights are too small:

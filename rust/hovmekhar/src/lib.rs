@@ -12,12 +12,13 @@
 //!
 //! A bundle holds a log, a net of places, and a certificate for each *wrong
 //! continuation*: each event that does not follow the counts of a row in the log.
-//! [`judge`] accepts it when the net permits the log and every certificate holds;
-//! [`judge_file_vec`] opens a file, judges its bundle and hands both back. [`prune`]
-//! writes an accepted bundle without the places that no certificate names.
-//! [`screen`] replays a word on the net of a bundle, and says where it is stopped
-//! and how many tokens were missing; [`screen_joined`] does so with the places of
-//! two bundles.
+//! In the new edition a word can be marked as *completed*: it leaves each place with its
+//! initial tokens. [`judge`] accepts a bundle when the net permits the log, obeys its
+//! completed words, and every certificate holds; [`judge_file_vec`] opens a file, judges
+//! its bundle and hands both back. [`prune`] writes an accepted bundle without the places
+//! that no certificate names. [`screen`] replays a word on the net of a bundle, and says
+//! where it is stopped and how many tokens were missing; [`screen_joined`] does so with
+//! the places of two bundles.
 //!
 //! A call that cannot give a result returns a [`Refusal`] and writes nothing; only
 //! [`judge`] clears the table. [`prune`] leaves the table as [`judge`] does.
@@ -59,7 +60,8 @@ mod screening;
 
 pub use blocks::{open, open_vec, seal, seal_vec};
 pub use blocks::{BLOCK_SIZE, CONTENTS_SIZE, MAX_BLOCKS, MAX_BUNDLE_SIZE, MAX_FILE_SIZE};
-pub use judging::{judge, judge_file_vec, judge_vec, Judged, Tally, MAX_PLACES, MAX_TERMS};
+pub use judging::{judge, judge_file_vec, judge_vec, Judged, Tally};
+pub use judging::{MAX_PAIRS, MAX_PLACES, MAX_TERMS, NEW_EDITION};
 pub use logs::{Summary, MAX_EVENTS, MAX_LOG_EVENTS, MAX_ROWS, ROW_SIZE, TABLE_SIZE};
 pub use pruning::{prune, prune_vec};
 pub use refusal::{Kind, Refusal};

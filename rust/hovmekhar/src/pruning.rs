@@ -9,7 +9,8 @@ use crate::{Refusal, MAX_BUNDLE_SIZE, TABLE_SIZE};
 /// of kind 0 names. Returns the length; the rest of `output` stays as it was.
 ///
 /// The other places keep their order, and the certificates of kind 0 name them by their
-/// new numbers. All else is the same byte for byte. So the result is accepted with the
+/// new numbers. All else is the same byte for byte, the edition, the marks of the words
+/// and the pairs of the certificates among it. So the result is accepted with the
 /// same counts and the same table, and it is never longer. A prefix of the log with one
 /// event added is permitted by the new net exactly when the old one permits it. A word
 /// that leaves the log earlier may be permitted although it was not. Pruning once more

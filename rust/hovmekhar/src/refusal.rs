@@ -59,6 +59,8 @@ pub enum Kind {
     BlockUse = 18,
     /// [`Refusal::EVENT_COUNTS`]
     EventCounts = 19,
+    /// [`Refusal::PLACE_DISOBEYS`]
+    PlaceDisobeys = 20,
 }
 
 impl Kind {
@@ -83,6 +85,7 @@ impl Kind {
         Kind::BlockNumber,
         Kind::BlockUse,
         Kind::EventCounts,
+        Kind::PlaceDisobeys,
     ];
 
     /// The refusal of a number, if one has it.
@@ -108,12 +111,15 @@ impl Kind {
             Kind::BundleLength => "the bundle's length is 0 or above 64,512",
             Kind::NumbersShort => "the table has fewer than 3,584 numbers",
             Kind::BundleEnd => "the bundle ends before or inside a field",
-            Kind::Value => "a value is outside its range, or names a row, event or place that is not there",
+            Kind::Value => "a value is outside its range, or names a row, event, place or word that is not there",
             Kind::Events => "the events would pass 1,024",
             Kind::Rows => "the rows would pass 256",
             Kind::PlaceMisfit => "a place does not fit the log: the net is too tight",
             Kind::PlacePermits => "a certificate of kind 0 whose place permits the step",
-            Kind::Weights => "a certificate of kind 1 whose weights do not hold, or with a step that is not allowed",
+            Kind::Weights => {
+                "a certificate of kind 1 whose weights do not hold, with a step that is not allowed, \
+                 or with a word that is not completed"
+            }
             Kind::BytesFollow => "bytes follow the last certificate",
             Kind::WordLength => "the screened word has more than 65,535 events",
             Kind::WordEvent => "an event of the screened word is not below n",
@@ -121,6 +127,7 @@ impl Kind {
             Kind::BlockNumber => "a block's number is not its position",
             Kind::BlockUse => "a block's used count is wrong, or an unused byte is not zero",
             Kind::EventCounts => "the event counts of the two bundles are not the same",
+            Kind::PlaceDisobeys => "a place does not return to its initial tokens after a completed word",
         }
     }
 
@@ -154,6 +161,9 @@ impl Kind {
             }
             Kind::BlockUse => "it was cut short, or written by something else: have it sent again",
             Kind::EventCounts => "the nets are not of one log: join only nets over the same events",
+            Kind::PlaceDisobeys => {
+                "the modeller must balance or drop this place, or mark the word as partial"
+            }
         }
     }
 }
@@ -176,7 +186,7 @@ impl fmt::Display for Kind {
 /// ```
 #[derive(Clone, Copy, Debug, PartialEq, Eq, Hash)]
 pub struct Refusal {
-    /// The number, 1 to 19.
+    /// The number, 1 to 20.
     pub number: u8,
     /// Where or how much, according to the number.
     pub spot: usize,
@@ -196,7 +206,7 @@ impl Refusal {
     pub const NUMBERS_SHORT: u8 = Kind::NumbersShort.number();
     /// The bundle ends before or inside a field. Spot: the field's offset.
     pub const BUNDLE_END: u8 = Kind::BundleEnd.number();
-    /// A value is outside its range, or names a row, event or place that is not
+    /// A value is outside its range, or names a row, event, place or word that is not
     /// there. Spot: the field's offset; in a lent word, the position.
     pub const VALUE: u8 = Kind::Value.number();
     /// The events would pass 1,024. Spot: the offset of the word's length byte;
@@ -209,8 +219,9 @@ impl Refusal {
     /// The place that a certificate lists permits the wrong continuation.
     /// Spot: the certificate's number.
     pub const PLACE_PERMITS: u8 = Kind::PlacePermits.number();
-    /// A certificate of kind 1 does not hold, or the step of one of its terms is
-    /// not allowed. Spot: the certificate's number.
+    /// A certificate of kind 1 does not hold, the step of one of its terms is not
+    /// allowed, or the word of one of its pairs is partial. Spot: the certificate's
+    /// number.
     pub const WEIGHTS: u8 = Kind::Weights.number();
     /// Bytes follow the last certificate. Spot: the offset of the first.
     pub const BYTES_FOLLOW: u8 = Kind::BytesFollow.number();
@@ -229,6 +240,9 @@ impl Refusal {
     pub const BLOCK_USE: u8 = Kind::BlockUse.number();
     /// The event counts of two bundles that are joined are not the same. Spot: 0.
     pub const EVENT_COUNTS: u8 = Kind::EventCounts.number();
+    /// A place does not have its initial tokens again after a completed word; all
+    /// places fit. Spot: the lowest such place.
+    pub const PLACE_DISOBEYS: u8 = Kind::PlaceDisobeys.number();
 
     /// Which refusal it is; nothing for a number that is not in the table, which no
     /// call gives.
@@ -257,7 +271,7 @@ impl Refusal {
             return Ok(());
         }
         Err(Refusal {
-            // The refusal table ends at 19 and `usize` has 64 bits here, so both
+            // The refusal table ends at 20 and `usize` has 64 bits here, so both
             // conversions keep the value.
             number: number as u8,
             spot: answer[0] as usize,
@@ -295,7 +309,7 @@ impl fmt::Display for Sentence {
             Refusal::VALUE => write!(
                 f,
                 "the value at {spot} is outside its range, \
-                 or names a row, event or place that is not there"
+                 or names a row, event, place or word that is not there"
             ),
             Refusal::EVENTS => write!(f, "the events would pass 1,024 (spot {spot})"),
             Refusal::ROWS => write!(f, "the rows would pass 256 (spot {spot})"),
@@ -306,7 +320,8 @@ impl fmt::Display for Sentence {
             ),
             Refusal::WEIGHTS => write!(
                 f,
-                "certificate {spot} does not hold, or has a step that is not allowed"
+                "certificate {spot} does not hold, has a step that is not allowed, \
+                 or a word that is not completed"
             ),
             Refusal::BYTES_FOLLOW => write!(
                 f,
@@ -315,6 +330,10 @@ impl fmt::Display for Sentence {
             Refusal::WORD_EVENT => write!(
                 f,
                 "the event at position {spot} of the word is not below the event count"
+            ),
+            Refusal::PLACE_DISOBEYS => write!(
+                f,
+                "place {spot} does not return to its initial tokens after a completed word"
             ),
             // The others have one spot each, which tells nothing.
             _ => f.write_str(

@@ -1,15 +1,15 @@
 //! Judging a bundle.
 //!
 //! A bundle holds a log, places, and a certificate for each wrong continuation,
-//! in this order. It is read once, field by field.
+//! in this order. It is read once, field by field. In the new edition words can be
+//! completed: they have to leave each place with its initial tokens.
 
 use crate::blocks::MAX_BUNDLE_SIZE;
 use crate::places::Place;
-use crate::reader::Reader;
+use crate::reader::{Edition, Reader, Word};
 use crate::tables::{front, MASK, MAX_EVENTS, MAX_LOG_EVENTS, MAX_ROWS, ROW, TRAFFIC};
+use crate::weights::Weights;
 use crate::Refusal;
-
-const MAX_TERMS: u8 = 64;
 
 /// The counts of an accepted bundle.
 #[derive(Clone, Copy, Debug, PartialEq, Eq)]
@@ -35,8 +35,8 @@ pub struct Tally {
 /// Else the first fault in the order of the bundle; the first 3,584 numbers of
 /// `table` are then zero. 6, 7 and 13 are refused with the offset of a field, 8
 /// and 9 with the offset of a word's length, 10 with the number of a place, after
-/// all places are read, and 11 and 12 with the number of a certificate, after it
-/// is read.
+/// all places are read, 20 likewise, where all of them fit, and 11 and 12 with the
+/// number of a certificate, after it is read.
 pub fn judge(bundle: &[u8], table: &mut [u16]) -> Result<Tally, Refusal> {
     if bundle.is_empty() || bundle.len() > MAX_BUNDLE_SIZE {
         return Err(Refusal { number: 4, spot: 0 });
@@ -51,8 +51,8 @@ pub fn judge(bundle: &[u8], table: &mut [u16]) -> Result<Tally, Refusal> {
 }
 
 fn read(mut reader: Reader, table: &mut [u16]) -> Result<Tally, Refusal> {
-    let n = reader.byte(1..=MAX_EVENTS as u8)?;
-    let log = Log::read(&mut reader, n, table)?;
+    let (edition, n) = reader.event_count()?;
+    let log = Log::read(&mut reader, edition, n, table)?;
     let net = Net::read(&mut reader, n, &log)?;
 
     let mut by_place = 0;
@@ -74,7 +74,11 @@ fn read(mut reader: Reader, table: &mut [u16]) -> Result<Tally, Refusal> {
                 }
                 by_place += 1;
             } else {
-                if !Weights::read(&mut reader, n, &log)?.hold(step, &log) {
+                let mut weights = Weights::read(&mut reader, n, &log)?;
+                if edition == Edition::New {
+                    weights.read_pairs(&mut reader, &log)?;
+                }
+                if !weights.hold(step, &log) {
                     return Err(Refusal {
                         number: 12,
                         spot: certificate,
@@ -95,13 +99,13 @@ fn read(mut reader: Reader, table: &mut [u16]) -> Result<Tally, Refusal> {
 
 /// An event after the counts of a row.
 #[derive(Clone, Copy)]
-struct Step {
-    row: usize,
-    event: usize,
+pub struct Step {
+    pub row: usize,
+    pub event: usize,
 }
 
 /// A log, with its rows in a table.
-struct Log<'t> {
+pub struct Log<'t> {
     table: &'t mut [u16],
     /// The allowed steps, each once.
     allowed: Vec<Step>,
@@ -112,31 +116,48 @@ struct Log<'t> {
     last_of_length: [u8; 256],
     /// For each row the one of the same length before it, or 0.
     before: Vec<u8>,
+    /// In the new edition for each word, where it is completed, the row of all its
+    /// events.
+    pub completed: Vec<Option<usize>>,
 }
 
 impl<'t> Log<'t> {
     /// Reads the words of a log over `n` events into a table of zeros.
-    fn read(reader: &mut Reader, n: u8, table: &'t mut [u16]) -> Result<Self, Refusal> {
+    fn read(
+        reader: &mut Reader,
+        edition: Edition,
+        n: u8,
+        table: &'t mut [u16],
+    ) -> Result<Self, Refusal> {
         let mut log = Self {
             table,
             allowed: Vec::with_capacity(MAX_LOG_EVENTS),
             origins: Vec::with_capacity(MAX_ROWS),
             last_of_length: [0; 256],
             before: Vec::with_capacity(MAX_ROWS),
+            completed: Vec::new(),
         };
         log.before.push(0);
-        reader.words(n, |word, spot| {
-            if log.take(word) {
-                Ok(())
-            } else {
-                Err(Refusal { number: 9, spot })
-            }
-        })?;
+        reader.words(edition, n, |word| log.take_word(edition, word))?;
         Ok(log)
     }
 
-    /// Takes a word, or a part of it where the rows would pass 256.
-    fn take(&mut self, word: &[u8]) -> bool {
+    fn take_word(&mut self, edition: Edition, word: Word) -> Result<(), Refusal> {
+        let Some(row) = self.take(word.events) else {
+            return Err(Refusal {
+                number: 9,
+                spot: word.spot,
+            });
+        };
+        if edition == Edition::New {
+            self.completed.push(word.is_completed.then_some(row));
+        }
+        Ok(())
+    }
+
+    /// Takes a word, or a part of it where the rows would pass 256. Returns the row of
+    /// all its events.
+    fn take(&mut self, word: &[u8]) -> Option<usize> {
         let mut row = 0;
         let mut counts = [0; MAX_EVENTS];
         self.pass(row);
@@ -147,12 +168,12 @@ impl<'t> Log<'t> {
             counts[event] += 1;
             row = match self.find(length, &counts) {
                 Some(found) => found,
-                None if self.rows() == MAX_ROWS => return false,
+                None if self.rows() == MAX_ROWS => return None,
                 None => self.append(length, &counts, step),
             };
             self.pass(row);
         }
-        true
+        Some(row)
     }
 
     /// Counts a word in the traffic of a row. There are at most 255 words.
@@ -186,17 +207,17 @@ impl<'t> Log<'t> {
         row
     }
 
-    fn rows(&self) -> usize {
+    pub fn rows(&self) -> usize {
         self.before.len()
     }
 
-    fn counts(&self, row: usize) -> &[u16; MAX_EVENTS] {
+    pub fn counts(&self, row: usize) -> &[u16; MAX_EVENTS] {
         self.table[row * ROW..]
             .first_chunk()
             .expect("a row has twelve counts")
     }
 
-    fn allows(&self, step: Step) -> bool {
+    pub fn allows(&self, step: Step) -> bool {
         self.table[step.row * ROW + MASK] >> step.event & 1 == 1
     }
 }
@@ -218,6 +239,12 @@ impl Place<i32> {
         let permits = |step: &Step| self.permits(tokens[step.row], step.event);
         log.allowed.iter().all(permits)
     }
+
+    /// Whether each completed word leaves the initial tokens.
+    fn obeys(&self, log: &Log, tokens: &[i32]) -> bool {
+        let returns = |&row: &usize| tokens[row] == self.initial;
+        log.completed.iter().flatten().all(returns)
+    }
 }
 
 /// The places of a bundle, and how many tokens each has after each row.
@@ -229,7 +256,8 @@ struct Net {
 }
 
 impl Net {
-    /// Reads the places and checks that they fit the log.
+    /// Reads the places and checks that they fit the log, then that they obey its
+    /// completed words.
     fn read(reader: &mut Reader, n: u8, log: &Log) -> Result<Self, Refusal> {
         let places = Place::read_all(reader, n)?;
         let rows = log.rows();
@@ -241,11 +269,16 @@ impl Net {
                 return Err(Refusal { number: 10, spot });
             }
         }
-        Ok(Self {
+        let net = Self {
             places,
             tokens,
             rows,
-        })
+        };
+        let mut of_places = net.places.iter().zip(net.tokens.chunks_exact(rows));
+        match of_places.position(|(place, tokens)| !place.obeys(log, tokens)) {
+            Some(spot) => Err(Refusal { number: 20, spot }),
+            None => Ok(net),
+        }
     }
 
     fn place_count(&self) -> u8 {
@@ -255,65 +288,5 @@ impl Net {
 
     fn permits(&self, place: usize, step: Step) -> bool {
         self.places[place].permits(self.tokens[place * self.rows + step.row], step.event)
-    }
-}
-
-/// A certificate of kind 1: k, and the sums of its terms. A term is a weight g on
-/// a step (u, f).
-///
-/// There are at most 64 terms, all numbers have at most two bytes and a word has
-/// at most 255 events, so the sums stay below 2^31.
-struct Weights {
-    k: u32,
-    all_allowed: bool,
-    /// The sum of g.
-    total: u32,
-    /// For each event i the sum of g × u(i).
-    before: [u32; MAX_EVENTS],
-    /// For each event i the sum of g over the terms with f = i.
-    of_event: [u32; MAX_EVENTS],
-}
-
-impl Weights {
-    // Not inlined: on its own the loop over the counts is vectorised.
-    #[inline(never)]
-    fn read(reader: &mut Reader, n: u8, log: &Log) -> Result<Self, Refusal> {
-        let mut weights = Self {
-            k: reader.number(1..)?.into(),
-            all_allowed: true,
-            total: 0,
-            before: [0; MAX_EVENTS],
-            of_event: [0; MAX_EVENTS],
-        };
-        for _ in 0..reader.byte(..=MAX_TERMS)? {
-            // There are at most 256 rows.
-            let row = reader.number(..log.rows() as u16)?.into();
-            let event = reader.byte(..n)?.into();
-            let weight = reader.number(..)?.into();
-            weights.add(weight, Step { row, event }, log);
-        }
-        Ok(weights)
-    }
-
-    fn add(&mut self, weight: u32, step: Step, log: &Log) {
-        self.all_allowed &= log.allows(step);
-        self.total += weight;
-        for (sum, &count) in self.before.iter_mut().zip(log.counts(step.row)) {
-            *sum += weight * u32::from(count);
-        }
-        self.of_event[step.event] += weight;
-    }
-
-    /// Whether all steps are allowed and the inequalities hold for this wrong
-    /// continuation.
-    fn hold(&self, step: Step, log: &Log) -> bool {
-        self.all_allowed
-            && self.total <= self.k
-            && log.counts(step.row).iter().enumerate().all(|(i, &count)| {
-                let count = u32::from(count);
-                let next_count = count + u32::from(i == step.event);
-                self.before[i] <= self.k * count
-                    && self.before[i] + self.of_event[i] >= self.k * next_count
-            })
     }
 }

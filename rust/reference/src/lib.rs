@@ -5,7 +5,8 @@
 //! proved library, so that tests can compare the two. See [`open`] and [`seal`]
 //! for files, [`fresh`] and [`take`] for the log table, [`judge`] for bundles,
 //! [`prune`] for bundles without idle places, [`screen`] for a word, [`screen_joined`] for
-//! a word on two nets. [`log_rows`] has the same rows without a table.
+//! a word on two nets. [`log_rows`] has the same rows without a table. Bundles are read
+//! in both editions.
 
 #![forbid(unsafe_code)]
 #![deny(missing_docs)]
@@ -18,6 +19,7 @@ mod pruning;
 mod reader;
 mod screening;
 mod tables;
+mod weights;
 
 pub use blocks::{open, seal};
 pub use judging::{judge, Tally};

@@ -5,6 +5,7 @@
 
 use crate::judging::judge;
 use crate::places::MAX_PLACES;
+use crate::reader::Edition;
 use crate::Refusal;
 use std::iter;
 
@@ -20,6 +21,7 @@ use std::iter;
 pub fn prune(bundle: &[u8], output: &mut [u8], table: &mut [u16]) -> Result<usize, Refusal> {
     judge(bundle, table)?;
     let Parts {
+        edition,
         head,
         places,
         place_size,
@@ -27,7 +29,7 @@ pub fn prune(bundle: &[u8], output: &mut [u8], table: &mut [u16]) -> Result<usiz
     } = Parts::of(bundle);
 
     let mut named = [false; MAX_PLACES as usize];
-    for at in listed_at(certificates) {
+    for at in listed_at(edition, certificates) {
         named[usize::from(certificates[at])] = true;
     }
     let stay = || {
@@ -61,7 +63,7 @@ pub fn prune(bundle: &[u8], output: &mut [u8], table: &mut [u16]) -> Result<usiz
         before += u8::from(named);
         before - u8::from(named)
     });
-    for at in listed_at(certificates) {
+    for at in listed_at(edition, certificates) {
         new_certificates[at] = numbers[usize::from(certificates[at])];
     }
     Ok(length)
@@ -69,6 +71,7 @@ pub fn prune(bundle: &[u8], output: &mut [u8], table: &mut [u16]) -> Result<usiz
 
 /// An accepted bundle without its place count.
 struct Parts<'b> {
+    edition: Edition,
     /// The event count and the words.
     head: &'b [u8],
     places: &'b [u8],
@@ -79,13 +82,18 @@ struct Parts<'b> {
 
 impl<'b> Parts<'b> {
     fn of(bundle: &'b [u8]) -> Self {
+        let (edition, n) = Edition::of(bundle[0]);
+        // The length, and in the new edition the mark.
+        let before_events = 1 + usize::from(edition == Edition::New);
         let word_count = bundle[1];
-        let words_end = (0..word_count).fold(2, |at, _| at + 1 + usize::from(bundle[at]));
+        let words_end =
+            (0..word_count).fold(2, |at, _| at + before_events + usize::from(bundle[at]));
         let (head, rest) = bundle.split_at(words_end);
         // m, and in and out for each event, in two bytes each.
-        let place_size = 2 + 4 * usize::from(bundle[0]);
+        let place_size = 2 + 4 * usize::from(n);
         let (places, certificates) = rest[1..].split_at(usize::from(rest[0]) * place_size);
         Self {
+            edition,
             head,
             places,
             place_size,
@@ -95,7 +103,7 @@ impl<'b> Parts<'b> {
 }
 
 /// Where in the certificates those of kind 0 have their place's number.
-fn listed_at(certificates: &[u8]) -> impl Iterator<Item = usize> + '_ {
+fn listed_at(edition: Edition, certificates: &[u8]) -> impl Iterator<Item = usize> + '_ {
     let mut next = 0;
     iter::from_fn(move || loop {
         let at = next;
@@ -105,5 +113,9 @@ fn listed_at(certificates: &[u8]) -> impl Iterator<Item = usize> + '_ {
         }
         // The kind, k and the term count; then a row, an event and a weight each.
         next += 4 + 5 * usize::from(certificates[at + 3]);
+        if edition == Edition::New {
+            // The pair count; then a word and a weight each.
+            next += 1 + 3 * usize::from(certificates[next]);
+        }
     })
 }

@@ -1,8 +1,39 @@
 //! Reading a bundle field by field.
 
-use crate::tables::MAX_LOG_EVENTS;
+use crate::tables::{MAX_EVENTS, MAX_LOG_EVENTS};
 use crate::Refusal;
 use std::ops::RangeBounds;
+
+/// By how much the first byte of the new edition is above the event count.
+const NEW: u8 = 128;
+
+/// Which fields a bundle has.
+#[derive(Clone, Copy, PartialEq, Eq)]
+pub enum Edition {
+    /// No word is completed.
+    Old,
+    /// Each word has a mark, and each certificate of kind 1 a list of pairs.
+    New,
+}
+
+impl Edition {
+    /// The edition and the event count that a first byte stands for, which may be out of
+    /// range.
+    pub fn of(first: u8) -> (Self, u8) {
+        match first.checked_sub(NEW) {
+            Some(n) => (Self::New, n),
+            None => (Self::Old, first),
+        }
+    }
+}
+
+/// A word of a log.
+pub struct Word<'b> {
+    pub events: &'b [u8],
+    pub is_completed: bool,
+    /// The offset of its length.
+    pub spot: usize,
+}
 
 /// The fields of a bundle, from the first one that is not read yet.
 pub struct Reader<'b> {
@@ -50,6 +81,31 @@ impl<'b> Reader<'b> {
         }
     }
 
+    /// The next field, which has two bytes in two's complement.
+    ///
+    /// # Errors
+    ///
+    /// 6 with the field's offset when it is missing or cut.
+    #[inline]
+    pub fn signed(&mut self) -> Result<i16, Refusal> {
+        Ok(i16::from_le_bytes(self.field()?))
+    }
+
+    /// The first field: the edition and the event count.
+    ///
+    /// # Errors
+    ///
+    /// 7 when no edition has this byte, 6 when there is none.
+    pub fn event_count(&mut self) -> Result<(Edition, u8), Refusal> {
+        let spot = self.offset;
+        let (edition, n) = Edition::of(self.byte(..)?);
+        if (1..=MAX_EVENTS as u8).contains(&n) {
+            Ok((edition, n))
+        } else {
+            Err(Refusal { number: 7, spot })
+        }
+    }
+
     /// The next `length` fields, which are events below `n`, as the part of the
     /// bundle that they occupy.
     ///
@@ -72,8 +128,7 @@ impl<'b> Reader<'b> {
         Ok(events)
     }
 
-    /// The words of a log over `n` events. Hands each to `take`, with the offset of
-    /// its length.
+    /// The words of a log over `n` events. Hands each to `take`.
     ///
     /// # Errors
     ///
@@ -81,18 +136,25 @@ impl<'b> Reader<'b> {
     /// the events would pass 1,024, or what `take` refused.
     pub fn words(
         &mut self,
+        edition: Edition,
         n: u8,
-        mut take: impl FnMut(&'b [u8], usize) -> Result<(), Refusal>,
+        mut take: impl FnMut(Word<'b>) -> Result<(), Refusal>,
     ) -> Result<(), Refusal> {
-        let mut events = 0;
+        let mut count = 0;
         for _ in 0..self.byte(..)? {
             let spot = self.offset;
             let length = self.byte(..)?.into();
-            events += length;
-            if events > MAX_LOG_EVENTS {
+            count += length;
+            if count > MAX_LOG_EVENTS {
                 return Err(Refusal { number: 8, spot });
             }
-            take(self.events(length, n)?, spot)?;
+            let is_completed = edition == Edition::New && self.byte(..=1)? == 1;
+            let events = self.events(length, n)?;
+            take(Word {
+                events,
+                is_completed,
+                spot,
+            })?;
         }
         Ok(())
     }

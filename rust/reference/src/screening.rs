@@ -6,7 +6,6 @@
 use crate::blocks::MAX_BUNDLE_SIZE;
 use crate::places::Place;
 use crate::reader::Reader;
-use crate::tables::MAX_EVENTS;
 use crate::Refusal;
 
 const MAX_WORD_EVENTS: usize = 65_535;
@@ -77,9 +76,9 @@ impl Net {
             return Err(Refusal { number: 4, spot: 0 });
         }
         let mut reader = Reader::new(bundle);
-        let n = reader.byte(1..=MAX_EVENTS as u8)?;
+        let (edition, n) = reader.event_count()?;
         // The words have to be sound, but are not needed.
-        reader.words(n, |_, _| Ok(()))?;
+        reader.words(edition, n, |_| Ok(()))?;
         let places = Place::read_all(&mut reader, n)?;
         Ok(Self { n, places })
     }

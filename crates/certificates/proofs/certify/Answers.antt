@@ -17,7 +17,8 @@ certify_row-requires-clause-few c = omega (arith, c.loop-row.invariant.told.1)
 pub returns-in_err-certify_row : goal.returns-in_err-certify_row
 returns-in_err-certify_row c =
     let q = err_from_is_err_and c.from_residual.result c.from_residual.ensures.1 in
-    let stopped = outcome-refused c.loop-row.invariant {i' = 0} {e' = 0} {s' = c.loop-row.progress} (rw c.in_err-certify_row.was at c.certify_row.ensures) in
+    let stopped =
+    outcome-refused c.loop-row.invariant {i' = 0} {e' = 0} {s' = c.loop-row.progress} (rw c.in_err-certify_row.was at c.certify_row.ensures) in
     rw (q.1, q.2) (outcome-stopped _ _ c.args.head.now.held.size stopped ∙ rw c.offset.ensures)
 
 pub loop-row-preserved : goal.loop-row-preserved

@@ -39,4 +39,5 @@ unfolding of_kind_checked
 returns-in_ok-check_weights-in-Weights c =
     let kind = rw c.in-Weights.is at c.in_ok-kind.ensures in
     rw c.in-Weights.is
-    (then_read (of_kind_checked c.args.step.now c.args.number) kind (then_read (λ u. give Weights) c.in_ok-check_weights-in-Weights.ensures (read_give _)))
+    (then_read (of_kind_checked c.args.step.now c.args.number) kind
+    (then_read (λ u. give Weights) c.in_ok-check_weights-in-Weights.ensures (read_give _)))

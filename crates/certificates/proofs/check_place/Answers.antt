@@ -52,7 +52,8 @@ tested c =
     let v = counts_before s in
     let size = length-take-le {A = ℕ} net.n c.counts.result.now (omega (arith, c.counts.ensures.1, net.limit)) in
     let permits = rw (c.from.ensures, c.from-2.ensures, c.from-3.ensures, size, c.counts.ensures.0) at c.permits.ensures in
-    ap (λ (p : theory.Place). place_permits net.n p (record { row = v; event = s.event })) (sym (place_same s.head.now.held.found j here (s.head.now.read.each j here)))
+    ap (λ (p : theory.Place). place_permits net.n p (record { row = v; event = s.event }))
+    (sym (place_same s.head.now.held.found j here (s.head.now.read.each j here)))
     ∙ permits-front net.n _ v s.event
     ∙ sym permits
 
@@ -61,10 +62,12 @@ returns-then-permits c =
     let s = c.args.step.now in
     let here = goal.at.returns-then-permits c in
     rw c.at.ensures
-    (tested-refused (λ (j : ℕ). not (permits_for s j)) place_permits_number c.args.number (read here.In_ok-j) (ap not (tested here.After-permits ∙ c.if-permits.true)))
+    (tested-refused (λ (j : ℕ). not (permits_for s j)) place_permits_number c.args.number
+    (read here.In_ok-j) (ap not (tested here.After-permits ∙ c.if-permits.true)))
 
 pub returns : goal.returns
 returns c =
     let s = c.args.step.now in
     let here = goal.at.returns c in
-    tested_passed (λ (j : ℕ). not (permits_for s j)) place_permits_number c.args.number (read here.In_ok-j) (ap not (tested here.After-permits ∙ c.if-permits.false))
+    tested_passed (λ (j : ℕ). not (permits_for s j)) place_permits_number c.args.number
+    (read here.In_ok-j) (ap not (tested here.After-permits ∙ c.if-permits.false))

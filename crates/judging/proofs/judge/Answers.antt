@@ -45,7 +45,8 @@ judged c = answer-rest _ _ (fits (goal.at.After-is_err c).Else-not-size_fits) (o
 -- and the table is the one that they left in a cleared one
 left : (c : After-is_err) → TableLeft (judging c.args.bundle.now 0) (cleared table_size c.args.table.now) c.judge_fields-verdict.new.table
 left c =
-    subst (λ (t : List ℕ). TableLeft (judging c.args.bundle.now 0) t c.judge_fields-verdict.new.table) c.clear.ensures c.judge_fields-verdict.ensures.table_left
+    subst (λ (t : List ℕ). TableLeft (judging c.args.bundle.now 0) t c.judge_fields-verdict.new.table)
+    c.clear.ensures c.judge_fields-verdict.ensures.table_left
 
 -- the test of the verdict
 refused : (c : After-is_err) → is_err (verdict_of (judging c.args.bundle.now 0)) ≡ c.is_err.result

@@ -9,4 +9,5 @@ returns-then-from-n c =
     let there : a.at + 5 ≤ length a.bytes.now = omega (arith, c.if-saturating_sub-ge5.true, c.saturating_sub.ensures) in
     rw (c.number_at-row.ensures, c.number_at-weight.ensures)
     (→got refl
-    (sym (term-there c.args.n c.args.rows a.bytes.now a.at there (omega (arith, c.number_at-row.ensures, c.from.ensures, c.if-from-rows.true)) (omega (arith, c.from-then-from-rows.ensures, c.if-from-n.true)))))
+    (sym (term-there c.args.n c.args.rows a.bytes.now a.at there (omega (arith, c.number_at-row.ensures, c.from.ensures, c.if-from-rows.true))
+    (omega (arith, c.from-then-from-rows.ensures, c.if-from-n.true)))))

@@ -1,7 +1,7 @@
 //! One certificate in full.
 
 use super::log::{Log, Step};
-use super::page::{count, spaced, word, Page};
+use super::page::{spaced, word, Page};
 use super::places::Place;
 use super::reading::{Proof, Reading};
 use super::weights::{Inequality, Rule, Weights};
@@ -57,8 +57,7 @@ fn by_place(number: usize, place: &Place, step: Step, log: &Log) -> Page {
 
 fn by_weights(weights: &Weights, step: Step, log: &Log) -> Page {
     let mut page = Page::default();
-    let terms = count(weights.terms.len(), "term");
-    page.line(format_args!("kind 1, k {}, {terms}", weights.k));
+    page.line(format_args!("{}", weights.summary()));
     for (number, term) in weights.terms.iter().enumerate() {
         let allowed = if log.allows(term.step) {
             "allowed"
@@ -71,8 +70,18 @@ fn by_weights(weights: &Weights, step: Step, log: &Log) -> Page {
             term.weight
         ));
     }
+    for (number, pair) in weights.pairs().iter().enumerate() {
+        let taken = &log.words[pair.word];
+        let (events, counts) = (word(&taken.events), spaced(taken.counts(log.n())));
+        page.line(format_args!(
+            "  pair {number}: word {} ({events}, counts {counts}): {}, weight {}",
+            pair.word,
+            taken.mark(),
+            pair.weight
+        ));
+    }
     for inequality in weights.inequalities(step, log) {
-        heading(&mut page, inequality.rule);
+        heading(&mut page, &inequality);
         page.line(format_args!(
             "  {}",
             inequality_line(&inequality, weights.k)
@@ -82,12 +91,18 @@ fn by_weights(weights: &Weights, step: Step, log: &Log) -> Page {
 }
 
 /// What the inequalities of a kind say, before the first of them.
-fn heading(page: &mut Page, rule: Rule) {
-    match rule {
+fn heading(page: &mut Page, inequality: &Inequality) {
+    let and_pairs = match inequality.of_pairs {
+        None => "",
+        Some(_) => " + the sum of h * u(i)",
+    };
+    match inequality.rule {
         Rule::Sum => page.line(format_args!("the sum of g is at most k:")),
-        Rule::Before(0) => page.line(format_args!("the sum of g * u(i) is at most k * v(i):")),
+        Rule::Before(0) => page.line(format_args!(
+            "the sum of g * u(i){and_pairs} is at most k * v(i):"
+        )),
         Rule::After(0) => page.line(format_args!(
-            "the sum of g * (u(i) + [f = i]) is at least k * (v(i) + [e = i]):"
+            "the sum of g * (u(i) + [f = i]){and_pairs} is at least k * (v(i) + [e = i]):"
         )),
         Rule::Before(_) | Rule::After(_) => {}
     }
@@ -96,10 +111,11 @@ fn heading(page: &mut Page, rule: Rule) {
 fn inequality_line(inequality: &Inequality, k: i64) -> String {
     let Inequality {
         rule,
-        sum,
         factor,
         bound,
+        ..
     } = inequality;
+    let sum = inequality.worked_out();
     let verdict = if inequality.holds() { "holds" } else { "fails" };
     match rule {
         Rule::Sum => format!("{sum} <= {bound}: {verdict}"),

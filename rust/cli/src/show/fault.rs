@@ -4,7 +4,7 @@ use super::fields::Field;
 use super::log::Step;
 use super::page::{count, word};
 use super::reading::{Proof, Reading};
-use hovmekhar::{Refusal, MAX_LOG_EVENTS, MAX_ROWS};
+use hovmekhar::{Refusal, MAX_LOG_EVENTS, MAX_ROWS, NEW_EDITION};
 use std::ops::Range;
 
 /// The first thing that is wrong with a bundle.
@@ -42,6 +42,12 @@ pub enum Fault {
         step: Step,
         surplus: i64,
     },
+    /// A place that has so many tokens more after a completed word.
+    Disobeys {
+        place: usize,
+        word: usize,
+        change: i64,
+    },
     /// A certificate of kind 0 that does not hold.
     Permits { certificate: usize },
     /// A certificate of kind 1 that does not hold.
@@ -59,6 +65,7 @@ impl Fault {
             Self::Events { offset, .. } => (Refusal::EVENTS, offset),
             Self::Rows { offset, .. } => (Refusal::ROWS, offset),
             Self::Misfit { place, .. } => (Refusal::PLACE_MISFIT, place),
+            Self::Disobeys { place, .. } => (Refusal::PLACE_DISOBEYS, place),
             Self::Permits { certificate } => (Refusal::PLACE_PERMITS, certificate),
             Self::Weights { certificate } => (Refusal::WEIGHTS, certificate),
             Self::Follow { offset, .. } => (Refusal::BYTES_FOLLOW, offset),
@@ -78,6 +85,16 @@ impl Fault {
             } => {
                 let step = reading.step(*step);
                 format!("place {place} refuses an allowed step: {step}, surplus {surplus}")
+            }
+            Self::Disobeys {
+                place,
+                word,
+                change,
+            } => {
+                let than = if *change < 0 { "fewer" } else { "more" };
+                let tokens = count(change.unsigned_abs() as usize, "token");
+                let word = reading.word(*word);
+                format!("place {place} has {tokens} {than} after {word}, which is completed")
             }
             Self::Permits { certificate } | Self::Weights { certificate } => {
                 let failure = reading.failure(*certificate);
@@ -175,7 +192,16 @@ fn before_or_inside(offset: usize, length: usize) -> &'static str {
 fn right_values(field: Field, range: &Range<usize>) -> String {
     let last = range.end.saturating_sub(1);
     match field {
+        Field::EventCount => {
+            let new = usize::from(NEW_EDITION);
+            let (first, last_new) = (new + range.start, new + last);
+            format!(
+                "must be {} to {last}, or {first} to {last_new} in the new edition",
+                range.start
+            )
+        }
         Field::Listed { .. } if range.is_empty() => "there are no places".into(),
+        Field::PairWord { .. } if range.is_empty() => "there are no words".into(),
         _ if range.start == last => format!("must be {last}"),
         _ => format!("must be {} to {last}", range.start),
     }
@@ -188,6 +214,15 @@ impl Reading {
         match &self.log {
             Some(log) => format!("event {event} after {} (row {row})", word(log.first(row))),
             None => format!("event {event} after row {row}"),
+        }
+    }
+
+    /// A word of the log in words: `word 1 (0 0 1)`.
+    fn word(&self, number: usize) -> String {
+        let words = self.log.as_ref().map(|log| &log.words);
+        match words.and_then(|words| words.get(number)) {
+            Some(taken) => format!("word {number} ({})", word(&taken.events)),
+            None => format!("word {number}"),
         }
     }
 
@@ -206,7 +241,12 @@ impl Reading {
                     Some((term, wrong)) => {
                         format!("term {term} has {}, which is not allowed", self.step(wrong))
                     }
-                    None => weights.first_failure(certificate.step, log),
+                    None => match weights.wrong_pair(log) {
+                        Some((pair, word)) => {
+                            format!("pair {pair} has {}, which is partial", self.word(word))
+                        }
+                        None => weights.first_failure(certificate.step, log),
+                    },
                 };
                 format!("{step}: {why}")
             }

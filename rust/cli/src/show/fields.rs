@@ -1,16 +1,18 @@
 //! Reading a bundle field by field, with the name and the offset of each.
 
 use super::fault::Fault;
+use hovmekhar::{MAX_EVENTS, NEW_EDITION};
 use std::fmt;
 use std::ops::Range;
 
-/// A field of a bundle. The numbers of words, places, certificates and terms count
-/// from 0, and so do the positions of events.
+/// A field of a bundle. The numbers of words, places, certificates, terms and pairs
+/// count from 0, and so do the positions of events.
 #[derive(Clone, Copy, Debug, PartialEq, Eq)]
 pub enum Field {
     EventCount,
     WordCount,
     Length { word: usize },
+    Mark { word: usize },
     Event { word: usize, position: usize },
     PlaceCount,
     Initial { place: usize },
@@ -23,14 +25,18 @@ pub enum Field {
     TermRow { certificate: usize, term: usize },
     TermEvent { certificate: usize, term: usize },
     Weight { certificate: usize, term: usize },
+    PairCount { certificate: usize },
+    PairWord { certificate: usize, pair: usize },
+    PairWeight { certificate: usize, pair: usize },
 }
 
 impl fmt::Display for Field {
     fn fmt(&self, f: &mut fmt::Formatter<'_>) -> fmt::Result {
         match *self {
-            Self::EventCount => write!(f, "n"),
+            Self::EventCount => write!(f, "the first byte"),
             Self::WordCount => write!(f, "the word count"),
             Self::Length { word } => write!(f, "the length of word {word}"),
+            Self::Mark { word } => write!(f, "the mark of word {word}"),
             Self::Event { word, position } => {
                 write!(f, "the event at position {position} of word {word}")
             }
@@ -53,6 +59,15 @@ impl fmt::Display for Field {
             Self::Weight { certificate, term } => {
                 write!(f, "the weight of term {term} of certificate {certificate}")
             }
+            Self::PairCount { certificate } => {
+                write!(f, "the pair count of certificate {certificate}")
+            }
+            Self::PairWord { certificate, pair } => {
+                write!(f, "the word of pair {pair} of certificate {certificate}")
+            }
+            Self::PairWeight { certificate, pair } => {
+                write!(f, "the weight of pair {pair} of certificate {certificate}")
+            }
         }
     }
 }
@@ -74,6 +89,15 @@ impl<'b> Cursor<'b> {
         self.offset
     }
 
+    /// The event count, and whether the edition is the new one.
+    pub fn event_count(&mut self) -> Result<(usize, bool), Fault> {
+        let new = usize::from(NEW_EDITION);
+        match self.byte(Field::EventCount, new + 1..new + MAX_EVENTS + 1) {
+            Ok(first) => Ok((first - new, true)),
+            Err(_) => Ok((self.byte(Field::EventCount, 1..MAX_EVENTS + 1)?, false)),
+        }
+    }
+
     /// A field of one byte, with a value of this range.
     pub fn byte(&mut self, field: Field, range: Range<usize>) -> Result<usize, Fault> {
         self.field(field, 1, range)
@@ -92,6 +116,16 @@ impl<'b> Cursor<'b> {
     /// A field of two bytes, with any value.
     pub fn any_number(&mut self, field: Field) -> Result<usize, Fault> {
         self.field(field, 2, 0..65_536)
+    }
+
+    /// A field of two bytes in two's complement.
+    pub fn signed(&mut self, field: Field) -> Result<i64, Fault> {
+        let value = self.any_number(field)? as i64;
+        Ok(if value < 32_768 {
+            value
+        } else {
+            value - 65_536
+        })
     }
 
     /// Checks that nothing follows.

@@ -4,6 +4,7 @@ use super::log::{Log, Step};
 use super::page::{count, count_of, spaced, word, Page};
 use super::places::Place;
 use super::reading::{Proof, Reading};
+use super::weights::Weights;
 
 impl Reading {
     /// All of it, and where the reading ended.
@@ -22,9 +23,10 @@ impl Reading {
 
     fn words_and_rows(&self, log: &Log) -> Page {
         let mut page = Page::default();
+        let edition = if log.is_new { "; new edition" } else { "" };
         match log.n() {
-            1 => page.line(format_args!("n = 1: event 0")),
-            n => page.line(format_args!("n = {n}: events 0 to {}", n - 1)),
+            1 => page.line(format_args!("n = 1: event 0{edition}")),
+            n => page.line(format_args!("n = {n}: events 0 to {}{edition}", n - 1)),
         }
         let Some(all) = self.word_count else {
             return page;
@@ -36,10 +38,15 @@ impl Reading {
         ));
         for (number, taken) in log.words.iter().enumerate() {
             let events = word(&taken.events);
-            page.line(format_args!(
-                "  word {number} at {}: {events}",
-                taken.offset
-            ));
+            let offset = taken.offset;
+            if log.is_new {
+                let mark = taken.mark();
+                page.line(format_args!(
+                    "  word {number} at {offset}: {events}; {mark}"
+                ));
+            } else {
+                page.line(format_args!("  word {number} at {offset}: {events}"));
+            }
         }
         let so_far = if log.words.len() < all { " so far" } else { "" };
         page.line(format_args!("{}{so_far}", count(log.rows(), "row")));
@@ -110,10 +117,19 @@ impl Proof {
             Self::Place { place, surplus } => {
                 format!("kind 0, place {place}, surplus {surplus}")
             }
-            Self::Weights(weights) => {
-                let terms = count(weights.terms.len(), "term");
-                format!("kind 1, k {}, {terms}", weights.k)
-            }
+            Self::Weights(weights) => weights.summary(),
         }
+    }
+}
+
+impl Weights {
+    /// What it has, in a line.
+    pub fn summary(&self) -> String {
+        let terms = count(self.terms.len(), "term");
+        let mut line = format!("kind 1, k {}, {terms}", self.k);
+        if let Some(pairs) = &self.pairs {
+            line += &format!(", {}", count(pairs.len(), "pair"));
+        }
+        line
     }
 }

@@ -16,13 +16,36 @@ pub struct Step {
 pub struct Word {
     /// The offset of its length.
     pub offset: usize,
+    /// Whether it is marked as completed; in the old edition no word is.
+    pub completed: bool,
     /// Its events.
     pub events: Vec<u8>,
+}
+
+impl Word {
+    /// How often each event below n occurs in it.
+    pub fn counts(&self, n: usize) -> Vec<i64> {
+        let mut counts = vec![0; n];
+        for &event in &self.events {
+            counts[usize::from(event)] += 1;
+        }
+        counts
+    }
+
+    /// Its mark in words.
+    pub fn mark(&self) -> &'static str {
+        match self.completed {
+            true => "completed",
+            false => "partial",
+        }
+    }
 }
 
 /// A log over some events. The library keeps its table, so its rows and its allowed
 /// steps are proved right.
 pub struct Log {
+    /// Whether the edition of the bundle is the new one.
+    pub is_new: bool,
     /// How far the table is filled.
     pub summary: Summary,
     table: Vec<u16>,
@@ -34,7 +57,7 @@ pub struct Log {
 
 impl Log {
     /// The empty log over 1 to 12 events, which has the row of the empty word.
-    pub fn fresh(n: usize) -> Self {
+    pub fn fresh(n: usize, is_new: bool) -> Self {
         let mut table = vec![0; TABLE_SIZE];
         let empty = Summary {
             n,
@@ -43,6 +66,7 @@ impl Log {
         };
         let summary = Summary::fresh(n, &mut table).unwrap_or(empty);
         Self {
+            is_new,
             summary,
             table,
             words: Vec::new(),
@@ -50,19 +74,19 @@ impl Log {
         }
     }
 
-    /// Takes a word whose length is at this offset and whose events are below n, so
-    /// that the library refuses it for its rows alone.
-    pub fn take(&mut self, offset: usize, events: Vec<u8>) -> Result<(), Fault> {
-        let Ok(summary) = self.summary.take(&events, &mut self.table) else {
+    /// Takes a word whose events are below n, so that the library refuses it for its
+    /// rows alone.
+    pub fn take(&mut self, word: Word) -> Result<(), Fault> {
+        let Ok(summary) = self.summary.take(&word.events, &mut self.table) else {
             return Err(Fault::Rows {
                 word: self.words.len(),
-                offset,
-                rows: self.rows() + self.new_rows(&events),
+                offset: word.offset,
+                rows: self.rows() + self.new_rows(&word.events),
             });
         };
         self.summary = summary;
-        self.note_first_prefixes(&events);
-        self.words.push(Word { offset, events });
+        self.note_first_prefixes(&word.events);
+        self.words.push(word);
         Ok(())
     }
 

@@ -45,6 +45,21 @@ impl Place {
         self.m + sum - self.outs[step.event]
     }
 
+    /// The first completed word after which it does not have its initial tokens, if there
+    /// is one, and how many more it then has.
+    pub fn disobeyed(&self, log: &Log) -> Option<(usize, i64)> {
+        let completed = log.words.iter().enumerate();
+        let mut completed = completed.filter(|(_, word)| word.completed);
+        completed.find_map(|(number, word)| {
+            let changes = self.ins.iter().zip(&self.outs);
+            let products = changes
+                .zip(word.counts(log.n()))
+                .map(|((puts, takes), count)| count * (puts - takes));
+            let change: i64 = products.sum();
+            (change != 0).then_some((number, change))
+        })
+    }
+
     /// The first allowed step that it refuses, if it refuses one.
     pub fn misfit(&self, log: &Log) -> Option<(Step, i64)> {
         let steps = log.steps(true).into_iter();

@@ -2,10 +2,10 @@
 
 use super::fault::Fault;
 use super::fields::{Cursor, Field};
-use super::log::{Log, Step};
+use super::log::{Log, Step, Word};
 use super::places::Place;
 use super::weights::Weights;
-use hovmekhar::{Tally, MAX_EVENTS, MAX_LOG_EVENTS, MAX_PLACES};
+use hovmekhar::{Tally, MAX_LOG_EVENTS, MAX_PLACES};
 
 /// A certificate for a wrong continuation.
 pub struct Certificate {
@@ -44,7 +44,7 @@ pub struct Reading {
     pub place_count: Option<usize>,
     /// The places.
     pub places: Vec<Place>,
-    /// How many certificates there should be, once the places fit.
+    /// How many certificates there should be, once the places fit and obey.
     pub certificate_count: Option<usize>,
     /// The certificates, with the one that does not hold.
     pub certificates: Vec<Certificate>,
@@ -73,8 +73,8 @@ impl Reading {
     }
 
     fn read(&mut self, cursor: &mut Cursor) -> Result<(), Fault> {
-        let n = cursor.byte(Field::EventCount, 1..MAX_EVENTS + 1)?;
-        self.log = Some(Log::fresh(n));
+        let (n, is_new) = cursor.event_count()?;
+        self.log = Some(Log::fresh(n, is_new));
         self.read_words(cursor)?;
         self.read_places(cursor, n)?;
         self.check_places()?;
@@ -103,21 +103,32 @@ impl Reading {
         Ok(())
     }
 
-    /// Whether every place permits every allowed step.
+    /// Whether every place permits every allowed step, and then whether every place
+    /// obeys the completed words.
     fn check_places(&self) -> Result<(), Fault> {
         let Some(log) = &self.log else {
             return Ok(());
         };
-        let misfits = self.places.iter().map(|place| place.misfit(log));
-        let mut misfits = misfits.enumerate();
-        match misfits.find_map(|(place, misfit)| Some((place, misfit?))) {
-            None => Ok(()),
-            Some((place, (step, surplus))) => Err(Fault::Misfit {
+        let mut places = self.places.iter().enumerate();
+        let misfit = places.find_map(|(place, numbers)| {
+            let (step, surplus) = numbers.misfit(log)?;
+            Some(Fault::Misfit {
                 place,
                 step,
                 surplus,
-            }),
-        }
+            })
+        });
+        misfit.map_or(Ok(()), Err)?;
+        let mut places = self.places.iter().enumerate();
+        let disobeys = places.find_map(|(place, numbers)| {
+            let (word, change) = numbers.disobeyed(log)?;
+            Some(Fault::Disobeys {
+                place,
+                word,
+                change,
+            })
+        });
+        disobeys.map_or(Ok(()), Err)
     }
 
     fn read_certificates(&mut self, cursor: &mut Cursor) -> Result<(), Fault> {
@@ -166,13 +177,18 @@ fn read_word(cursor: &mut Cursor, word: usize, log: &mut Log) -> Result<(), Faul
             before,
         });
     }
+    let completed = log.is_new && cursor.byte(Field::Mark { word }, 0..2)? == 1;
     let mut events = Vec::new();
     for position in 0..length {
         let event = cursor.byte(Field::Event { word, position }, 0..log.n())?;
         // n is at most 12.
         events.push(event as u8);
     }
-    log.take(offset, events)
+    log.take(Word {
+        offset,
+        completed,
+        events,
+    })
 }
 
 fn read_proof(

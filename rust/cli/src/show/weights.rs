@@ -3,7 +3,7 @@
 use super::fault::Fault;
 use super::fields::{Cursor, Field};
 use super::log::{Log, Step};
-use hovmekhar::MAX_TERMS;
+use hovmekhar::{MAX_PAIRS, MAX_TERMS};
 
 /// A weight on a step.
 pub struct Term {
@@ -13,13 +13,24 @@ pub struct Term {
     pub weight: i64,
 }
 
-/// What a certificate of kind 1 says. There are at most 64 terms, all numbers have
-/// two bytes and a word has at most 255 events, so sums stay far inside 64 bits.
+/// A weight on a completed word.
+pub struct Pair {
+    /// The word's number.
+    pub word: usize,
+    /// The weight h, which may be below 0.
+    pub weight: i64,
+}
+
+/// What a certificate of kind 1 says. There are at most 64 terms and 64 pairs, all
+/// numbers have two bytes and a word has at most 255 events, so sums stay far inside 64
+/// bits.
 pub struct Weights {
     /// What the weights add up to at most.
     pub k: i64,
     /// The weights.
     pub terms: Vec<Term>,
+    /// The weights on completed words, in the new edition.
+    pub pairs: Option<Vec<Pair>>,
 }
 
 /// Which of the inequalities it is.
@@ -27,7 +38,8 @@ pub struct Weights {
 pub enum Rule {
     /// The sum of g is at most k.
     Sum,
-    /// For an event i: the sum of g * u(i) is at most k * v(i).
+    /// For an event i: the sum of g * u(i) is at most k * v(i). In the new edition the sum
+    /// of h * u(i) is added to the left of this and the next.
     Before(usize),
     /// For an event i: the sum of g * (u(i) + [f = i]) is at least k * (v(i) + [e = i]).
     After(usize),
@@ -37,8 +49,10 @@ pub enum Rule {
 pub struct Inequality {
     /// Which one.
     pub rule: Rule,
-    /// The sum on its left.
-    pub sum: i64,
+    /// The sum over the terms, on its left.
+    pub of_terms: i64,
+    /// The sum over the pairs, in the new edition, which is added to it.
+    pub of_pairs: Option<i64>,
     /// What k is multiplied by on its right.
     pub factor: i64,
     /// What is on its right.
@@ -46,27 +60,48 @@ pub struct Inequality {
 }
 
 impl Inequality {
+    /// What is on its left.
+    fn left(&self) -> i64 {
+        self.of_terms + self.of_pairs.unwrap_or(0)
+    }
+
+    /// What is on its left, as it is worked out: `2`, or `3 - 1 = 2`.
+    pub fn worked_out(&self) -> String {
+        let (terms, left) = (self.of_terms, self.left());
+        match self.of_pairs {
+            None => format!("{left}"),
+            Some(pairs) if pairs < 0 => format!("{terms} - {} = {left}", -pairs),
+            Some(pairs) => format!("{terms} + {pairs} = {left}"),
+        }
+    }
+
     /// Whether it holds.
     pub fn holds(&self) -> bool {
         match self.rule {
-            Rule::Sum | Rule::Before(_) => self.sum <= self.bound,
-            Rule::After(_) => self.sum >= self.bound,
+            Rule::Sum | Rule::Before(_) => self.left() <= self.bound,
+            Rule::After(_) => self.left() >= self.bound,
         }
     }
 
     /// That it does not hold, with its numbers.
     fn failure(&self, k: i64) -> String {
-        let Self {
-            sum, factor, bound, ..
-        } = self;
+        let Self { factor, bound, .. } = self;
+        let sum = self.worked_out();
+        let and_pairs = |i| match self.of_pairs {
+            None => String::new(),
+            Some(_) => format!(" + the sum of h * u({i})"),
+        };
         match self.rule {
             Rule::Sum => format!("the sum of g is {sum}, but must be at most k = {k}"),
             Rule::Before(i) => format!(
-                "the sum of g * u({i}) is {sum}, but must be at most k * v({i}) = {k} * {factor} = {bound}"
+                "the sum of g * u({i}){} is {sum}, \
+                 but must be at most k * v({i}) = {k} * {factor} = {bound}",
+                and_pairs(i)
             ),
             Rule::After(i) => format!(
-                "the sum of g * (u({i}) + [f = {i}]) is {sum}, \
-                 but must be at least k * (v({i}) + [e = {i}]) = {k} * {factor} = {bound}"
+                "the sum of g * (u({i}) + [f = {i}]){} is {sum}, \
+                 but must be at least k * (v({i}) + [e = {i}]) = {k} * {factor} = {bound}",
+                and_pairs(i)
             ),
         }
     }
@@ -85,12 +120,29 @@ impl Weights {
             let step = Step { row, event };
             terms.push(Term { step, weight });
         }
-        Ok(Self { k, terms })
+        let pairs = match log.is_new {
+            true => Some(read_pairs(cursor, certificate, log)?),
+            false => None,
+        };
+        Ok(Self { k, terms, pairs })
     }
 
     /// Whether they hold for a step.
     pub fn hold(&self, step: Step, log: &Log) -> bool {
-        self.wrong_term(log).is_none() && self.inequalities(step, log).iter().all(Inequality::holds)
+        self.wrong_term(log).is_none()
+            && self.wrong_pair(log).is_none()
+            && self.inequalities(step, log).iter().all(Inequality::holds)
+    }
+
+    /// The first pair whose word is partial, by its number, and the word's.
+    pub fn wrong_pair(&self, log: &Log) -> Option<(usize, usize)> {
+        let mut words = self.pairs().iter().map(|pair| pair.word).enumerate();
+        words.find(|&(_, word)| !log.words[word].completed)
+    }
+
+    /// The pairs; none in the old edition.
+    pub fn pairs(&self) -> &[Pair] {
+        self.pairs.as_deref().unwrap_or_default()
     }
 
     /// The first term whose step is not allowed, by its number.
@@ -108,24 +160,40 @@ impl Weights {
 
     /// All inequalities for a step, in the order of [`Rule`].
     pub fn inequalities(&self, step: Step, log: &Log) -> Vec<Inequality> {
-        let inequality = |rule, sum, factor| Inequality {
+        let inequality = |rule, of_terms, of_pairs, factor| Inequality {
             rule,
-            sum,
+            of_terms,
+            of_pairs,
             factor,
             bound: self.k * factor,
         };
+        let of_words = self.sums_of_words(log);
+        let of_pairs = |i: usize| self.pairs.as_ref().map(|_| of_words[i]);
         let v = |i: usize| i64::from(log.counts(step.row)[i]);
         let is_own = |i: usize| i64::from(step.event == i);
-        let mut all = vec![inequality(Rule::Sum, self.sum(|_| 1), 1)];
+        let mut all = vec![inequality(Rule::Sum, self.sum(|_| 1), None, 1)];
         for i in 0..log.n() {
             let before = self.sum(|u| i64::from(log.counts(u.row)[i]));
-            all.push(inequality(Rule::Before(i), before, v(i)));
+            all.push(inequality(Rule::Before(i), before, of_pairs(i), v(i)));
         }
         for i in 0..log.n() {
             let after = self.sum(|u| i64::from(log.counts(u.row)[i]) + i64::from(u.event == i));
-            all.push(inequality(Rule::After(i), after, v(i) + is_own(i)));
+            let next = v(i) + is_own(i);
+            all.push(inequality(Rule::After(i), after, of_pairs(i), next));
         }
         all
+    }
+
+    /// For each event i the sum of h * u(i).
+    fn sums_of_words(&self, log: &Log) -> Vec<i64> {
+        let mut sums = vec![0; log.n()];
+        for pair in self.pairs() {
+            let counts = log.words[pair.word].counts(log.n());
+            for (sum, count) in sums.iter_mut().zip(counts) {
+                *sum += pair.weight * count;
+            }
+        }
+        sums
     }
 
     /// The sum of the weights, each with a factor that depends on its step.
@@ -136,4 +204,16 @@ impl Weights {
             .map(|term| term.weight * factor(term.step));
         products.sum()
     }
+}
+
+/// Reads the second list of the certificate with this number.
+fn read_pairs(cursor: &mut Cursor, certificate: usize, log: &Log) -> Result<Vec<Pair>, Fault> {
+    let count = cursor.byte(Field::PairCount { certificate }, 0..MAX_PAIRS + 1)?;
+    let mut pairs = Vec::new();
+    for pair in 0..count {
+        let word = cursor.byte(Field::PairWord { certificate, pair }, 0..log.words.len())?;
+        let weight = cursor.signed(Field::PairWeight { certificate, pair })?;
+        pairs.push(Pair { word, weight });
+    }
+    Ok(pairs)
 }

@@ -2,8 +2,9 @@
 //! `reference`: it shares no code with `hov`.
 
 use differential::bundles::{Bundle, Certificate, Field, Layout};
-use differential::fields::Fields;
+use differential::fields::{self, Fields};
 use differential::files::{self, BLOCK, CONTENTS};
+use differential::logs::counts_below;
 use differential::nets::Certified;
 use differential::places::Place;
 use reference::{log_rows, Refusal, Row};
@@ -76,15 +77,17 @@ impl Log {
     }
 }
 
-/// What is said of a bundle that is refused with 10, 11 or 12.
+/// What is said of a bundle that is refused with 10, 20, 11 or 12.
 pub fn net_words(bundle: &[u8], refusal: Refusal) -> String {
     let mut fields = Fields::new(bundle);
-    let n = fields.within(1, 1, 12).expect("n");
-    let words = fields.words(n, 256).expect("words");
-    let log = Log::new(&words, log_rows(n, &words));
+    let (n, is_new) = fields.event_count().expect("n");
+    let taken = fields.log(n, is_new, 256).expect("words");
+    let log = Log::new(&taken.words, log_rows(n, &taken.words));
     let places = fields.places(n).expect("places");
-    if refusal.number == 10 {
-        return misfit(&log, &places[refusal.spot], refusal.spot);
+    match refusal.number {
+        10 => return misfit(&log, &places[refusal.spot], refusal.spot),
+        20 => return disobeyed(&taken, n, &places[refusal.spot], refusal.spot),
+        _ => (),
     }
     let spot = refusal.spot;
     for (number, (row, event)) in log.wrong_continuations().into_iter().enumerate() {
@@ -98,9 +101,9 @@ pub fn net_words(bundle: &[u8], refusal: Refusal) -> String {
                 );
             }
         } else {
-            let weights = Weights::read(&mut fields, n, log.rows.len());
+            let weights = Weights::read(&mut fields, n, log.rows.len(), &taken);
             if number == spot {
-                let why = weights.failure(&log, row, event);
+                let why = weights.failure(&log, &taken, row, event);
                 return format!("certificate {spot}: {step}: {why}");
             }
         }
@@ -130,93 +133,198 @@ fn misfit(log: &Log, place: &Place, number: usize) -> String {
     panic!("place {number} fits");
 }
 
-/// A certificate of kind 1: k, and for each term its row, its event and its weight.
+/// The first completed word after which a place has more tokens, or fewer.
+fn disobeyed(taken: &fields::Log, n: usize, place: &Place, number: usize) -> String {
+    for (word, events) in taken.words.iter().enumerate() {
+        let Some(counts) = taken.completed(n, word) else {
+            continue;
+        };
+        let change = place.tokens(&counts) - place.m;
+        let than = if change < 0 { "fewer" } else { "more" };
+        if change != 0 {
+            let tokens = match change.abs() {
+                1 => "1 token".to_string(),
+                several => format!("{several} tokens"),
+            };
+            let word = shown(word, events);
+            return format!("place {number} has {tokens} {than} after {word}, which is completed");
+        }
+    }
+    panic!("place {number} obeys");
+}
+
+/// A word with its number.
+fn shown(word: usize, events: &[u8]) -> String {
+    match events {
+        [] => format!("word {word} (the empty word)"),
+        _ => format!("word {word} ({})", spaced(events)),
+    }
+}
+
+/// A certificate of kind 1: k, and for each term its row, its event and its weight; in the
+/// new edition for each pair its word and its weight, and what each event has of them.
 struct Weights {
-    k: usize,
-    terms: Vec<(usize, usize, usize)>,
+    k: i64,
+    terms: Vec<(usize, usize, i64)>,
+    pairs: Vec<(usize, i64)>,
+    of_words: Option<Vec<i64>>,
 }
 
 impl Weights {
-    fn read(fields: &mut Fields, n: usize, rows: usize) -> Self {
+    fn read(fields: &mut Fields, n: usize, rows: usize, taken: &fields::Log) -> Self {
         let k = fields.within(2, 1, 65_535).expect("k");
         let count = fields.within(1, 0, 64).expect("a term count");
         let mut term = || {
             let row = fields.one_of(2, rows).expect("a row");
             let event = fields.one_of(1, n).expect("an event");
-            (row, event, fields.field(2).expect("a weight").0)
+            (row, event, fields.field(2).expect("a weight").0 as i64)
         };
         let terms = (0..count).map(|_| term()).collect();
-        Self { k, terms }
+        let mut pairs = Vec::new();
+        if taken.marks.is_some() {
+            for _ in 0..fields.within(1, 0, 64).expect("a pair count") {
+                let word = fields.one_of(1, taken.words.len()).expect("a word");
+                pairs.push((word, fields.signed().expect("a weight").into()));
+            }
+        }
+        Self::new(
+            k as i64,
+            terms,
+            pairs,
+            taken.marks.is_some(),
+            n,
+            &taken.words,
+        )
     }
 
-    /// The first step that is not allowed, else the first inequality that fails.
-    fn failure(&self, log: &Log, row: usize, event: usize) -> String {
+    fn new(
+        k: i64,
+        terms: Vec<(usize, usize, i64)>,
+        pairs: Vec<(usize, i64)>,
+        is_new: bool,
+        n: usize,
+        words: &[Vec<u8>],
+    ) -> Self {
+        let of_event = |i: usize| -> i64 {
+            let products = pairs.iter().map(|&(word, h)| {
+                let count = words[word].iter().filter(|&&e| usize::from(e) == i).count();
+                h * count as i64
+            });
+            products.sum()
+        };
+        let of_words = is_new.then(|| (0..n).map(of_event).collect());
+        Self {
+            k,
+            terms,
+            pairs,
+            of_words,
+        }
+    }
+
+    /// A sum of terms, with the pairs of an event added: in words, and what it is.
+    fn with_words(&self, of_terms: i64, i: usize) -> (String, i64) {
+        match self.of_words.as_ref().map(|of_words| of_words[i]) {
+            None => (of_terms.to_string(), of_terms),
+            Some(pairs) => {
+                let sum = of_terms + pairs;
+                let sign = if pairs < 0 { "-" } else { "+" };
+                (format!("{of_terms} {sign} {} = {sum}", pairs.abs()), sum)
+            }
+        }
+    }
+
+    /// How the pairs are named in the sum of an event.
+    fn and_words(&self, i: impl std::fmt::Display) -> String {
+        match self.of_words {
+            None => String::new(),
+            Some(_) => format!(" + the sum of h * u({i})"),
+        }
+    }
+
+    /// The first step that is not allowed or word that is partial, else the first
+    /// inequality that fails.
+    fn failure(&self, log: &Log, taken: &fields::Log, row: usize, event: usize) -> String {
         for (number, &(u, f, _)) in self.terms.iter().enumerate() {
             if !log.rows[u].allowed[f] {
                 let step = log.step(u, f);
                 return format!("term {number} has {step}, which is not allowed");
             }
         }
+        let marks = taken.marks.as_deref().unwrap_or_default();
+        for (number, &(word, _)) in self.pairs.iter().enumerate() {
+            if !marks[word] {
+                let word = shown(word, &taken.words[word]);
+                return format!("pair {number} has {word}, which is partial");
+            }
+        }
         let k = self.k;
-        let sum: usize = self.terms.iter().map(|&(_, _, g)| g).sum();
+        let sum: i64 = self.terms.iter().map(|&(_, _, g)| g).sum();
         if sum > k {
             return format!("the sum of g is {sum}, but must be at most k = {k}");
         }
         let v = &log.rows[row].counts;
         for (i, &count) in v.iter().enumerate() {
-            let (sum, bound) = (self.before(log, i), k * count);
+            let ((shown, sum), bound) = (self.before(log, i), k * count as i64);
+            let and = self.and_words(i);
             if sum > bound {
                 return format!(
-                    "the sum of g * u({i}) is {sum}, but must be at most k * v({i}) = {k} * {count} = {bound}"
+                    "the sum of g * u({i}){and} is {shown}, but must be at most k * v({i}) = {k} * {count} = {bound}"
                 );
             }
         }
         for (i, &count) in v.iter().enumerate() {
             let count = count + usize::from(i == event);
-            let (sum, bound) = (self.after(log, i), k * count);
+            let ((shown, sum), bound) = (self.after(log, i), k * count as i64);
+            let and = self.and_words(i);
             if sum < bound {
                 return format!(
-                    "the sum of g * (u({i}) + [f = {i}]) is {sum}, but must be at least k * (v({i}) + [e = {i}]) = {k} * {count} = {bound}"
+                    "the sum of g * (u({i}) + [f = {i}]){and} is {shown}, but must be at least k * (v({i}) + [e = {i}]) = {k} * {count} = {bound}"
                 );
             }
         }
         panic!("it holds");
     }
 
-    fn before(&self, log: &Log, i: usize) -> usize {
-        let products = self
-            .terms
-            .iter()
-            .map(|&(u, _, g)| g * log.rows[u].counts[i]);
+    fn of_terms(&self, log: &Log, i: usize) -> i64 {
+        let terms = self.terms.iter();
+        let products = terms.map(|&(u, _, g)| g * log.rows[u].counts[i] as i64);
         products.sum()
     }
 
-    fn after(&self, log: &Log, i: usize) -> usize {
+    fn before(&self, log: &Log, i: usize) -> (String, i64) {
+        self.with_words(self.of_terms(log, i), i)
+    }
+
+    fn after(&self, log: &Log, i: usize) -> (String, i64) {
         let own = self.terms.iter().filter(|&&(_, f, _)| f == i);
-        self.before(log, i) + own.map(|&(_, _, g)| g).sum::<usize>()
+        let own: i64 = own.map(|&(_, _, g)| g).sum();
+        self.with_words(self.of_terms(log, i) + own, i)
     }
 }
 
 /// The names of the fields of a bundle, with their offsets.
 fn field_names(layout: &Layout, n: usize) -> Vec<(usize, Field, String)> {
     let (mut words, mut events, mut places, mut numbers) = (0, 0, 0, 0);
-    let (mut certificates, mut terms) = (0, 0);
+    let (mut certificates, mut terms, mut pairs) = (0, 0, 0);
     let mut named = Vec::new();
     for (field, range) in &layout.fields {
         match field {
             Field::Length => (words, events) = (words + 1, 0),
             Field::Initial => (places, numbers) = (places + 1, 0),
-            Field::Kind => (certificates, terms) = (certificates + 1, 0),
+            Field::Kind => (certificates, terms, pairs) = (certificates + 1, 0, 0),
             Field::TermRow => terms += 1,
+            Field::PairWord => pairs += 1,
             Field::Event => events += 1,
             Field::In | Field::Out => numbers += 1,
             _ => {}
         }
         let term = || format!("term {} of certificate {}", terms - 1, certificates - 1);
+        let pair = || format!("pair {} of certificate {}", pairs - 1, certificates - 1);
         let name = match field {
-            Field::EventCount => "n".into(),
+            Field::EventCount => "the first byte".into(),
             Field::WordCount => "the word count".into(),
             Field::Length => format!("the length of word {}", words - 1),
+            Field::Mark => format!("the mark of word {}", words - 1),
             Field::Event => {
                 format!("the event at position {} of word {}", events - 1, words - 1)
             }
@@ -231,6 +339,9 @@ fn field_names(layout: &Layout, n: usize) -> Vec<(usize, Field, String)> {
             Field::TermRow => format!("the row of {}", term()),
             Field::TermEvent => format!("the event of {}", term()),
             Field::Weight => format!("the weight of {}", term()),
+            Field::PairCount => format!("the pair count of certificate {}", certificates - 1),
+            Field::PairWord => format!("the word of {}", pair()),
+            Field::PairWeight => format!("the weight of {}", pair()),
         };
         named.push((range.start, *field, name));
     }
@@ -267,10 +378,12 @@ fn right_values(certified: &Certified, field: Field) -> String {
         _ => format!("must be 0 to {}", count - 1),
     };
     match field {
-        Field::EventCount => "must be 1 to 12".into(),
+        Field::EventCount => "must be 1 to 12, or 129 to 140 in the new edition".into(),
+        Field::PairWord if certified.bundle.words.is_empty() => "there are no words".into(),
+        Field::PairWord => below(certified.bundle.words.len()),
         Field::Event | Field::TermEvent => below(certified.bundle.n),
-        Field::PlaceCount | Field::TermCount => below(65),
-        Field::Kind => below(2),
+        Field::PlaceCount | Field::TermCount | Field::PairCount => below(65),
+        Field::Kind | Field::Mark => below(2),
         Field::Listed => below(certified.bundle.places.len()),
         Field::K => "must be 1 to 65535".into(),
         Field::TermRow => below(certified.rows.len()),
@@ -383,9 +496,11 @@ fn offsets(certified: &Certified, field: Field) -> Vec<usize> {
 fn word_lines(certified: &Certified) -> Vec<String> {
     let Bundle { n, words, .. } = &certified.bundle;
     let events = words.iter().map(Vec::len).sum();
+    let is_new = certified.bundle.is_new();
+    let edition = if is_new { "; new edition" } else { "" };
     let n = match n {
-        1 => "n = 1: event 0".to_string(),
-        _ => format!("n = {n}: events 0 to {}", n - 1),
+        1 => format!("n = 1: event 0{edition}"),
+        _ => format!("n = {n}: events 0 to {}{edition}", n - 1),
     };
     let counts = format!("{}, {}", count(words.len(), "word"), count(events, "event"));
     let mut lines = vec![n, counts];
@@ -397,8 +512,13 @@ fn word_lines(certified: &Certified) -> Vec<String> {
             ""
         };
         let events = spaced(word);
+        let mark = match certified.bundle.is_completed(number) {
+            _ if !is_new => "",
+            true => "; completed",
+            false => "; partial",
+        };
         lines.push(format!(
-            "  word {number} at {}: {empty}{events}",
+            "  word {number} at {}: {empty}{events}{mark}",
             at[number]
         ));
     }
@@ -454,8 +574,8 @@ fn certificate_lines(certified: &Certified, log: &Log) -> Vec<String> {
                 let surplus = listed.surplus(&log.rows[row].counts, event);
                 format!("kind 0, place {place}, surplus {surplus}")
             }
-            Certificate::Weights { k, terms } => {
-                format!("kind 1, k {k}, {}", count(terms.len(), "term"))
+            Certificate::Weights { k, terms, pairs } => {
+                kind_1(certified, *k, terms.len(), pairs.len())
             }
         };
         lines.push(format!("  certificate {number} at {at}: {step}: {says}"));
@@ -479,24 +599,51 @@ pub fn certificate(certified: &Certified, number: usize) -> String {
         Certificate::Place(place) => {
             lines.extend(surplus_lines(certified, usize::from(*place), v, event));
         }
-        Certificate::Weights { k, terms } => {
-            lines.push(format!("kind 1, k {k}, {}", count(terms.len(), "term")));
+        Certificate::Weights { k, terms, pairs } => {
+            lines.push(kind_1(certified, *k, terms.len(), pairs.len()));
             for (number, term) in terms.iter().enumerate() {
                 let step = log.full_step(term.row.into(), term.event.into());
                 let weight = term.weight;
                 lines.push(format!("  term {number}: {step}: allowed, weight {weight}"));
             }
+            let bundle = &certified.bundle;
+            for (number, pair) in pairs.iter().enumerate() {
+                let word = &bundle.words[usize::from(pair.word)];
+                let counts = spaced(&counts_below(bundle.n, word));
+                let word = shown(pair.word.into(), word);
+                let word = word.strip_suffix(')').expect("a bracket");
+                let weight = pair.weight;
+                lines.push(format!(
+                    "  pair {number}: {word}, counts {counts}): completed, weight {weight}"
+                ));
+            }
             let terms = terms.iter();
-            let weights = Weights {
-                k: (*k).into(),
-                terms: terms
+            let weights = Weights::new(
+                (*k).into(),
+                terms
                     .map(|term| (term.row.into(), term.event.into(), term.weight.into()))
                     .collect(),
-            };
+                pairs
+                    .iter()
+                    .map(|pair| (pair.word.into(), pair.weight.into()))
+                    .collect(),
+                bundle.is_new(),
+                bundle.n,
+                &bundle.words,
+            );
             lines.extend(weights.holding(&log, v, event));
         }
     }
     lines.join("\n") + "\n"
+}
+
+/// What a certificate of kind 1 has.
+fn kind_1(certified: &Certified, k: u16, terms: usize, pairs: usize) -> String {
+    let line = format!("kind 1, k {k}, {}", count(terms, "term"));
+    match certified.bundle.is_new() {
+        true => format!("{line}, {}", count(pairs, "pair")),
+        false => line,
+    }
 }
 
 /// The lines of a certificate of kind 0 that holds.
@@ -520,26 +667,29 @@ impl Weights {
     /// The inequalities of weights that hold.
     fn holding(&self, log: &Log, v: &[usize], event: usize) -> Vec<String> {
         let k = self.k;
-        let sum: usize = self.terms.iter().map(|&(_, _, g)| g).sum();
+        let sum: i64 = self.terms.iter().map(|&(_, _, g)| g).sum();
+        let and = self.and_words("i");
         let mut lines = vec![
             "the sum of g is at most k:".to_string(),
             format!("  {sum} <= {k}: holds"),
-            "the sum of g * u(i) is at most k * v(i):".to_string(),
+            format!("the sum of g * u(i){and} is at most k * v(i):"),
         ];
-        for (i, count) in v.iter().enumerate() {
-            let (sum, bound) = (self.before(log, i), k * count);
+        for (i, &count) in v.iter().enumerate() {
+            let ((shown, sum), bound) = (self.before(log, i), k * count as i64);
             assert!(sum <= bound);
             lines.push(format!(
-                "  event {i}: {sum} <= {k} * {count} = {bound}: holds"
+                "  event {i}: {shown} <= {k} * {count} = {bound}: holds"
             ));
         }
-        lines.push("the sum of g * (u(i) + [f = i]) is at least k * (v(i) + [e = i]):".into());
-        for (i, count) in v.iter().enumerate() {
+        lines.push(format!(
+            "the sum of g * (u(i) + [f = i]){and} is at least k * (v(i) + [e = i]):"
+        ));
+        for (i, &count) in v.iter().enumerate() {
             let count = count + usize::from(i == event);
-            let (sum, bound) = (self.after(log, i), k * count);
+            let ((shown, sum), bound) = (self.after(log, i), k * count as i64);
             assert!(sum >= bound);
             lines.push(format!(
-                "  event {i}: {sum} >= {k} * {count} = {bound}: holds"
+                "  event {i}: {shown} >= {k} * {count} = {bound}: holds"
             ));
         }
         lines

@@ -13,20 +13,26 @@ ends c = c.min-end.ensures ∙ ap (λ k. min (length c.args.self.now.bytes.now) 
 pub overflow_add-at-in-Some : goal.overflow_add-at-in-Some
 overflow_add-at-in-Some c =
     let s = c.args.self.now in
-    omega (arith, bad-within c.args.n c.args.size s.bytes.now s.at _ c.requires (ends (goal.at.overflow_add-at-in-Some c).After-min-end) c.in-Some.ensures)
+    omega (
+      arith,
+      bad-within c.args.n c.args.size s.bytes.now s.at _ c.requires (ends (goal.at.overflow_add-at-in-Some c).After-min-end) c.in-Some.ensures,
+    )
 
 pub returns-in-Some : goal.returns-in-Some
 returns-in-Some c =
     let s = c.args.self.now in
-    rw c.at.ensures (→refused refl (events-bad c.args.n c.args.size s.bytes.now s.at _ c.requires (ends (goal.at.returns-in-Some c).After-min-end) c.in-Some.ensures))
+    rw c.at.ensures (→refused refl
+    (events-bad c.args.n c.args.size s.bytes.now s.at _ c.requires (ends (goal.at.returns-in-Some c).After-min-end) c.in-Some.ensures))
 
 pub returns-then-word-size : goal.returns-then-word-size
 returns-then-word-size c =
     let s = c.args.self.now in
     rw c.at-then-word-size.ensures
-    (→refused refl (events-few c.args.n c.args.size s.bytes.now s.at _ c.requires (ends (goal.at.returns-then-word-size c).After-min-end) (omega arith) c.in_default.ensures))
+    (→refused refl (events-few c.args.n c.args.size s.bytes.now s.at _ c.requires
+    (ends (goal.at.returns-then-word-size c).After-min-end) (omega arith) c.in_default.ensures))
 
 pub returns : goal.returns
 returns c =
     let s = c.args.self.now in
-    →got refl (events-good c.args.n c.args.size s.bytes.now s.at _ c.requires (ends (goal.at.returns c).After-min-end) (omega arith) c.in_default.ensures)
+    →got refl
+    (events-good c.args.n c.args.size s.bytes.now s.at _ c.requires (ends (goal.at.returns c).After-min-end) (omega arith) c.in_default.ensures)

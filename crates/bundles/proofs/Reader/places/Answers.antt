@@ -30,4 +30,8 @@ pub invariant_of-result : goal.invariant_of-result
 invariant_of-result c =
     let read = c.in_ok-byte.ensures (up_to max_places) (λ x small b answer. search rules) in
     let there = rw (c.numbers_left-left.ensures, c.from-count.ensures, c.from.ensures) at c.if-left-numbers.false in
-    record { limit = c.requires; few = rw c.from-count.ensures (count-few c.args.n _ read); inside = rw c.from-count.ensures (kept-inside c.args.n _ read there) }
+    record {
+      limit = c.requires;
+      few = rw c.from-count.ensures (count-few c.args.n _ read);
+      inside = rw c.from-count.ensures (kept-inside c.args.n _ read there);
+    }

@@ -10,7 +10,8 @@ use Rattle.bundles.proofs.Reader.term.Goals.{In_ok-row}
 pub returns-in_err-row : goal.returns-in_err-row
 returns-in_err-row c =
     let q = err_from_is_err_and c.from_residual.result c.from_residual.ensures.1 in
-    rw (q.1, q.2) (read_same (term_chain _ _ _ _) (then-refused (behind_row _) (c.in_err-row.ensures (below c.args.rows) (λ x small b answer. search rules))))
+    rw (q.1, q.2)
+    (read_same (term_chain _ _ _ _) (then-refused (behind_row _) (c.in_err-row.ensures (below c.args.rows) (λ x small b answer. search rules))))
 
 pub returns-in_err-event : goal.returns-in_err-event
 returns-in_err-event c =
@@ -25,7 +26,8 @@ returns-in_err-weight c =
     let row = c.in_ok-row.ensures (below c.args.rows) (λ x small b answer. search rules) in
     let event = c.in_ok-event.ensures (below c.args.n) (λ x small b answer. search rules) in
     rw (q.1, q.2)
-    (read_same (term_chain _ _ _ _) (then_read (behind_row _) row (then_read (behind_event _) event (then-refused (made_term _ _) c.in_err-weight.ensures))))
+    (read_same (term_chain _ _ _ _)
+    (then_read (behind_row _) row (then_read (behind_event _) event (then-refused (made_term _ _) c.in_err-weight.ensures))))
 
 pub returns : goal.returns
 returns c =

@@ -7,20 +7,22 @@ use Rattle.bundles.specs.Readers.{head_of, weights}
 use Rattle.bundles.specs.FieldReading.{up_to, byte-got}
 use Rattle.bundles.specs.Chains.{read_got, read_same, then_read, then-refused}
 use Rattle.weights.specs.Terms.{weighed_by}
-use Rattle.weights.specs.Steps.{holds_for}
+use Rattle.weights.specs.Steps.{holds_for, pairs_for}
 use Rattle.weights.specs.TermSums.{behind_factor, behind_count, weights_chain}
 use Rattle.weights.specs.declared.Step.{Step}
 use Rattle.weights.proofs.Step.read_weights.Goals as goal
 
 -- the reads behind k, and behind the term count
 abbrev after_factor : Step → ℕ → Reader Bool
-after_factor s = behind_factor (holds_for s) s.head.now.net.n s.head.now.rows
+after_factor s = behind_factor (holds_for s) s.head.now.net.n s.head.now.rows (pairs_for s)
 
 abbrev after_count : Step → ℕ → ℕ → Reader Bool
-after_count s = behind_count (holds_for s) s.head.now.net.n s.head.now.rows
+after_count s = behind_count (holds_for s) s.head.now.net.n s.head.now.rows (pairs_for s)
 
-same : (s : Step) (b : List ℕ) (from : ℕ) → weighed_by (holds_for s) (weights (head_of s.head.now.net.bundle.now)) b from ≡ (number (leb 1) >>= after_factor s) b from
-same s = weights_chain (holds_for s) (head_of s.head.now.net.bundle.now) s.head.now.net.n s.head.now.rows s.head.now.held.found.events s.head.now.held.size
+same : (s : Step) (b : List ℕ) (from : ℕ)
+    → weighed_by (holds_for s) (weights (head_of s.head.now.net.bundle.now)) b from ≡ (number (leb 1) >>= after_factor s) b from
+same s = weights_chain (holds_for s)
+    (head_of s.head.now.net.bundle.now) s.head.now.net.n s.head.now.rows s.head.now.held.found.events s.head.now.held.size
 
 pub returns-in_err-k : goal.returns-in_err-k
 returns-in_err-k c =

@@ -1,19 +1,8 @@
-use Rattle.std.proofs.Common.{◌≡◌, ℕ, Bool, true, false, cond, sym, refl, arith, nat_eq}
-use mir.Val.{bool_byte}
+use Rattle.std.proofs.Common.{◌≡◌, sym, arith}
 use Rattle.laws.specs.Lists.{all_below-none, all_below-next}
 use Rattle.limits.specs.Limits.{max_events}
-use Rattle.nets.specs.Nets.{same}
-use Rattle.weights.specs.Totals.{sums_hold}
+use Rattle.weights.specs.Totals.{sums_hold, one_if}
 use Rattle.weights.proofs.Sums.hold.Goals as goal
-
--- 1 for the same event, else 0
-one_if : (a b : ℕ) → ◌≡◌ {A = ℕ} (bool_byte (nat_eq a b)) (same a b)
-unfolding same
-one_if a b = go (nat_eq a b)
-  where
-    go : (t : Bool) → ◌≡◌ {A = ℕ} (bool_byte t) (cond t 1 0)
-    go true = refl
-    go false = refl
 
 pub loop-i-init : goal.loop-i-init
 loop-i-init c = sym (all_below-none _)

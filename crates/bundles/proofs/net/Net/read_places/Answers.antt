@@ -10,7 +10,8 @@ use Rattle.bundles.proofs.net.Net.read_places.Goals.{After-loop-j}
 pub loop-j-preserved : goal.loop-j-preserved
 loop-j-preserved c =
     let l = c.loop-j in
-    each_set _ (λ (j : ℕ) (p : Place). p ≡ code_place c.args.self.now j) l.place-items l.j _ (omega (arith, c.loop-j-test.true, l.auto.place-items)) l.invariant c.place.ensures
+    each_set _ (λ (j : ℕ) (p : Place). p ≡ code_place c.args.self.now j) l.place-items l.j _
+    (omega (arith, c.loop-j-test.true, l.auto.place-items)) l.invariant c.place.ensures
 
 -- the places of the net are the whole of what was written
 size : (c : After-loop-j) → length c.loop-j.place-items ≡ c.args.self.now.count
@@ -27,7 +28,8 @@ returns c =
     record {
       listed = record {
         room = omega (arith, length-append l.place-items rest, all);
-        each = λ j b. get_or-append l.place-items rest _ j (omega (arith, b, all)) ∙ l.invariant j (omega (arith, b, all, l.auto.place-items, c.loop-j-test.false));
+        each = λ j b. get_or-append l.place-items rest _ j (omega (arith, b, all))
+            ∙ l.invariant j (omega (arith, b, all, l.auto.place-items, c.loop-j-test.false));
       };
       rest = ap (λ (k : ℕ). drop k (l.place-items ++ rest)) (sym all) ∙ drop-append_seam l.place-items rest;
     }

@@ -1,5 +1,5 @@
 -- `contents::certificates::Certificates::next` meets its contract: what is cut off is the first piece.
-use Rattle.std.proofs.Common.{rules, ◌≡◌, sym, ap, ◌∙◌, arith, ◌<◌, length, get_or, []}
+use Rattle.std.proofs.Common.{◌≡◌, sym, ap, ◌∙◌, arith, ◌<◌, length, get_or, []}
 use Rattle.std.proofs.Math.Seq.{get_or-take}
 use Rattle.std.proofs.lemmas.List.{nil_from_length}
 use Rattle.contents.specs.Certificates.{pieces, pieces-none, PlaceInFront, WeightsInFront, place-front, weights-front}
@@ -9,7 +9,7 @@ use Rattle.contents.proofs.certificates.CertificatesIterator.next.Goals.{In_ok-f
 pub returns-in_err-first-clause-steps : goal.returns-in_err-first-clause-steps
 returns-in_err-first-clause-steps c =
     let none : c.args.self.now.rest.now ≡ [] = nil_from_length _ (omega (arith, c.in_err-first.ensures.item.3)) in
-    let left = ap pieces none ∙ pieces-none in
+    let left = ap (pieces c.args.self.now.is_new) none ∙ pieces-none c.args.self.now.is_new in
     rw c.from_residual.ensures (left, left)
 
 -- there is a first byte
@@ -20,15 +20,17 @@ byte : (c : In_ok-first) → get_or c.args.self.now.rest.now 0 0 ≡ c.in_ok-fir
 byte c = sym (c.in_ok-first.ensures.item.3.1 0)
 
 -- which says what stands in front
-place : (c : Then-branch-from) → PlaceInFront c.args.self.now.rest.now
+place : (c : Then-branch-from) → PlaceInFront c.args.self.now.is_new c.args.self.now.rest.now
 place c =
     let first = (goal.at.Then-branch-from c).In_ok-first in
-    place-front c.args.self.now.rest.now (some first) c.args.self.now.whole (byte first ∙ c.if-branch-from.true ∙ c.from.ensures)
+    let self = c.args.self.now in
+    place-front self.is_new self.rest.now (some first) self.whole (byte first ∙ c.if-branch-from.true ∙ c.from.ensures)
 
-weights : (c : Else-branch-from) → WeightsInFront c.args.self.now.rest.now
+weights : (c : Else-branch-from) → WeightsInFront c.args.self.now.is_new c.args.self.now.rest.now
 weights c =
     let first = (goal.at.Else-branch-from c).In_ok-first in
-    weights-front c.args.self.now.rest.now (some first) c.args.self.now.whole (λ e. c.if-branch-from.false (sym (byte first) ∙ e ∙ sym c.from.ensures))
+    let self = c.args.self.now in
+    weights-front self.is_new self.rest.now (some first) self.whole (λ e. c.if-branch-from.false (sym (byte first) ∙ e ∙ sym c.from.ensures))
 
 pub split_at-requires : goal.split_at-requires
 split_at-requires c = (place (goal.at.split_at-requires c).Then-branch-from).inside
@@ -45,18 +47,21 @@ pub returns-then-branch-from-clause-goes : goal.returns-then-branch-from-clause-
 returns-then-branch-from-clause-goes c =
     record { on = λ fin. (tt, tt, (omega (arith, ap length (returns-then-branch-from-clause-steps c)))); keeps = tt; rests = λ fin. tt }
 
-pub bounds-self-3 : goal.bounds-self-3
-bounds-self-3 c = let w = (weights (goal.at.bounds-self-3 c).Else-branch-from).inside in search rules
+pub weights_size-size-requires : goal.weights_size-size-requires
+weights_size-size-requires c = (weights (goal.at.weights_size-size-requires c).Else-branch-from).inside
 
 pub split_at-requires-2 : goal.split_at-requires-2
-split_at-requires-2 c = omega (arith, (weights (goal.at.split_at-requires-2 c).Else-branch-from).inside, c.from-2.ensures)
+split_at-requires-2 c = omega (arith, (weights (goal.at.split_at-requires-2 c).Else-branch-from).inside, c.weights_size-size.ensures)
 
 pub invariant_of-self-2 : goal.invariant_of-self-2
-invariant_of-self-2 c = record { whole = rw (c.split_at-2.ensures.back, c.from-2.ensures) (weights (goal.at.invariant_of-self-2 c).Else-branch-from).rest }
+invariant_of-self-2 c =
+    let w = weights (goal.at.invariant_of-self-2 c).Else-branch-from in
+    record { whole = rw (c.split_at-2.ensures.back, c.weights_size-size.ensures) w.rest }
 
 pub returns-clause-steps : goal.returns-clause-steps
 returns-clause-steps c =
-    rw (c.split_at-2.ensures.front, c.split_at-2.ensures.back, c.from-2.ensures) (weights (goal.at.returns-clause-steps c).Else-branch-from).is
+    let w = weights (goal.at.returns-clause-steps c).Else-branch-from in
+    rw (c.split_at-2.ensures.front, c.split_at-2.ensures.back, c.weights_size-size.ensures) w.is
 
 pub returns-clause-goes : goal.returns-clause-goes
 returns-clause-goes c = record { on = λ fin. (tt, tt, (omega (arith, ap length (returns-clause-steps c)))); keeps = tt; rests = λ fin. tt }

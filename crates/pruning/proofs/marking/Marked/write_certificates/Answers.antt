@@ -1,15 +1,12 @@
 -- `pruning::marking::Marked::write_certificates` meets its contract.
 use Rattle.std.proofs.Common.{◌≡◌, refl, sym, ap, ◌∙◌, subst, arith, [], ◌∷◌, ◌<◌, length, get_or, length-append}
 use Rattle.std.proofs.Math.Seq.{take_all}
-use mathlib.Core.List.{flat_map}
 use Rattle.laws.specs.Rewriting.{rewritten}
 use Rattle.limits.specs.Limits.{max_places}
-use Rattle.bundles.specs.Layout.{certificate_bytes}
 use Rattle.contents.specs.Contents.{contents_of}
 use Rattle.contents.specs.Certificates.{piece_of, no_certificate}
 use Rattle.contents.specs.Shown.{shown}
-use Rattle.contents.specs.Walks.{walk-turn, walk-end}
-use Rattle.contents.specs.declared.certificates.Certificates.{Certificates}
+use Rattle.contents.specs.Walks.{AllToCome, walk-turn, walk-end}
 use Rattle.pruning.specs.Marking.{place-below}
 use Rattle.pruning.specs.Pushing.{HasRoom, Pushed, pushed-none, piece-room, piece-pushed}
 use Rattle.pruning.specs.Writing.{certificate_piece, certificates-all, piece-place, piece-weights}
@@ -25,19 +22,17 @@ room : (c : Start) → let contents = contents_of c.args.self.now.parts.bundle.n
 room c = rw (certificates-all (contents_of c.args.self.now.parts.bundle.now)) c.requires
 
 -- the loop goes over the certificates
-all : (c : After-into_iter-certificate-iterator)
-    → c.into_iter-certificate-iterator.result.rest.now ≡ flat_map certificate_bytes (contents_of c.args.self.now.parts.bundle.now).certificates
-all c =
-    ap (λ (s : Certificates). s.rest.now) c.into_iter-certificate-iterator.ensures.into_iter_gives
-    ∙ rw c.each_certificate-certificate-items.ensures c.args.self.now.parts.certificates_are
+all : (c : After-into_iter-certificate-iterator) → AllToCome (contents_of c.args.self.now.parts.bundle.now) c.into_iter-certificate-iterator.result
+all c = rw c.into_iter-certificate-iterator.ensures.into_iter_gives c.each_certificate-certificate-items.ensures
 
 -- the certificate of a turn
-turn : (c : In-Some) → let cs = (contents_of c.args.self.now.parts.bundle.now).certificates in
+turn : (c : In-Some) → let contents = contents_of c.args.self.now.parts.bundle.now in
     let k = length c.loop-certificate.yielded in
-    (k < length cs) × (shown c.in-Some.certificate ≡ piece_of (get_or cs k no_certificate))
+    (k < length contents.certificates)
+    × (shown c.in-Some.certificate ≡ piece_of contents.head.is_new (get_or contents.certificates k no_certificate))
 turn c =
-    walk-turn (contents_of c.args.self.now.parts.bundle.now).certificates _ (all (goal.at.In-Some c).After-into_iter-certificate-iterator) c.loop-certificate.yielded _
-    c.loop-certificate.yielded_by _ c.next.new.self c.in-Some.certificate c.in-Some.is c.next.ensures.steps
+    walk-turn (contents_of c.args.self.now.parts.bundle.now) _ (all (goal.at.In-Some c).After-into_iter-certificate-iterator)
+    c.loop-certificate.yielded _ c.loop-certificate.yielded_by _ c.next.new.self c.in-Some.certificate c.in-Some.is c.next.ensures.steps
 
 below : (c : In-Place) → c.in-Place.place < max_places
 below c =
@@ -99,7 +94,8 @@ pub returns : goal.returns
 returns c =
     let contents = contents_of c.args.self.now.parts.bundle.now in
     let cs = contents.certificates in
-    let count = walk-end cs _ (all (goal.at.returns c).After-into_iter-certificate-iterator) c.loop-certificate.yielded _ c.loop-certificate.yielded_by _ c.next.new.self
-    c.in-None.is c.next.ensures.steps in
+    let count =
+    walk-end contents _ (all (goal.at.returns c).After-into_iter-certificate-iterator) c.loop-certificate.yielded _ c.loop-certificate.yielded_by _
+    c.next.new.self c.in-None.is c.next.ensures.steps in
     let whole = take_all (length c.loop-certificate.yielded) cs (omega (arith, count)) in
     subst (Pushed c.args.writer.now c.loop-certificate.writer) (ap (rewritten (certificate_piece contents)) whole ∙ certificates-all contents) c.loop-certificate.invariant

@@ -1,0 +1,2 @@
+-- A law that the proofs of `completed_rows` cite.
+mod Options

@@ -1,0 +1,4 @@
+pub mod Pairs
+pub mod Adding
+pub mod PairSums
+pub mod PairLaws
