@@ -21,7 +21,8 @@ use Rattle.beginnings.specs.Locals.{local_pairs}
 use Rattle.beginnings.specs.Filling.{Filled, filled-then, filled-behind, fills_give}
 use Rattle.beginnings.specs.Fillings.{Never, NoSuchRow, fills_termed, pairs_start, fills_pairs}
 use Rattle.beginnings.specs.HeadOffsets.{byte-got, byte-missing}
-use Rattle.beginnings.specs.Weights.{termed, paired, weights-steps, local_termed, behind_word}
+use Rattle.beginnings.specs.Weights.{termed, paired, weights-steps, local_termed}
+use Rattle.bundles.specs.TermReading.{behind_word}
 
 pub no_item : {A : Type 0} (l : List A) → length l < 1 → l ≡ []
 no_item [] h = refl
@@ -47,7 +48,7 @@ module _ (h : Head) where
   module _ (b : List ℕ) (bytes : Bytes b) (at spot : ℕ) (inside : at ≤ length b) where
     wordless : length h.entries < 1 → (is_new : Bool) → h.is_new ≡ is_new → pairs is_new (length h.entries) b at ≡ refused bundle_end_number spot
         → Filled (pairs is_new (length h.entries)) b at ⊎ PairDue b at spot
-    unfolding pairs pair each behind_word bind onward
+    unfolding pairs pair each bind onward
     wordless none false is e = impossible cc
     wordless none true is e = ⊎_elim
         (λ q. let end : length b ≡ at = omega (arith, inside, (byte-missing b _ at spot q).1) in

@@ -16,8 +16,9 @@ use Rattle.limits.specs.Limits.{max_terms, max_pairs}
 use Rattle.refusals.specs.Table.{bundle_end_number}
 use Rattle.refusals.specs.Results.{value, refused, bind}
 use Rattle.bundles.specs.Reading.{Read, got, item, Reader, onward, and_then, ◌>>=◌, give, byte, number, each, times}
-use Rattle.bundles.specs.Layout.{TermFields, PairFields, WeightFields, CertificateFields, kind1, Head, rows_in}
+use Rattle.bundles.specs.Layout.{TermFields, WeightFields, CertificateFields, kind1, Head, rows_in}
 use Rattle.bundles.specs.Readers.{anything, term, pair, pairs, weights}
+use Rattle.bundles.specs.TermReading.{made_term, behind_event, behind_row, behind_word}
 use Rattle.bundles.specs.ReadingLaws.{and_then-got, field-got}
 use Rattle.bundles.specs.Causes.{and_then-refused, field-refused}
 use Rattle.beginnings.specs.Local.{Local, local_give, local_then, local_times, local_byte, local_number}
@@ -68,10 +69,6 @@ module _ {A : Type 0} {r : Reader A} {size : ℕ} {b : List ℕ} (takes : Takes 
     times-stop k at spot e =
         let (t, less, in-it) = each-stop _ [] at spot e in
         (t, subst (λ (n : ℕ). t < n) (length-replicate k (tt {0})) less, in-it)
-
--- what is read of a pair behind its word
-unfoldable pub behind_word : ℕ → Reader PairFields
-behind_word word = number anything >>= λ weight. give (record { word = word; weight = weight })
 
 -- ---- the two steps
 
@@ -131,29 +128,19 @@ module _ (h : Head) where
     abbrev pub InPair : ℕ → ℕ → Type 0
     InPair at spot = ((spot ≡ at) × (length b ≤ spot)) ⊎ (spot ≡ at + 1)
 
-    -- what is read of a term behind its row, and behind its event
-    term_of : ℕ → ℕ → ℕ → Reader TermFields
-    term_of row event weight = give (record { row = row; event = event; weight = weight })
-
-    behind_event : ℕ → ℕ → Reader TermFields
-    behind_event row event = number anything >>= term_of row event
-
-    behind_row : ℕ → Reader TermFields
-    behind_row row = byte (λ e. ltb e h.events) >>= behind_event row
-
     term-takes : Takes (term h.events (length (rows_in h))) 5 b
-    unfolding term bind onward behind_row behind_event term_of
+    unfolding term bind onward
     term-takes = record {
       step = λ at x next e.
-          let (row, m1, is1, e1) = and_then-got b (number (λ r. ltb r (length (rows_in h))) b at) behind_row x next e in
+          let (row, m1, is1, e1) = and_then-got b (number (λ r. ltb r (length (rows_in h))) b at) (behind_row h.events) x next e in
           let (event, m2, is2, e2) = and_then-got b (byte (λ e. ltb e h.events) b m1) (behind_event row) x next e1 in
-          let (weight, m3, is3, e3) = and_then-got b (number anything b m2) (term_of row event) x next e2 in
+          let (weight, m3, is3, e3) = and_then-got b (number anything b m2) (made_term row event) x next e2 in
           let end : m3 ≡ next = cc (e3) in
           omega (arith, number-got b _ at row m1 is1, (byte-got b _ m1 event m2 is2).1, number-got b _ m2 weight m3 is3, end);
     }
 
     term-ends : (at spot : ℕ) → term h.events (length (rows_in h)) b at ≡ refused bundle_end_number spot → InTerm at spot
-    unfolding term bind onward behind_row behind_event term_of
+    unfolding term bind onward
     term-ends at spot e = ⊎_elim
         (λ q. inl (number-missing b _ at bundle_end_number spot q))
         (λ (row, m1, is1, e1). let s1 = number-got b _ at row m1 is1 in ⊎_elim
@@ -161,12 +148,12 @@ module _ (h : Head) where
         (λ (event, m2, is2, e2). let s2 = (byte-got b _ m1 event m2 is2).1 in ⊎_elim
         (λ q. inr (inr (omega (arith, s1, s2, number-missing b _ m2 bundle_end_number spot q))))
         (λ (weight, m3, is3, never). impossible cc)
-        ((and_then-refused b (number anything b m2) (term_of row event) bundle_end_number spot).0 e2))
+        ((and_then-refused b (number anything b m2) (made_term row event) bundle_end_number spot).0 e2))
         ((and_then-refused b (byte (λ e. ltb e h.events) b m1) (behind_event row) bundle_end_number spot).0 e1))
-        ((and_then-refused b (number (λ r. ltb r (length (rows_in h))) b at) behind_row bundle_end_number spot).0 e)
+        ((and_then-refused b (number (λ r. ltb r (length (rows_in h))) b at) (behind_row h.events) bundle_end_number spot).0 e)
 
     pair-takes : Takes (pair (length h.entries)) 3 b
-    unfolding pair bind onward behind_word
+    unfolding pair bind onward
     pair-takes = record {
       step = λ at x next e.
           let (word, m1, is1, e1) = and_then-got b (byte (λ w. ltb w (length h.entries)) b at) behind_word x next e in
@@ -176,7 +163,7 @@ module _ (h : Head) where
     }
 
     pair-ends : (at spot : ℕ) → pair (length h.entries) b at ≡ refused bundle_end_number spot → InPair at spot
-    unfolding pair bind onward behind_word
+    unfolding pair bind onward
     pair-ends at spot e = ⊎_elim
         (λ q. let m = byte-missing b _ at spot q in inl (m.0, omega (arith, m.0, m.1)))
         (λ (word, m1, is1, e1). let s1 = (byte-got b _ at word m1 is1).1 in ⊎_elim

@@ -59,8 +59,8 @@ fn judge_fields(bundle: &[u8], table: &mut [u16]) -> Verdict
 }
 
 // The verdict on a bundle: accepted with four counts, and then its log's rows are in the table; or refused.
-// Refuses with 4, 5, and then in the bundle's order with 6 to 13, with 20 behind 10. 4 and 5 leave the table as it was; the others clear its first 3,584
-// numbers.
+// Refuses with 4, 5, and then in the bundle's order with 6 to 13, with 20 behind 10. 4 and 5 leave the table as it was; the others clear its first
+// 3,584 numbers.
 pub fn judge(bundle: &[u8], table: &mut [u16]) -> Verdict
     ensures value { result ≡ verdict (length table.old) bundle.now }
     ensures table_after { table.new ≡ table_after bundle.now table.old }
