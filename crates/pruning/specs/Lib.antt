@@ -2,6 +2,5 @@ pub mod Pruning
 pub mod PruneLaws
 pub mod Judged
 pub mod Marking
-pub mod Pushing
 pub mod Writing
 pub mod RefusalNumbers

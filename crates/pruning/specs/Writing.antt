@@ -20,9 +20,9 @@ use Rattle.contents.specs.Certificates.{place, weights, piece_of, place-back, we
 use Rattle.pruning.specs.Pruning.{named, renumbered, pruned}
 use Rattle.pruning.specs.PruneLaws.{certificates-length, pruned-head}
 use Rattle.pruning.specs.Marking.{marks_of, marked, marks-named}
-use Rattle.pruning.specs.Pushing.{HasRoom, Pushed, room_behind, pushed-next}
+use Rattle.writer.specs.Pushing.{HasRoom, Pushed, room_behind, pushed-next}
 use Rattle.pruning.specs.declared.marking.Marked.{Marked}
-use Rattle.pruning.specs.declared.writing.Writer.{Writer}
+use Rattle.writer.specs.declared.Writer.{Writer}
 
 -- ---- places
 

@@ -5,32 +5,12 @@ ghost use Rattle.laws.specs.Parts.{front};
 ghost use Rattle.bundles.specs.Layout.{place_bytes, bytes_of};
 ghost use Rattle.contents.specs.Contents.{contents_of, certificates_bytes};
 ghost use Rattle.pruning.specs.Pruning.{pruned};
-ghost use Rattle.pruning.specs.Pushing.{HasRoom, Pushed};
+ghost use Rattle.writer.specs.Pushing.{HasRoom, Pushed};
 
 use crate::marking::Marked;
 use bundles::terms::Kind;
 use contents::certificates::Certificate;
-use slices::write_at;
-
-// An output, and the end of what is written to its front: not the rest alone, since contracts speak of the whole output. How much room there has to
-// be goes by what is written, so it is a clause.
-#[derive(Drop)]
-pub struct Writer<'a> {
-    pub output: &'a mut [u8],
-    pub end: usize,
-}
-
-impl Writer<'_> {
-    // Writes bytes behind those that are written.
-    #[inline(always)]
-    fn push(&mut self, bytes: &[u8])
-        requires { HasRoom self.old bytes.now }
-        ensures { Pushed self.old self.new bytes.now }
-    {
-        write_at(self.output, self.end, bytes);
-        self.end += bytes.len();
-    }
-}
+use writer::Writer;
 
 impl Marked<'_> {
     // The places that are marked, as they are.

@@ -1,7 +1,7 @@
 -- `pruning::marking::Marked::write` meets its contract: four parts, one behind the other.
 use Rattle.std.proofs.Common.{rules, refl, sym, ap, subst, arith, [], ◌∷◌, ℕ, length}
 use Rattle.contents.specs.Contents.{contents_of}
-use Rattle.pruning.specs.Pushing.{HasRoom, pushed-front}
+use Rattle.writer.specs.Pushing.{HasRoom, pushed-front}
 use Rattle.pruning.specs.Writing.{lengths, count-room, places-room, certificates-room, all-pushed}
 use Rattle.pruning.proofs.marking.Marked.write.Goals as goal
 

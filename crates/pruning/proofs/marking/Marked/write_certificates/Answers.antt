@@ -8,7 +8,7 @@ use Rattle.contents.specs.Certificates.{piece_of, no_certificate}
 use Rattle.contents.specs.Shown.{shown}
 use Rattle.contents.specs.Walks.{AllToCome, walk-turn, walk-end}
 use Rattle.pruning.specs.Marking.{place-below}
-use Rattle.pruning.specs.Pushing.{HasRoom, Pushed, pushed-none, piece-room, piece-pushed}
+use Rattle.writer.specs.Pushing.{HasRoom, Pushed, pushed-none, piece-room, piece-pushed}
 use Rattle.pruning.specs.Writing.{certificate_piece, certificates-all, piece-place, piece-weights}
 use Rattle.pruning.proofs.marking.Marked.write_certificates.Goals as goal
 use Rattle.pruning.proofs.marking.Marked.write_certificates.Goals.{Start, After-into_iter-certificate-iterator, In-Some, In-Place, In-Weights, After-from-in-Place}

@@ -2,7 +2,7 @@
 use Rattle.std.proofs.Common.{length, take}
 use Rattle.laws.specs.Rewriting.{rewritten}
 use Rattle.contents.specs.Contents.{contents_of}
-use Rattle.pruning.specs.Pushing.{Pushed}
+use Rattle.writer.specs.Pushing.{Pushed}
 use Rattle.pruning.specs.Writing.{certificate_piece}
 use Rattle.pruning.proofs.marking.Marked.write_certificates.Given as goal
 

@@ -10,9 +10,9 @@ use Rattle.contents.specs.Contents.{contents_of}
 use Rattle.contents.specs.Walking.{no_place, place-there, place-cut, place-behind, places-end}
 use Rattle.pruning.specs.Pruning.{named}
 use Rattle.pruning.specs.Marking.{marked, length-marks, marks-named, mark-cut}
-use Rattle.pruning.specs.Pushing.{HasRoom, Pushed, pushed-none, piece-room, piece-pushed}
+use Rattle.writer.specs.Pushing.{HasRoom, Pushed, pushed-none, piece-room, piece-pushed}
 use Rattle.pruning.specs.Writing.{place_piece, places-all, PlacesBehind}
-use Rattle.pruning.specs.declared.writing.Writer.{Writer}
+use Rattle.writer.specs.declared.Writer.{Writer}
 use Rattle.pruning.proofs.marking.Marked.write_places.Goals as goal
 use Rattle.pruning.proofs.marking.Marked.write_places.Goals.{Start, In-Some}
 

@@ -4,7 +4,7 @@ use Rattle.std.proofs.Common.{sym, ap, ◌∙◌, arith, length-append}
 use mathlib.Core.List.{List, [], ◌∷◌, ◌++◌}
 use Rattle.laws.specs.Parts.{front, spliced, spliced-none, spliced-next, spliced-front}
 use Rattle.laws.specs.Rewriting.{rewritten, rewritten-next}
-use Rattle.pruning.specs.declared.writing.Writer.{Writer}
+use Rattle.writer.specs.declared.Writer.{Writer}
 
 -- the output takes as many bytes more
 abbrev pub HasRoom : Writer → List ℕ → Type 0
