@@ -1,6 +1,6 @@
 -- The certificates of a bundle that was judged, as the code walks over them: each is cut off the front of the bytes that are left.
-use Rattle.std.specs.Prelude.{◌≡◌, refl, Bool, true, false, cond, ℕ, zero, suc, ◌+◌, ◌-◌, ◌*◌, ◌≤◌, ◌<◌, eqb, length, take, drop, get_or}
-use Rattle.std.proofs.Common.{sym, ap, ap₂, ◌∙◌, arith, ne_eqb, eq-eqb, eqb-true, take_at, drop_at, length-append}
+use Rattle.std.specs.Prelude.{◌≡◌, refl, Bool, true, false, cond, ℕ, ◌+◌, ◌*◌, ◌≤◌, ◌<◌, eqb, length, take, drop, get_or}
+use Rattle.std.proofs.Common.{sym, ap, ◌∙◌, arith, ne_eqb, eq-eqb, take_at, length-append}
 use Rattle.std.proofs.lemmas.List.{get_or-map, length-map}
 use mathlib.Core.List.{List, [], ◌∷◌, ◌++◌, map, flat_map, append_assoc}
 use Rattle.std.proofs.Math.Seq.{get_or-append_seam}
@@ -8,6 +8,7 @@ use Rattle.laws.specs.Booleans.{impossible}
 use Rattle.laws.specs.Numbers.{le16}
 use Rattle.bundles.specs.Layout.{TermFields, PairFields, WeightFields, CertificateFields, kind0, kind1}
 use Rattle.bundles.specs.Layout.{term_bytes, pair_bytes, pairs_bytes, weight_bytes, certificate_bytes}
+use Rattle.contents.specs.Cuts.{cut, cut_whole, cut-next, whole-next, joined-cut, joined-whole}
 
 -- a certificate as the walk gives it: the place that it names, or all bytes of its weights
 pub data Piece : Type 0 where
@@ -34,23 +35,13 @@ first_size is_new b = cond (eqb (get_or b 0 0) 0) 2 (weights_size is_new b)
 unfoldable pub first_piece : Bool → List ℕ → Piece
 first_piece is_new b = cond (eqb (get_or b 0 0) 0) (place (get_or b 1 0)) (weights (take (first_size is_new b) b))
 
--- those of some bytes, behind so many that are passed over
-unfoldable pub pieces_behind : Bool → ℕ → List ℕ → List Piece
-pieces_behind is_new skip [] = []
-pieces_behind is_new zero (x ∷ b) = first_piece is_new (x ∷ b) ∷ pieces_behind is_new (first_size is_new (x ∷ b) - 1) b
-pieces_behind is_new (suc k) (x ∷ b) = pieces_behind is_new k b
-
+-- those of some bytes, cut off one behind the other
 abbrev pub pieces : Bool → List ℕ → List Piece
-pieces is_new b = pieces_behind is_new 0 b
+pieces is_new = cut (first_size is_new) (first_piece is_new)
 
 -- whether the last of them ends where the bytes do
-unfoldable pub whole_behind : Bool → ℕ → List ℕ → Bool
-whole_behind is_new skip [] = eqb skip 0
-whole_behind is_new zero (x ∷ b) = whole_behind is_new (first_size is_new (x ∷ b) - 1) b
-whole_behind is_new (suc k) (x ∷ b) = whole_behind is_new k b
-
 abbrev pub whole : Bool → List ℕ → Bool
-whole is_new b = whole_behind is_new 0 b
+whole is_new = cut_whole (first_size is_new)
 
 -- ---- one of them cut off
 
@@ -59,67 +50,14 @@ unfolding weights_size
 weights-long true b = omega arith
 weights-long false b = omega arith
 
--- one certificate or more of one edition
-module _ (is_new : Bool) where
-  pieces-skip : (k : ℕ) (b : List ℕ) → pieces_behind is_new k b ≡ pieces is_new (drop k b)
-  unfolding pieces_behind
-  pieces-skip zero b = refl
-  pieces-skip (suc k) [] = refl
-  pieces-skip (suc k) (x ∷ b) = pieces-skip k b
-
-  whole-skip : (k : ℕ) (b : List ℕ) → k ≤ length b → whole_behind is_new k b ≡ whole is_new (drop k b)
-  unfolding whole_behind
-  whole-skip zero b h = refl
-  whole-skip (suc k) [] h = absurd (omega arith)
-  whole-skip (suc k) (x ∷ b) h = whole-skip k b (omega arith)
-
-  whole-fits : (k : ℕ) (b : List ℕ) → whole_behind is_new k b ≡ true → k ≤ length b
-  unfolding whole_behind
-  whole-fits k [] e = omega (arith, eqb-true k 0 e)
-  whole-fits zero (x ∷ b) e = omega arith
-  whole-fits (suc k) (x ∷ b) e = omega (arith, whole-fits k b e)
-
-  -- a certificate has two bytes or more
-  first-long : (b : List ℕ) → 2 ≤ first_size is_new b
-  unfolding first_size
-  first-long b = go (eqb (get_or b 0 0) 0)
-    where
-      go : (t : Bool) → 2 ≤ cond t 2 (weights_size is_new b)
-      go true = omega arith
-      go false = omega (arith, weights-long is_new b)
-
-  pub pieces-none : pieces is_new [] ≡ []
-  unfolding pieces_behind
-  pieces-none = refl
-
-  -- what is left behind the first byte, behind the first of them
-  behind-first : (x : ℕ) (b : List ℕ) → drop (first_size is_new (x ∷ b) - 1) b ≡ drop (first_size is_new (x ∷ b)) (x ∷ b)
-  behind-first x b =
-      let next : suc (first_size is_new (x ∷ b) - 1) ≡ first_size is_new (x ∷ b) = omega (arith, first-long (x ∷ b)) in
-      ap (λ (n : ℕ). drop n (x ∷ b)) next
-
-  pub pieces-next : (b : List ℕ) → 0 < length b → pieces is_new b ≡ first_piece is_new b ∷ pieces is_new (drop (first_size is_new b) b)
-  unfolding pieces_behind
-  pieces-next [] h = absurd (omega arith)
-  pieces-next (x ∷ b) h =
-      ap (λ (l : List Piece). first_piece is_new (x ∷ b) ∷ l)
-      (pieces-skip (first_size is_new (x ∷ b) - 1) b ∙ ap (pieces is_new) (behind-first x b))
-
-  pub whole-next : (b : List ℕ) → 0 < length b → whole is_new b ≡ true
-      → (first_size is_new b ≤ length b) × (whole is_new (drop (first_size is_new b) b) ≡ true)
-  unfolding whole_behind
-  whole-next [] h e = absurd (omega arith)
-  whole-next (x ∷ b) h e =
-      let fits : first_size is_new (x ∷ b) - 1 ≤ length b = whole-fits (first_size is_new (x ∷ b) - 1) b e in
-      (omega arith, sym (ap (whole is_new) (behind-first x b)) ∙ sym (whole-skip (first_size is_new (x ∷ b) - 1) b fits) ∙ e)
-
-  -- and back
-  whole-joined : (b : List ℕ) → first_size is_new b ≤ length b → whole is_new (drop (first_size is_new b) b) ≡ true → whole is_new b ≡ true
-  unfolding whole_behind
-  whole-joined [] h e = refl
-  whole-joined (x ∷ b) h e =
-      let fits : first_size is_new (x ∷ b) - 1 ≤ length b = omega (arith, first-long (x ∷ b)) in
-      whole-skip (first_size is_new (x ∷ b) - 1) b fits ∙ ap (whole is_new) (behind-first x b) ∙ e
+-- a certificate has a byte or more
+first-long : (is_new : Bool) (b : List ℕ) → 1 ≤ first_size is_new b
+unfolding first_size
+first-long is_new b = go (eqb (get_or b 0 0) 0)
+  where
+    go : (t : Bool) → 1 ≤ cond t 2 (weights_size is_new b)
+    go true = omega arith
+    go false = omega (arith, weights-long is_new b)
 
 -- a place in front, of two bytes
 pub record PlaceInFront (is_new : Bool) (b : List ℕ) : Type 0 where
@@ -135,21 +73,25 @@ pub record WeightsInFront (is_new : Bool) (b : List ℕ) : Type 0 where
 
 -- the first byte says which
 module _ (is_new : Bool) (b : List ℕ) (some : 0 < length b) (all : whole is_new b ≡ true) where
+  next : (first_size is_new b ≤ length b) × (whole is_new (drop (first_size is_new b) b) ≡ true)
+  next = whole-next (first_size is_new) (first-long is_new) b some all
+
+  pieces-next : pieces is_new b ≡ first_piece is_new b ∷ pieces is_new (drop (first_size is_new b) b)
+  pieces-next = cut-next (first_size is_new) (first-long is_new) (first_piece is_new) b some
+
   pub place-front : get_or b 0 0 ≡ 0 → PlaceInFront is_new b
   unfolding first_piece first_size
   place-front e =
       let zero : eqb (get_or b 0 0) 0 ≡ true = eq-eqb (get_or b 0 0) 0 e in
       let size : first_size is_new b ≡ 2 = rw zero in
-      let next = whole-next is_new b some all in
-      record { inside = omega (arith, next.0, size); rest = rw size at next.1; is = pieces-next is_new b some ∙ rw zero }
+      record { inside = omega (arith, next.0, size); rest = rw size at next.1; is = pieces-next ∙ rw zero }
 
   pub weights-front : (get_or b 0 0 ≡ 0 → ⊥) → WeightsInFront is_new b
   unfolding first_piece first_size
   weights-front other =
       let more : eqb (get_or b 0 0) 0 ≡ false = ne_eqb (get_or b 0 0) 0 other in
       let size : first_size is_new b ≡ weights_size is_new b = rw more in
-      let next = whole-next is_new b some all in
-      record { inside = omega (arith, next.0, size); rest = rw size at next.1; is = pieces-next is_new b some ∙ rw more }
+      record { inside = omega (arith, next.0, size); rest = rw size at next.1; is = pieces-next ∙ rw more }
 
 -- ---- the certificates of a bundle
 
@@ -191,32 +133,12 @@ module _ (is_new : Bool) where
   first-is (kind0 j) rest = refl
   first-is (kind1 w) rest = ap weights (take_at (certificate_bytes is_new (kind1 w)) rest _ (sym (size-is is_new (kind1 w) rest)))
 
-  -- a certificate in front of others
-  module _ (c : CertificateFields) (rest : List ℕ) where
-    abbrev b : List ℕ
-    b = certificate_bytes is_new c ++ rest
-
-    behind-is : drop (first_size is_new b) b ≡ rest
-    behind-is = drop_at (certificate_bytes is_new c) rest (first_size is_new b) (sym (size-is is_new c rest))
-
-    fits : first_size is_new b ≤ length b
-    fits = omega (arith, size-is is_new c rest, length-append (certificate_bytes is_new c) rest)
-
   pub certificates-pieces : (cs : List CertificateFields) → pieces is_new (flat_map (certificate_bytes is_new) cs) ≡ map (piece_of is_new) cs
-  unfolding pieces_behind flat_map
-  certificates-pieces [] = refl
-  certificates-pieces (c ∷ cs) =
-      let rest = flat_map (certificate_bytes is_new) cs in
-      let whole = certificate_bytes is_new c ++ rest in
-      pieces-next is_new whole (omega (arith, fits c rest, first-long is_new whole))
-      ∙ ap₂ ◌∷◌ (first-is c rest) (ap (pieces is_new) (behind-is c rest) ∙ certificates-pieces cs)
+  certificates-pieces =
+      joined-cut (first_size is_new) (first-long is_new) (certificate_bytes is_new) (size-is is_new) (first_piece is_new) (piece_of is_new) first-is
 
   pub certificates-whole : (cs : List CertificateFields) → whole is_new (flat_map (certificate_bytes is_new) cs) ≡ true
-  unfolding whole_behind flat_map
-  certificates-whole [] = refl
-  certificates-whole (c ∷ cs) =
-      let rest = flat_map (certificate_bytes is_new) cs in
-      whole-joined is_new (certificate_bytes is_new c ++ rest) (fits c rest) (ap (whole is_new) (behind-is c rest) ∙ certificates-whole cs)
+  certificates-whole = joined-whole (first_size is_new) (first-long is_new) (certificate_bytes is_new) (size-is is_new)
 
 -- ---- the certificates, back from their pieces
 

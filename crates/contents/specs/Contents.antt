@@ -9,9 +9,9 @@ use Rattle.laws.specs.Booleans.{impossible}
 use Rattle.laws.specs.Every.{Every}
 use Rattle.laws.specs.Numbers.{Bytes, le16}
 use Rattle.limits.specs.Limits.{new_edition}
-use Rattle.refusals.specs.Results.{value, refused}
+use Rattle.refusals.specs.Results.{Result, value, refused, bind}
 use Rattle.refusals.specs.declared.Refusal.{Refusal}
-use Rattle.bundles.specs.Reading.{Read, got, item}
+use Rattle.bundles.specs.Reading.{Read, got, item, item_in}
 use Rattle.bundles.specs.Layout.{PlaceFields, Head, Contents, PlaceInLimits, InLimits, HeadInFront}
 use Rattle.bundles.specs.Layout.{place_bytes, places_bytes, certificate_bytes, front_bytes, head_bytes, bytes_of, first_in}
 use Rattle.bundles.specs.Editions.{front-edition, front-events}
@@ -51,18 +51,34 @@ module _ (table_length : ℕ) (b : List ℕ) where
       go (value (item c next)) q = impossible cc
       go (refused number spot) q = let same : record { number = number; spot = spot } ≡ r = cc in ap (λ (x : Refusal). refused x.number x.spot) same
 
-  -- an accepted bundle is the bytes of its contents, which the judge has read
-  pub judged-accepted : Bytes b → (t : Tally) → verdict table_length b ≡ Ok t → IsBundle b × ((next : ℕ) × (judged table_length b 0 ≡ got (contents_of b) next))
+  -- an accepted bundle has the contents that the judge has read
+  pub judged-accepted : Bytes b → (t : Tally) → verdict table_length b ≡ Ok t
+      → AcceptedAs b t (contents_of b) × ((next : ℕ) × (judged table_length b 0 ≡ got (contents_of b) next))
   unfolding verdict verdict_of contents_of contents_in
   judged-accepted bytes t e = go (judged table_length b 0) refl e
     where
-      go : (m : Read Contents) → judged table_length b 0 ≡ m → verdict_of m ≡ Ok t → IsBundle b × ((next : ℕ) × (m ≡ got (contents_in (judging b 0)) next))
+      go : (m : Read Contents) → judged table_length b 0 ≡ m → verdict_of m ≡ Ok t
+          → AcceptedAs b t (contents_in (judging b 0)) × ((next : ℕ) × (m ≡ got (contents_in (judging b 0)) next))
       go (value (item d next)) is q =
           let read : judging b 0 ≡ got d next = judged-judging table_length b d next is in
           let (c, a) = (accepted-exactly table_length (judged-long table_length b d next is) b bytes t).0 (ap verdict_of is ∙ q) in
           let same : c ≡ d = cc (sym (accepted-judging b bytes t c a) ∙ read) in
-          (record { layout = rw (read, ← same) a.layout; limits = rw (read, ← same) a.limits }, (next, rw read))
+          (rw (read, ← same) a, (next, rw read))
       go (refused number spot) is q = impossible cc
+
+  -- a call that judges first, and goes on with the contents
+  module _ {A : Type 0} (f : Contents → Result A) where
+    pub behind-refused : (r : Refusal) → verdict table_length b ≡ Err r → bind (judged table_length b 0) (λ i. f (item_in i)) ≡ refused r.number r.spot
+    unfolding bind
+    behind-refused r e = rw (judged-refused r e)
+
+    pub behind-accepted : Bytes b → (t : Tally) → verdict table_length b ≡ Ok t → bind (judged table_length b 0) (λ i. f (item_in i)) ≡ f (contents_of b)
+    unfolding bind item_in
+    behind-accepted bytes t e = rw (judged-accepted bytes t e).1.1
+
+-- it is the bytes of its contents
+pub accepted-bundle : {b : List ℕ} {t : Tally} → AcceptedAs b t (contents_of b) → IsBundle b
+accepted-bundle a = record { layout = a.layout; limits = a.limits }
 
 -- ---- where the parts stand
 

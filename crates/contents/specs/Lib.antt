@@ -1,6 +1,9 @@
 pub mod Contents
+pub mod Behind
 pub mod Walking
+pub mod Cuts
 pub mod Certificates
+pub mod Words
 pub mod Parts
 pub mod Shown
 pub mod Walks

@@ -33,7 +33,7 @@ abbrev pub entry_in : List ℕ → Entry → List ℕ
 entry_in b = entry_bytes (contents_of b).head.is_new
 
 -- before the events of a word its length, and in the new edition its mark, as many bytes as the code has for it
-entry_length : (is_new : Bool) (x : Entry) → length (entry_bytes is_new x) ≡ 1 + bool_byte is_new + length x.word
+pub entry_length : (is_new : Bool) (x : Entry) → length (entry_bytes is_new x) ≡ 1 + bool_byte is_new + length x.word
 unfolding entry_bytes mark_bytes
 entry_length true x = omega arith
 entry_length false x = omega arith

@@ -1,17 +1,49 @@
--- A loop over the certificates of a bundle: which of them a turn has, and that all were there at its end.
+-- A loop over the words or the certificates of a bundle: which of them a turn has, and that all were there at its end.
 use Rattle.std.specs.Prelude.{◌≡◌, Bool, ◌<◌, Option, Some, None, length, get_or}
 use Rattle.std.specs.Iterator.{YieldsFirstBy, Yields}
 use Rattle.std.proofs.Common.{◌∙◌}
-use Rattle.std.proofs.lemmas.List.{length-map}
+use Rattle.std.proofs.lemmas.List.{length-map, get_or_default}
 use Rattle.std.proofs.lemmas.Iterator.{YieldsList}
 use Rattle.std.proofs.lemmas.Iterator.Consumers.{YieldsList-from_first, YieldsList-turn, YieldsList-end}
 use mathlib.Core.List.{List, map}
+use Rattle.nets.specs.Nets.{Entry, no_entry}
 use Rattle.bundles.specs.Layout.{Contents}
 use Rattle.contents.specs.Contents.{certificates_bytes}
 use Rattle.contents.specs.Certificates.{Piece, pieces, piece_of, no_certificate, certificates-pieces, piece-turn}
-use Rattle.contents.specs.Shown.{shown}
+use Rattle.contents.specs.Shown.{shown, shown_word}
+use Rattle.contents.specs.Words.{entries_of}
+use Rattle.contents.specs.declared.words.Word.{Word}
+use Rattle.contents.specs.declared.words.Words.{Words}
 use Rattle.contents.specs.declared.certificates.Certificate.{Certificate}
 use Rattle.contents.specs.declared.certificates.Certificates.{Certificates}
+
+-- ---- words
+
+abbrev pub words_left : Words → List Entry
+words_left walk = entries_of walk.is_new walk.rest.now
+
+-- all words are still to come
+abbrev pub AllWords : Contents → Words → Type 0
+AllWords c walk = words_left walk ≡ c.head.entries
+
+module _ (c : Contents) (start : Words) (all : AllWords c start) where
+  -- a walk over them gives the entries
+  pub words-road : YieldsList (YieldsFirstBy shown_word words_left) shown_word start c.head.entries
+  words-road = YieldsList-from_first shown_word words_left c.head.entries all
+
+  module _ (xs : List Word) (now : Words) (so_far : Yields (YieldsFirstBy shown_word words_left) start xs now) where
+    -- the word of a turn
+    pub word-turn : (r : Option Word) (next : Words) (x : Word) → r ≡ Some x → YieldsFirstBy shown_word words_left now r next
+        → (length xs < length c.head.entries) × (shown_word x ≡ get_or c.head.entries (length xs) no_entry)
+    word-turn r next x e step =
+        let turn = YieldsList-turn words-road xs now so_far r next x e step in
+        (turn.0, turn.1 ∙ get_or_default c.head.entries (length xs) (shown_word x) no_entry turn.0)
+
+    -- at the end all were there
+    pub words-end : (r : Option Word) (next : Words) → r ≡ None → YieldsFirstBy shown_word words_left now r next → length xs ≡ length c.head.entries
+    words-end r next e step = (YieldsList-end words-road xs now so_far r next e step).1
+
+-- ---- certificates
 
 -- all certificates are still to come
 pub record AllToCome (c : Contents) (walk : Certificates) : Type 0 where

@@ -1,8 +1,9 @@
-// A bundle that was judged, read again without tests: its parts, and its certificates one by one. The contracts cite specs/Contents.antt.
+// A bundle that was judged, read again without tests: its parts, and its words and certificates one by one. The contracts cite specs/Contents.antt.
 // All are inner functions.
 #![tactic(auto)]
 
 pub mod certificates; // the certificates, one behind the other
+pub mod words; // the words, likewise
 
 ghost use Rattle.std.specs.Prelude.{◌≡◌, ◌+◌, ◌*◌, length};
 ghost use mathlib.Core.List.{flat_map};
@@ -10,11 +11,12 @@ ghost use Rattle.bundles.specs.Layout.{first_in, front_bytes, place_bytes};
 ghost use Rattle.bundles.specs.Keeping.{said};
 ghost use Rattle.contents.specs.Contents.{IsBundle, contents_of, certificates_bytes};
 ghost use Rattle.contents.specs.Parts.{IsBundle-prop};
-ghost use Rattle.contents.specs.Walks.{AllToCome};
+ghost use Rattle.contents.specs.Walks.{AllToCome, AllWords};
 
 use bundles::First;
 use certificates::Certificates;
 use limits::NEW_EDITION;
+use words::Words;
 
 // The parts of a bundle that was judged.
 #[derive(Clone, Copy)]
@@ -83,6 +85,16 @@ impl<'a> Parts<'a> {
             place_size,
             certificates,
             is_new: first.is_new,
+        }
+    }
+
+    // The words, one by one.
+    pub fn each_word(&self) -> Words<'a>
+        ensures { AllWords (contents_of self.now.bundle.now) result }
+    {
+        Words {
+            rest: &self.front[2..],
+            is_new: self.is_new,
         }
     }
 

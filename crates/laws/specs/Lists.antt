@@ -316,6 +316,11 @@ module _ {A B : Type 0} where
   all_map p f [] = refl
   all_map p f (x ∷ l) = ap (λ (b : Bool). p (f x) && b) (all_map p f l)
 
+  pub flat_map_same : (f g : A → List B) (l : List A) → ((x : A) → Memᴰ x l → f x ≡ g x) → flat_map f l ≡ flat_map g l
+  unfolding flat_map
+  flat_map_same f g [] h = refl
+  flat_map_same f g (x ∷ l) h = ap₂ ◌++◌ (h x (Memᴰ.head refl)) (flat_map_same f g l (λ y m. h y (Memᴰ.tail m)))
+
   pub map_same : (f g : A → B) (l : List A) → ((x : A) → Memᴰ x l → f x ≡ g x) → map f l ≡ map g l
   map_same f g [] h = refl
   map_same f g (x ∷ l) h = ap₂ ◌∷◌ (h x (Memᴰ.head refl)) (map_same f g l (λ y m. h y (Memᴰ.tail m)))

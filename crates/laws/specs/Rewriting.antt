@@ -31,6 +31,12 @@ module _ {A : Type 0} where
   rewritten-map g f [] = refl
   rewritten-map g f (x ∷ xs) = ap (λ (l : List ℕ). g (f x) ++ l) (rewritten-map g f xs)
 
+  -- where each is as its element says
+  pub rewritten-each : (g : A → List ℕ) (xs : List A) → rewritten (λ i x. g x) xs ≡ flat_map g xs
+  unfolding rewritten flat_map
+  rewritten-each g [] = refl
+  rewritten-each g (x ∷ xs) = ap (λ (l : List ℕ). g x ++ l) (rewritten-each g xs)
+
   -- where some are left out
   pub rewritten-kept : (g : A → List ℕ) (f : ℕ → Bool) (xs : List A) → rewritten (λ i x. cond (f i) (g x) []) xs ≡ flat_map g (keep_at f xs)
   unfolding rewritten flat_map keep_at

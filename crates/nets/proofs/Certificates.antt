@@ -11,6 +11,7 @@ use Rattle.std.proofs.Math.Dec.{T, leb→le}
 use Rattle.std.proofs.Math.ListN.{length}
 use Rattle.std.specs.Int.Signed.{le_z_yes}
 use Rattle.std.specs.Float.Ieee.Fits.{and_l, and_r}
+use Rattle.laws.specs.Every.{Every}
 use Rattle.laws.specs.Lists.{all-member, all_intro, keep, tabulate, tabulate-member}
 use Rattle.nets.specs.Nets.{Entry, no_entry, Net, Place, Step, words, completed_words, weighed, place_permits, net_permits, allowed, refused_by}
 use Rattle.nets.specs.Bundle.{Term, Pair, Weights, Certificate, by_place, by_weights, weight_of, names_completed, pair_counts, weighs_before, weighs_after, weights_hold, solves, solves_all, is_by_place}
@@ -110,3 +111,32 @@ certificate_for n entries net (x ∷ ss) (c ∷ cs) t s m =
     let rest = and_r (solves n entries net x c) (solves_all n entries net ss cs) t in
     ⊎_elim (λ e. (c, subst (λ (y : Step). T (solves n entries net y c)) (sym e) first))
     (λ k. certificate_for n entries net ss cs rest s k) (Memᴰ.cases_cons m)
+
+-- ---- where no word is completed
+
+-- a certificate without pairs
+abbrev pub WithoutPairs : Certificate → Type 0
+WithoutPairs (by_place j) = Unit {0}
+WithoutPairs (by_weights w) = w.pairs ≡ []
+
+module _ (n : ℕ) (entries : List Entry) (none : NoneCompleted entries) (net : Net) where
+  -- one that solves a step, since a pair names a completed word
+  solves-unpaired : (s : Step) (c : Certificate) → T (solves n entries net s c) → WithoutPairs c
+  unfolding solves
+  solves-unpaired s (by_place j) t = tt
+  solves-unpaired s (by_weights w) t = go w.pairs (pairs-completed n entries s w t)
+    where
+      go : (qs : List Pair) → ((q : Pair) → Memᴰ q qs → T (names_completed n entries q)) → qs ≡ []
+      go [] named = refl
+      go (q ∷ qs) named = absurd (none-word entries none _ (named-completed n entries q (named q (Memᴰ.head refl))))
+
+  -- so each
+  pub all-unpaired : (ss : List Step) (cs : List Certificate) → T (solves_all n entries net ss cs) → Every WithoutPairs cs
+  unfolding solves_all
+  all-unpaired [] [] t = tt
+  all-unpaired [] (c ∷ cs) t = absurd t
+  all-unpaired (s ∷ ss) [] t = absurd t
+  all-unpaired (s ∷ ss) (c ∷ cs) t = (
+    solves-unpaired s c (and_l (solves n entries net s c) (solves_all n entries net ss cs) t),
+    all-unpaired ss cs (and_r (solves n entries net s c) (solves_all n entries net ss cs) t),
+  )

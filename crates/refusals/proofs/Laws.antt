@@ -1,12 +1,12 @@
 -- Laws of answers: one for each way that a call ends, and what a caller learns from an answer.
-use Rattle.std.specs.Prelude.{◌≡◌, refl, true, List, ◌∷◌, ℕ, ◌≤◌, ◌<◌, length, take, drop, leb, Ok, Err}
-use Rattle.std.proofs.Common.{sym, ap, ◌∙◌, inr, arith}
+use Rattle.std.specs.Prelude.{◌≡◌, ◌↔◌, ◌⊎◌, refl, Bool, true, false, List, ◌∷◌, ℕ, ◌≤◌, ◌<◌, length, take, drop, leb, Ok, Err}
+use Rattle.std.proofs.Common.{sym, ap, ◌∙◌, inl, inr, ⊎_elim, arith, leb-false}
 use borrow.Author.Tests.{lt-leb, le-leb, leb-true}
 use Rattle.laws.specs.Booleans.{impossible}
 use Rattle.laws.specs.Lists.{among}
 use Rattle.laws.specs.Parts.{front, take-front, front_rest}
 use Rattle.refusals.specs.Table.{output_short_number}
-use Rattle.refusals.specs.Results.{Result, value, refused, bind, require, bind-value, passed, number_in, Refuses, refuses-value, refuses-require, refuses-then, numbers-listed}
+use Rattle.refusals.specs.Results.{Result, value, refused, bind, require, bind-value, bind-refused, passed, number_in, Refuses, refuses-value, refuses-require, refuses-then, numbers-listed}
 use Rattle.refusals.specs.Answers.{refusal, fitted, answer_of, answer, output_of, written, number_of}
 use Rattle.refusals.specs.declared.Refusal.{Refusal}
 use Rattle.refusals.specs.Laws.{Ends}
@@ -115,3 +115,51 @@ written-numbers {numbers} {result} only short room = same (fitted result room) �
     same : (m : Result (List ℕ)) → among (number_of (answer_of m)) (0 ∷ numbers) ≡ among (number_in m) (0 ∷ numbers)
     same (value new) = refl
     same (refused number spot) = refl
+
+-- ---- exactly when it ends how
+
+-- a test, and bytes behind it
+module _ (ok : Bool) (number spot : ℕ) (new : List ℕ) where
+  pub require-refused : (k at : ℕ) → (bind (require ok number spot) (λ u. value new) ≡ refused k at) ↔ ((k ≡ number) × (at ≡ spot) × (ok ≡ false))
+  unfolding bind require
+  require-refused k at = (to ok, λ (n, s, e). rw (e, n, s))
+    where
+      to : (b : Bool) → bind (require b number spot) (λ u. value new) ≡ refused k at → (k ≡ number) × (at ≡ spot) × (b ≡ false)
+      to true e = impossible cc
+      to false e = (cc, cc, refl)
+
+  pub require-value : (l : List ℕ) → (bind (require ok number spot) (λ u. value new) ≡ value l) ↔ ((ok ≡ true) × (l ≡ new))
+  unfolding bind require
+  require-value l = (to ok, λ (e, is). rw (e, is))
+    where
+      to : (b : Bool) → bind (require b number spot) (λ u. value new) ≡ value l → (b ≡ true) × (l ≡ new)
+      to true e = (refl, cc)
+      to false e = impossible cc
+
+module _ (result : Result (List ℕ)) (room : ℕ) where
+  -- with a length: the result's, which the output takes
+  pub answer-value : (n : ℕ) → (answer result room ≡ Ok n) ↔ ((new : List ℕ) × (result ≡ value new) × (n ≡ length new) × (n ≤ room))
+  unfolding answer fitted bind require answer_of
+  answer-value n = (
+    (λ e.
+        let v = length→value (fitted result room) n e in
+        (v.0, (fitted→ result room v.0 v.1).0, v.2, omega (arith, v.2, (fitted→ result room v.0 v.1).1))),
+    λ (new, is, size, fits). rw (is, le-leb (length new) room (omega (arith, size, fits)), size),
+  )
+
+  -- with a refusal: the chain's, or output_short_number with the result's length
+  pub answer-refusal : (number spot : ℕ) → (answer result room ≡ Err (refusal number spot)) ↔ ((result ≡ refused number spot)
+      ⊎ ((number ≡ output_short_number) × ((new : List ℕ) × (result ≡ value new) × (spot ≡ length new) × (room < spot))))
+  unfolding answer fitted bind require answer_of
+  answer-refusal number spot = (
+    (λ e. ⊎_elim
+        (λ is. inl is)
+        (λ (new, is, rest).
+        let (k, at, long) = (require-refused (leb (length new) room) output_short_number (length new) new number spot).0 rest in
+        inr (k, (new, is, at, omega (arith, at, leb-false (length new) room long))))
+        (bind-refused result _ number spot (answer-refused result room (refusal number spot) e))),
+    λ r. ⊎_elim
+        (λ is. rw is)
+        (λ (k, (new, is, at, short)). rw (is, lt-leb (length new) room (omega (arith, at, short)), k, at))
+        r,
+  )

@@ -1,7 +1,7 @@
 -- The numbers of the refusal table, by the names that the code has for them.
 use Rattle.std.specs.Prelude.{ℕ}
 use Rattle.refusals.specs.declared.Cause.{Cause}
-use Rattle.refusals.specs.declared.Cause.TheVariants.{FileLength, BlockSums, OutputShort, BundleLength, NumbersShort, BundleEnd, Value, Events, Rows, PlaceMisfit, PlacePermits, Weights, BytesFollow, WordLength, WordEvent, StateRange, BlockNumber, BlockUse, EventCounts, PlaceDisobeys}
+use Rattle.refusals.specs.declared.Cause.TheVariants.{FileLength, BlockSums, OutputShort, BundleLength, NumbersShort, BundleEnd, Value, Events, Rows, PlaceMisfit, PlacePermits, Weights, BytesFollow, WordLength, WordEvent, StateRange, BlockNumber, BlockUse, EventCounts, PlaceDisobeys, WordCompleted}
 
 abbrev pub file_length_number : ℕ
 file_length_number = 1
@@ -63,6 +63,9 @@ event_counts_number = 19
 abbrev pub place_disobeys_number : ℕ
 place_disobeys_number = 20
 
+abbrev pub word_completed_number : ℕ
+word_completed_number = 21
+
 -- the number of a cause
 abbrev pub number : Cause → ℕ
 number FileLength = file_length_number
@@ -85,3 +88,4 @@ number BlockNumber = block_number_number
 number BlockUse = block_use_number
 number EventCounts = event_counts_number
 number PlaceDisobeys = place_disobeys_number
+number WordCompleted = word_completed_number

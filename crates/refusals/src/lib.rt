@@ -25,7 +25,7 @@ pub enum Cause {
     BlockSums = 2,
     // The output is shorter than the result.
     OutputShort = 3,
-    // A bundle's length is 0 or above 64,512.
+    // A bundle's length is 0 or above 64,512, or that of a bundle that would be written is above it.
     BundleLength = 4,
     // A slice of numbers that the call writes is too short; today this is the table.
     NumbersShort = 5,
@@ -59,6 +59,8 @@ pub enum Cause {
     EventCounts = 19,
     // A place does not obey a completed word of the log: its effect on the place is not 0.
     PlaceDisobeys = 20,
+    // A word is completed, and the old edition has none.
+    WordCompleted = 21,
 }
 
 impl Cause {

@@ -5,3 +5,4 @@ pub mod Causes
 pub mod Reached
 pub mod Stopping
 pub mod OldEdition
+pub mod Never

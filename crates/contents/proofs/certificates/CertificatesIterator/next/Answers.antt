@@ -2,14 +2,15 @@
 use Rattle.std.proofs.Common.{◌≡◌, sym, ap, ◌∙◌, arith, ◌<◌, length, get_or, []}
 use Rattle.std.proofs.Math.Seq.{get_or-take}
 use Rattle.std.proofs.lemmas.List.{nil_from_length}
-use Rattle.contents.specs.Certificates.{pieces, pieces-none, PlaceInFront, WeightsInFront, place-front, weights-front}
+use Rattle.contents.specs.Cuts.{cut-none}
+use Rattle.contents.specs.Certificates.{pieces, PlaceInFront, WeightsInFront, place-front, weights-front}
 use Rattle.contents.proofs.certificates.CertificatesIterator.next.Goals as goal
 use Rattle.contents.proofs.certificates.CertificatesIterator.next.Goals.{In_ok-first, Then-branch-from, Else-branch-from}
 
 pub returns-in_err-first-clause-steps : goal.returns-in_err-first-clause-steps
 returns-in_err-first-clause-steps c =
     let none : c.args.self.now.rest.now ≡ [] = nil_from_length _ (omega (arith, c.in_err-first.ensures.item.3)) in
-    let left = ap (pieces c.args.self.now.is_new) none ∙ pieces-none c.args.self.now.is_new in
+    let left = ap (pieces c.args.self.now.is_new) none ∙ cut-none _ _ in
     rw c.from_residual.ensures (left, left)
 
 -- there is a first byte

@@ -1,0 +1,36 @@
+-- `editions::to_new` meets its contract: the judge's refusal, or what an accepted bundle gets.
+use Rattle.std.proofs.lemmas.Result.{err_from_is_err_and}
+use Rattle.std.proofs.Common.{sym, ap, ◌∙◌, arith, List, ℕ, length}
+use Rattle.laws.specs.Numbers.{Bytes}
+use Rattle.refusals.specs.Results.{Result}
+use Rattle.refusals.specs.Answers.{answer, written}
+use Rattle.refusals.proofs.Laws.{ends-refused}
+use Rattle.editions.specs.Judged.{to_new-refused, to_new-accepted, accepted-as}
+use Rattle.editions.proofs.to_new.Goals as goal
+use Rattle.editions.proofs.to_new.Goals.{In_ok-tally}
+
+pub returns-in_err-tally : goal.returns-in_err-tally
+returns-in_err-tally c =
+    let p = err_from_is_err_and c.from_residual.result c.from_residual.ensures.1 in
+    let r = c.in_err-tally.field-0.0 in
+    let ends = ends-refused _ c.args.output.now r.number r.spot (to_new-refused (length c.args.table.now) c.args.bundle.now r (sym c.judge.ensures.value ∙ c.in_err-tally.was)) in
+    record { value = rw (p.1, p.2) ends.0; output_after = ends.1; table_after = c.judge.ensures.table_after }
+
+-- what the judge has shown
+bytes : (c : In_ok-tally) → Bytes c.args.bundle.now
+bytes c = λ i. omega (arith, c.type_inv.bundle i)
+
+pub write_new-requires : goal.write_new-requires
+write_new-requires c =
+    let at = goal.at.write_new-requires c in
+    accepted-as (length c.args.table.now) c.args.bundle.now (bytes at.In_ok-tally) _ (sym c.judge.ensures.value ∙ c.in_ok-tally.was)
+
+pub returns : goal.returns
+returns c =
+    let at = goal.at.returns c in
+    let same = to_new-accepted (length c.args.table.now) c.args.bundle.now (bytes at.In_ok-tally) _ (sym c.judge.ensures.value ∙ c.in_ok-tally.was) in
+    record {
+      value = c.write_new.ensures.value ∙ ap (λ (r : Result (List ℕ)). answer r (length c.args.output.now)) (sym same);
+      output_after = c.write_new.ensures.output_after ∙ ap (λ (r : Result (List ℕ)). written r c.args.output.now) (sym same);
+      table_after = c.judge.ensures.table_after;
+    }
