@@ -9,3 +9,4 @@ pub mod hov_logs; // the log table
 pub mod hov_judging; // judging
 pub mod hov_screening; // screening
 pub mod hov_pruning; // pruning
+pub mod hov_editions; // conversion between the editions

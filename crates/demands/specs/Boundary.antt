@@ -17,6 +17,7 @@ use Rattle.verdicts.specs.Judging.{Verdict}
 use Rattle.stops.specs.declared.Stop.{Stop}
 use Rattle.screening.specs.Screening.{screened, screened_joined, screened_number}
 use Rattle.screening.specs.Screening.{Screened}
+use Rattle.editions.specs.Converting.{converting_to_new, converting_to_old}
 use Rattle.pruning.specs.Pruning.{pruning}
 use Rattle.numbers.specs.Numbers.{with_value, with_taken, with_verdict, with_screened}
 
@@ -83,3 +84,5 @@ pub record Boundary : Type 0 where
   pub hov_screen : (b : List ℕ) (w : Word) → Screens (screened b w)
   pub hov_screen_joined : (first second : List ℕ) (w : Word) → Screens (screened_joined first second w)
   pub hov_prune : (b output table : List ℕ) → Writes (answer (pruning (length table) b) (length output))
+  pub hov_to_new : (b output table : List ℕ) → Writes (answer (converting_to_new (length table) b) (length output))
+  pub hov_to_old : (b output table : List ℕ) → Writes (answer (converting_to_old (length table) b) (length output))

@@ -25,6 +25,7 @@ use Rattle.stops.specs.declared.Stop.{Stop}
 use Rattle.screening.specs.Screening.{replayed, screened_of, screened, screened_joined, screened_number}
 use Rattle.screening.specs.RefusalNumbers.{screening-refuses, joining-refuses}
 use Rattle.screening.specs.Screening.{Screened}
+use Rattle.editions.specs.RefusalNumbers.{to_new-refuses, to_old-refuses}
 use Rattle.pruning.specs.RefusalNumbers.{pruning-refuses}
 use Rattle.numbers.specs.Numbers.{with_value, with_taken, with_verdict, with_screened}
 use Rattle.demands.specs.Boundary.{Numbers, RefusedOut, Writes, Takes, Judges, Screens, Boundary}
@@ -181,4 +182,6 @@ boundary = record {
   hov_screen = λ b w. screens (screening-refuses b w) refl refl;
   hov_screen_joined = λ first second w. screens (joining-refuses first second w) refl refl;
   hov_prune = λ b output table. writes (pruning-refuses (length table) b) refl refl (length output);
+  hov_to_new = λ b output table. writes (to_new-refuses (length table) b) refl refl (length output);
+  hov_to_old = λ b output table. writes (to_old-refuses (length table) b) refl refl (length output);
 }

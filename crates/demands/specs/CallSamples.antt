@@ -27,7 +27,7 @@ use Rattle.demands.specs.Alterations.{swapped, ThreeUncaught}
 use Rattle.demands.specs.Samples.{bytes_a}
 
 -- 0 and the bytes, or the refusal's number and spot
-of_result : Result (List ℕ) → List ℕ
+unfoldable pub of_result : Result (List ℕ) → List ℕ
 of_result (value bytes) = 0 ∷ bytes
 of_result (refused number spot) = number ∷ spot ∷ []
 

@@ -3,8 +3,9 @@
 -- (open, seal), Tables.antt (fresh, take, and what stands in a table), Judging.antt and Screening.antt; Boundary.antt says what the calls for C and
 -- Rust return and put in `answer`. Here they are gathered by name. A page for
 -- each change request says what it promised beyond that: BlockOrder.antt (request 1), Shortfalls.antt (2), Sealing.antt (3), Alterations.antt (4),
--- Traffic.antt (5), Joining.antt (6), Pruning.antt (7; the refusals of prune stand there, too), Completed.antt (8). The demands are stated with the
--- requests' changes in them; demands 2 and 3 as they were before request 8, for bundles of the old edition, are at the end.
+-- Traffic.antt (5), Joining.antt (6), Pruning.antt (7; the refusals of prune stand there, too), Completed.antt (8), Converting.antt
+-- (9: the refusals of to_new and to_old) and Converted.antt (9: what they write). The demands are stated with the requests' changes in them; demands
+-- 2 and 3 as they were before request 8, for bundles of the old edition, are at the end.
 -- A file, a bundle, an output, a table and a word are lists of numbers; `Bytes` says that each number is below 256.
 use Rattle.std.specs.Prelude.{◌≡◌, true, false, not, ◌↔◌, ℕ, ◌*◌, ◌≤◌, ◌<◌, T, length, take, drop, get_or, Err, None, Ok, Some}
 use mathlib.Core.List.{List, [], ◌∷◌, ◌++◌, Memᴰ}
@@ -46,12 +47,14 @@ use Rattle.screening.specs.Screening.{screened, screened_joined, screened_number
 use Rattle.screening.specs.Screens.{Readable, Screenable}
 use Rattle.screening.specs.Joins.{JoinReadable}
 use Rattle.screening.specs.Screening.{Screened}
+use Rattle.editions.specs.Converting.{converting_to_new, converting_to_old}
 use Rattle.pruning.specs.Pruning.{pruning}
 use Rattle.demands.specs.Opening.{OpenExactly, SealExactly}
 use Rattle.demands.specs.Tables.{FreshExactly, TakeExactly, TakeLeaves, LogLeft}
 use Rattle.demands.specs.Judging.{JudgeExactly, FieldsExactly}
 use Rattle.demands.specs.Screening.{ScreenExactly, JoinExactly}
 use Rattle.demands.specs.Pruning.{PruneExactly}
+use Rattle.demands.specs.Converting.{ToNewExactly, ToOldExactly}
 use Rattle.demands.specs.Boundary.{Boundary}
 use Rattle.demands.specs.Completed.{entries_in}
 
@@ -71,6 +74,8 @@ pub record Demand1 : Type 0 where
   pub screen-exactly : (b : List ℕ) → Bytes b → (w : Word) → ScreenExactly b w
   pub join-exactly : (first second : List ℕ) (w : Word) → JoinExactly first second w
   pub prune-exactly : (table_length : ℕ) (b : List ℕ) (room : ℕ) → Bytes b → PruneExactly table_length b room
+  pub to_new-exactly : (table_length : ℕ) (b : List ℕ) (room : ℕ) → Bytes b → ToNewExactly table_length b room
+  pub to_old-exactly : (table_length : ℕ) (b : List ℕ) (room : ℕ) → Bytes b → ToOldExactly table_length b room
   pub fields-exactly : (b : List ℕ) (at : ℕ) → FieldsExactly b at
   -- what the calls for C and Rust return, 0 for a result alone and 256 for a stop alone, and which number stands where in `answer`
   pub boundary : Boundary
@@ -90,8 +95,13 @@ pub record Demand1 : Type 0 where
       → among (screened_number (screened_joined first second w)) (0 ∷ 256 ∷ 14 ∷ 4 ∷ 6 ∷ 7 ∷ 8 ∷ 19 ∷ 15 ∷ []) ≡ true
   pub refusals_of_prune : (table_length : ℕ) (b : List ℕ) (room : ℕ)
       → among (number_of (answer (pruning table_length b) room)) (0 ∷ 4 ∷ 5 ∷ 6 ∷ 7 ∷ 8 ∷ 9 ∷ 10 ∷ 20 ∷ 11 ∷ 12 ∷ 13 ∷ 3 ∷ []) ≡ true
-  -- 'No refusal writes to an output': one line for all calls that are lent one. These are open, seal and prune: each answers
-  -- `answer result (length output)` and leaves `written result output`, where the result is `opened file`, `sealed b` or `pruning (length table) b`.
+  pub refusals_of_to_new : (table_length : ℕ) (b : List ℕ) (room : ℕ)
+      → among (number_of (answer (converting_to_new table_length b) room)) (0 ∷ 4 ∷ 5 ∷ 6 ∷ 7 ∷ 8 ∷ 9 ∷ 10 ∷ 20 ∷ 11 ∷ 12 ∷ 13 ∷ 3 ∷ []) ≡ true
+  pub refusals_of_to_old : (table_length : ℕ) (b : List ℕ) (room : ℕ)
+      → among (number_of (answer (converting_to_old table_length b) room)) (0 ∷ 4 ∷ 5 ∷ 6 ∷ 7 ∷ 8 ∷ 9 ∷ 10 ∷ 20 ∷ 11 ∷ 12 ∷ 13 ∷ 21 ∷ 3 ∷ []) ≡ true
+  -- 'No refusal writes to an output': one line for all calls that are lent one. These are open, seal, prune, to_new and to_old: each answers
+  -- `answer result (length output)` and leaves `written result output`, where the result is `opened file`, `sealed b`, `pruning (length table) b`,
+  -- `converting_to_new (length table) b` or `converting_to_old (length table) b`.
   -- (`run` and `run_both` of crates/files lend theirs to open, and hand its answer on.)
   pub refused_output : (result : Result (List ℕ)) (output : List ℕ) (r : Refusal) → answer result (length output) ≡ Err r
       → written result output ≡ output

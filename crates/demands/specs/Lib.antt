@@ -9,6 +9,8 @@ pub mod Shortfalls
 pub mod Joining
 pub mod OldJudge
 pub mod Completed
+pub mod Outputs
+pub mod Converting
 pub mod Pruning
 pub mod Sealing
 pub mod Boundary
@@ -23,8 +25,13 @@ pub mod ScreeningProved
 pub mod ShortfallsProved
 pub mod SealingProved
 pub mod Comparing
+pub mod SameWords
 pub mod Accepting
 pub mod PruningSample
+pub mod ConvertingProved
+pub mod Converted
+pub mod Alike
+pub mod ConvertedProved
 pub mod PruningProved
 pub mod TrafficProved
 pub mod BoundaryProved
@@ -35,6 +42,7 @@ pub mod Samples
 pub mod JoiningProved
 pub mod CallSamples
 pub mod CompletedSamples
+pub mod ConvertingSamples
 pub mod Met
 pub mod CompletedBytes
 pub mod CompletedPairs

@@ -24,6 +24,7 @@ use Rattle.screening.specs.Screening.{screened_number}
 use Rattle.screening.proofs.RefusalNumbers.{screen-numbers, join-numbers}
 use Rattle.screening.specs.Screens.{permitted-exactly, stopped-exactly, readable-exactly, screenable-head, replay-permits, replay-stops}
 use Rattle.screening.proofs.JoinLaws.{join-readable, joined-replayed}
+use Rattle.editions.specs.RefusalNumbers.{to_new-numbers, to_old-numbers}
 use Rattle.pruning.specs.RefusalNumbers.{prune-numbers}
 use Rattle.demands.specs.Demands.{Demand1, Demand2, Demand3, FileAccepted}
 use Rattle.demands.specs.OpeningProved.{open_exactly, seal_exactly}
@@ -31,6 +32,7 @@ use Rattle.demands.specs.TablesProved.{fresh-exactly, take-exactly, take-leaves,
 use Rattle.demands.specs.JudgingProved.{judge_exactly, fields-exactly}
 use Rattle.demands.specs.ScreeningProved.{screen-exactly, join-exactly}
 use Rattle.demands.specs.PruningProved.{prune-exactly}
+use Rattle.demands.specs.ConvertingProved.{to_new-exactly, to_old-exactly}
 use Rattle.demands.specs.BoundaryProved.{boundary}
 use Rattle.demands.specs.Accepting.{acceptance-asks, counts_are, regions-exactly}
 use Rattle.demands.specs.Comparing.{accepted-head, net-complete, net-suboptimal, table-left, numbers-left, compared}
@@ -46,6 +48,8 @@ demand_1 = record {
   screen-exactly = screen-exactly;
   join-exactly = join-exactly;
   prune-exactly = prune-exactly;
+  to_new-exactly = λ table_length b room bytes. to_new-exactly table_length b bytes room;
+  to_old-exactly = λ table_length b room bytes. to_old-exactly table_length b bytes room;
   fields-exactly = fields-exactly;
   boundary = boundary;
   refusals_of_open = open_numbers_lem;
@@ -56,6 +60,8 @@ demand_1 = record {
   refusals_of_screen = screen-numbers;
   refusals_of_join = join-numbers;
   refusals_of_prune = prune-numbers;
+  refusals_of_to_new = to_new-numbers;
+  refusals_of_to_old = to_old-numbers;
   counts-most = (refl, refl, refl);
   refusal-numbers = λ r. (refl, refl, refl, refl);
   refused_output = refused-writes-nothing;

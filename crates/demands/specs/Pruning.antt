@@ -5,10 +5,8 @@
 use Rattle.std.specs.Prelude.{◌≡◌, not, ◌↔◌, ℕ, ◌≤◌, ◌<◌, T, length, get_or, Err, None, Ok, Some}
 use mathlib.Core.List.{List, [], ◌∷◌, ◌++◌, Memᴰ}
 use Rattle.laws.specs.Numbers.{Bytes}
-use Rattle.laws.specs.Parts.{front}
 use Rattle.refusals.specs.Results.{value}
-use Rattle.refusals.specs.Answers.{refusal, answer, written}
-use Rattle.refusals.specs.declared.Refusal.{Refusal}
+use Rattle.refusals.specs.Answers.{refusal, answer}
 use Rattle.nets.specs.Nets.{Word, Net, Place, permits}
 use Rattle.nets.specs.Bundle.{Bundle, log_of, accepted, tally}
 use Rattle.nets.specs.Pruning.{prune}
@@ -16,18 +14,18 @@ use Rattle.nets.specs.Words.{Prefix}
 use Rattle.bundles.specs.Layout.{PlaceFields, CertificateFields, kind0, Contents, InLimits, bytes_of}
 use Rattle.bundles.specs.Readers.{events_in, log_in, net_in}
 use Rattle.verdicts.specs.Judging.{verdict, table_after}
-use Rattle.verdicts.specs.Acceptance.{AcceptedAs}
 use Rattle.verdicts.specs.declared.Tally.{Tally}
 use Rattle.screening.specs.Screening.{screened, Screened}
+use Rattle.contents.specs.Behind.{JudgedAs}
 use Rattle.pruning.specs.Pruning.{pruned, pruning}
 use Rattle.demands.specs.Completed.{entries_in}
+use Rattle.demands.specs.Outputs.{LeavesOutput}
 
 -- ---- Prune: the judge's 4, 5, 6 to 10, 20, 11 to 13, then 3
 
 -- an accepted bundle, its counts and contents, and the length of what is left of it
 pub record PrunesTo (table_length : ℕ) (b : List ℕ) (c : Tally) (d : Contents) (n : ℕ) : Type 0 where
-  pub judged : verdict table_length b ≡ Ok c
-  pub contents : AcceptedAs b c d
+  pub accepted : JudgedAs table_length b c d
   pub size : n ≡ length (bytes_of (pruned d))
 
 pub record PruneExactly (table_length : ℕ) (b : List ℕ) (room : ℕ) : Type 0 where
@@ -44,10 +42,7 @@ pub record PruneExactly (table_length : ℕ) (b : List ℕ) (room : ℕ) : Type 
   pub bytes : (b' : List ℕ) → (pruning table_length b ≡ value b')
       ↔ ((c : Tally) × (d : Contents) × PrunesTo table_length b c d (length b') × (b' ≡ bytes_of (pruned d)))
   -- 'goes to the output as in opening': in front of it, and the rest is left; on a refusal 'the output is then unchanged'
-  pub in_front : (output : List ℕ) → length output ≡ room → (n : ℕ) → answer (pruning table_length b) room ≡ Ok n
-      → (b' : List ℕ) × (pruning table_length b ≡ value b') × (n ≡ length b') × (written (pruning table_length b) output ≡ front b' output)
-  pub unchanged : (output : List ℕ) → length output ≡ room → (r : Refusal) → answer (pruning table_length b) room ≡ Err r
-      → written (pruning table_length b) output ≡ output
+  pub output : LeavesOutput (pruning table_length b) room
 
 -- ---- What is left of a bundle's contents
 
