@@ -1,7 +1,7 @@
 /*
  * Hovmekhar: opening and sealing of files, the log table, judging, the pruning of
- * nets, and the screening of words. C11 and C++. The library, libhovmekhar.a, is
- * compiled for x86-64 Linux.
+ * nets, conversion between the editions, and the screening of words. C11 and C++.
+ * The library, libhovmekhar.a, is compiled for x86-64 Linux.
  *
  * A sealed file is 1 to 128 blocks of 512 bytes. Numbers of two bytes have the
  * low byte first. A block holds:
@@ -100,9 +100,9 @@ extern "C" {
 #endif
 
 /** The version, as text and in its three numbers. */
-#define HOV_VERSION "0.10.0"
+#define HOV_VERSION "0.11.0"
 #define HOV_VERSION_MAJOR 0
-#define HOV_VERSION_MINOR 10
+#define HOV_VERSION_MINOR 11
 #define HOV_VERSION_PATCH 0
 
 /** Bytes of a block. */
@@ -167,8 +167,8 @@ extern "C" {
  * The numbers of the refusals.
  *
  * Each comment gives the cause, the spot that answer[0] then holds, and what
- * stays as it was. No refusal writes to an input or to an output. hov_prune
- * leaves the table as judge does.
+ * stays as it was. No refusal writes to an input or to an output. hov_prune,
+ * hov_to_new and hov_to_old leave the table as judge does.
  *
  * This is the whole table, so that a number keeps its meaning when calls are
  * added.
@@ -188,79 +188,84 @@ enum hov_refusal {
     HOV_BLOCK_SUMS = 2,
 
     /**
-     * open, seal, prune: the output is shorter than the result.
-     * Spot: the length needed. As it was: the output. From prune the bundle is
-     * accepted, and the rows of its log are in the table.
+     * open, seal, prune, to_new, to_old: the output is shorter than the result.
+     * Spot: the length needed. As it was: the output. From prune, to_new and to_old
+     * the bundle is accepted, and the rows of its log are in the table.
      */
     HOV_OUTPUT_SHORT = 3,
 
     /**
-     * seal, judge, prune, screen, screen_joined: a bundle's length is 0 or above
-     * 64,512.
+     * seal, judge, prune, to_new, to_old, screen, screen_joined: a bundle's length
+     * is 0 or above 64,512.
      * Spot: 0. As it was: the output, the table.
+     * to_new: the result's length is above 64,512; the bundle is accepted.
+     * Spot: 0. As it was: the output. The rows of the log are in the table.
      */
     HOV_BUNDLE_LENGTH = 4,
 
     /**
-     * fresh, take, judge, prune: the table has fewer than 3,584 numbers.
-     * Spot: 3,584. As it was: the table; from prune the output.
+     * fresh, take, judge, prune, to_new, to_old: the table has fewer than 3,584
+     * numbers.
+     * Spot: 3,584. As it was: the table; from prune, to_new and to_old the output.
      */
     HOV_NUMBERS_SHORT = 5,
 
     /**
-     * judge, prune, screen, screen_joined: a bundle ends before or inside a
-     * field.
-     * Spot: the offset of the field. As it was: the bundle; from prune the output.
-     * See HOV_VALUE for the table.
+     * judge, prune, to_new, to_old, screen, screen_joined: a bundle ends before or
+     * inside a field.
+     * Spot: the offset of the field. As it was: the bundle; from prune, to_new and
+     * to_old the output. See HOV_VALUE for the table.
      */
     HOV_BUNDLE_END = 6,
 
     /**
-     * take, judge, prune, screen, screen_joined: a value is outside its range, or
-     * names a row, event, place or word that is not there.
+     * take, judge, prune, to_new, to_old, screen, screen_joined: a value is outside
+     * its range, or names a row, event, place or word that is not there.
      * Spot: the offset of the field; in a lent word, the position in the word.
-     * As it was: from take, the table; from prune, the output. The judge, refusing
-     * with any number but 4 and 5, leaves the table's numbers 0 to 3,583 zero and
-     * the rest as it was; so does prune, but for 3.
+     * As it was: from take, the table; from prune, to_new and to_old, the output.
+     * The judge, refusing with any number but 4 and 5, leaves the table's numbers 0
+     * to 3,583 zero and the rest as it was; so do prune, to_new and to_old where the
+     * refusal is the judge's.
      */
     HOV_VALUE = 7,
 
     /**
-     * take, judge, prune, screen, screen_joined: the events would pass 1,024.
+     * take, judge, prune, to_new, to_old, screen, screen_joined: the events would
+     * pass 1,024.
      * Spot: the offset of the word's length byte; from take 0.
      * As it was: as for HOV_VALUE.
      */
     HOV_EVENTS = 8,
 
     /**
-     * take, judge, prune: the rows would pass 256.
+     * take, judge, prune, to_new, to_old: the rows would pass 256.
      * Spot: as for HOV_EVENTS. As it was: as for HOV_VALUE.
      */
     HOV_ROWS = 9,
 
     /**
-     * judge, prune: a place does not fit.
+     * judge, prune, to_new, to_old: a place does not fit.
      * Spot: the lowest such place. As it was: the bundle; output and table as for
      * HOV_VALUE.
      */
     HOV_PLACE_MISFIT = 10,
 
     /**
-     * judge, prune: the place that a certificate lists permits the wrong
-     * continuation.
+     * judge, prune, to_new, to_old: the place that a certificate lists permits the
+     * wrong continuation.
      * Spot: the certificate's number. As it was: as for HOV_PLACE_MISFIT.
      */
     HOV_PLACE_PERMITS = 11,
 
     /**
-     * judge, prune: a certificate of kind 1 does not hold, the step of one of its
-     * terms is not allowed, or one of its pairs names a partial word.
+     * judge, prune, to_new, to_old: a certificate of kind 1 does not hold, the step
+     * of one of its terms is not allowed, or one of its pairs names a partial word.
      * Spot: the certificate's number. As it was: as for HOV_PLACE_MISFIT.
      */
     HOV_WEIGHTS = 12,
 
     /**
-     * judge, prune: bytes follow the last certificate.
+     * judge, prune, to_new, to_old: bytes follow the last certificate.
      * Spot: the offset of the first. As it was: as for HOV_PLACE_MISFIT.
      */
     HOV_BYTES_FOLLOW = 13,
@@ -304,10 +309,19 @@ enum hov_refusal {
     HOV_EVENT_COUNTS = 19,
 
     /**
-     * judge, prune: a place does not obey the completed words; all places fit.
+     * judge, prune, to_new, to_old: a place does not obey the completed words; all
+     * places fit.
      * Spot: the lowest such place. As it was: as for HOV_PLACE_MISFIT.
      */
-    HOV_PLACE_DISOBEYS = 20
+    HOV_PLACE_DISOBEYS = 20,
+
+    /**
+     * to_old: a word is completed, and the old edition has no mark; the bundle is
+     * accepted.
+     * Spot: the number of the first such word, from 0. As it was: the output. The
+     * rows of the log are in the table.
+     */
+    HOV_WORD_COMPLETED = 21
 };
 
 /**
@@ -441,6 +455,62 @@ uint32_t hov_prune(const uint8_t *bundle, size_t bundle_len,
                    uint64_t answer[4]);
 
 /**
+ * Converts a bundle to the new edition: judges it as hov_judge does and, when it is
+ * accepted, writes it in the new edition to the front of the output. The rest of the
+ * output stays as it was. table_len counts numbers, not bytes.
+ *
+ * A bundle of the new edition is copied. One of the old edition gets HOV_NEW_EDITION
+ * added to its first byte, a mark 0 behind the length byte of each word, so that all
+ * words are partial, and a pair count 0 behind the terms of each certificate of kind
+ * 1. All else is the same byte for byte, so the result is longer by a byte for each
+ * word and for each certificate of kind 1, and hov_to_old gives this bundle back.
+ * Either result is accepted with the same four counts and leaves the same table.
+ *
+ * Returns HOV_OK, with the length of the result in answer[0]. Or returns the first
+ * refusal that applies, with its spot in answer[0]: those of hov_judge in its order,
+ * then HOV_BUNDLE_LENGTH where the result is longer than HOV_MAX_BUNDLE_SIZE, then
+ * HOV_OUTPUT_SHORT. All leave the output as it was. answer[1] to answer[3] stay as
+ * they were.
+ *
+ * The table is as hov_judge leaves it for this bundle, whatever comes after: with
+ * HOV_OK, HOV_OUTPUT_SHORT, and HOV_BUNDLE_LENGTH where it is the result's, it has the
+ * rows of the log.
+ *
+ * An output of HOV_MAX_BUNDLE_SIZE bytes is long enough for every bundle.
+ */
+uint32_t hov_to_new(const uint8_t *bundle, size_t bundle_len,
+                    uint8_t *output, size_t output_len,
+                    uint16_t *table, size_t table_len,
+                    uint64_t answer[4]);
+
+/**
+ * Converts a bundle to the old edition: judges it as hov_judge does and, when it is
+ * accepted and has no completed word, writes it in the old edition to the front of
+ * the output. The rest of the output stays as it was. table_len counts numbers, not
+ * bytes.
+ *
+ * A bundle of the old edition is copied. One of the new edition gets HOV_NEW_EDITION
+ * subtracted from its first byte, and loses the marks of its words and the pair counts
+ * of its certificates, which are 0 where no word is completed. All else is the same
+ * byte for byte, so the result is never longer, and hov_to_new gives this bundle back.
+ * Either result is accepted with the same four counts and leaves the same table.
+ *
+ * Returns HOV_OK, with the length of the result in answer[0]. Or returns the first
+ * refusal that applies, with its spot in answer[0]: those of hov_judge in its order,
+ * then HOV_WORD_COMPLETED, then HOV_OUTPUT_SHORT. All leave the output as it was.
+ * answer[1] to answer[3] stay as they were.
+ *
+ * The table is as hov_judge leaves it for this bundle, whatever comes after: with
+ * HOV_OK, HOV_WORD_COMPLETED and HOV_OUTPUT_SHORT it has the rows of the log.
+ *
+ * An output of bundle_len bytes is long enough for every bundle.
+ */
+uint32_t hov_to_old(const uint8_t *bundle, size_t bundle_len,
+                    uint8_t *output, size_t output_len,
+                    uint16_t *table, size_t table_len,
+                    uint64_t answer[4]);
+
+/**
  * Screens a word: replays its events on the places of a bundle, which need not be
  * one that hov_judge accepts. Its rows are not counted, and what follows the last
  * place is not looked at.
@@ -505,7 +575,8 @@ static inline const char *hov_refusal_text(uint32_t number)
     case HOV_OUTPUT_SHORT:
         return "the output is shorter than the result";
     case HOV_BUNDLE_LENGTH:
-        return "the bundle's length is 0 or above 64,512";
+        return "the bundle's length is 0 or above 64,512, or the result's is "
+               "above 64,512";
     case HOV_NUMBERS_SHORT:
         return "the table has fewer than 3,584 numbers";
     case HOV_BUNDLE_END:
@@ -544,6 +615,8 @@ static inline const char *hov_refusal_text(uint32_t number)
     case HOV_PLACE_DISOBEYS:
         return "a place does not return to its initial tokens after a "
                "completed word";
+    case HOV_WORD_COMPLETED:
+        return "a word is completed, and the old edition has no mark for it";
     default:
         return "no refusal has this number";
     }

@@ -1,4 +1,4 @@
-//! The calls that are timed, but for those of [`crate::pruning`] and [`crate::words`]. A
+//! The calls that are timed, but for those of [`crate::rewriting`] and [`crate::words`]. A
 //! further one is a further entry in [`on_files`], [`on_logs`] or [`on_bundles`].
 
 use differential::bundles::{SAMPLE_A, SAMPLE_NEW};

@@ -9,7 +9,7 @@
 mod batch;
 mod calls;
 mod nets;
-mod pruning;
+mod rewriting;
 mod timing;
 mod words;
 
@@ -21,10 +21,10 @@ fn main() {
     println!("Time of one call in nanoseconds: the median of {ROUNDS} rounds, ours and the");
     println!("reference in turn. Both get the same buffers, allocated once and not cleared");
     println!("between calls. A log is a fresh table and then all of its words, one by one. The");
-    println!("bundles that are judged or pruned are accepted, and the words that are screened");
-    println!("permitted, or stopped where the size says so: at the last event or at the position");
-    println!("that is named, by the last place. The ratio is ours / reference; below 1 ours is");
-    println!("faster.");
+    println!("bundles that are judged, pruned or converted are accepted, and the words that are");
+    println!("screened permitted, or stopped where the size says so: at the last event or at the");
+    println!("position that is named, by the last place. The ratio is ours / reference; below 1");
+    println!("ours is faster.");
     println!();
     println!(
         "{:<13} {:<48} {:>10} {:>10} {:>6}",
@@ -39,7 +39,7 @@ fn main() {
     for call in calls::on_bundles() {
         print(&call);
     }
-    for call in pruning::on_bundles() {
+    for call in rewriting::on_bundles() {
         print(&call);
     }
     for call in words::on_one_net() {

@@ -1,8 +1,12 @@
 //! The arguments.
 
+mod values;
+
+use crate::editions::Edition;
 use crate::names::shown;
-use std::ffi::{OsStr, OsString};
+use std::ffi::OsString;
 use std::fmt;
+use values::{certificate_number, event, wanted_edition};
 
 /// What the arguments ask for.
 #[derive(Debug, PartialEq, Eq)]
@@ -46,6 +50,15 @@ pub enum Request {
         /// Where the other file goes.
         output: OsString,
     },
+    /// A sealed file in an edition.
+    Convert {
+        /// The edition that is wanted.
+        edition: Edition,
+        /// Where the file is.
+        input: OsString,
+        /// Where the other file goes.
+        output: OsString,
+    },
     /// What a file holds.
     Show {
         /// The file.
@@ -80,6 +93,7 @@ enum Command {
     Seal,
     Unseal,
     Prune,
+    Convert,
     Show,
 }
 
@@ -91,6 +105,7 @@ impl Command {
             "seal" => Some(Self::Seal),
             "unseal" => Some(Self::Unseal),
             "prune" => Some(Self::Prune),
+            "convert" => Some(Self::Convert),
             "show" => Some(Self::Show),
             _ => None,
         }
@@ -103,6 +118,7 @@ impl Command {
             Self::Seal => "hov seal IN OUT",
             Self::Unseal => "hov unseal IN OUT",
             Self::Prune => "hov prune IN OUT",
+            Self::Convert => "hov convert --to new|old IN OUT",
             Self::Show => "hov show FILE [--certificate N]",
         }
     }
@@ -119,7 +135,7 @@ impl Command {
 ///
 /// When they ask for nothing that there is.
 pub fn parse(mut arguments: impl Iterator<Item = OsString>) -> Result<Request, Usage> {
-    let right = "hov judge|screen|seal|unseal|prune|show ARGUMENT...";
+    let right = "hov judge|screen|seal|unseal|prune|convert|show ARGUMENT...";
     let wrong = |problem| Usage { problem, right };
     let first = arguments.next();
     let first = first.ok_or_else(|| wrong("no command".into()))?;
@@ -142,6 +158,7 @@ struct Split {
     operands: Vec<OsString>,
     certificate: Option<usize>,
     with: Option<OsString>,
+    edition: Option<Edition>,
 }
 
 fn parse_command(
@@ -152,6 +169,7 @@ fn parse_command(
         operands,
         certificate,
         with,
+        edition,
     }) = split(command, arguments)?
     else {
         return Ok(Request::Help);
@@ -160,16 +178,23 @@ fn parse_command(
         Command::Judge => judge(operands),
         Command::Screen => screen(operands, with),
         Command::Seal => {
-            let [input, output] = exactly(command, operands)?;
-            Ok(Request::Seal { input, output })
+            exactly(command, operands).map(|[input, output]| Request::Seal { input, output })
         }
         Command::Unseal => {
-            let [input, output] = exactly(command, operands)?;
-            Ok(Request::Unseal { input, output })
+            exactly(command, operands).map(|[input, output]| Request::Unseal { input, output })
         }
         Command::Prune => {
+            exactly(command, operands).map(|[input, output]| Request::Prune { input, output })
+        }
+        Command::Convert => {
+            let missing = || command.wrong("no edition: '--to new' or '--to old'".into());
+            let edition = edition.ok_or_else(missing)?;
             let [input, output] = exactly(command, operands)?;
-            Ok(Request::Prune { input, output })
+            Ok(Request::Convert {
+                edition,
+                input,
+                output,
+            })
         }
         Command::Show => {
             let [file] = exactly(command, operands)?;
@@ -186,6 +211,7 @@ fn split(
     let mut operands = Vec::new();
     let mut certificate = None;
     let mut with = None;
+    let mut edition = None;
     while let Some(argument) = arguments.next() {
         let is_option = argument.as_encoded_bytes().starts_with(b"-") && argument != "-";
         match (argument.to_str(), command) {
@@ -200,6 +226,9 @@ fn split(
                 let missing = || command.wrong("no file behind '--with'".into());
                 with = Some(file.ok_or_else(missing)?);
             }
+            (Some("--to"), Command::Convert) if edition.is_none() => {
+                edition = Some(wanted_edition(arguments.next())?);
+            }
             _ => {
                 let problem = format!("no such option here: '{}'", shown(&argument));
                 return Err(command.wrong(problem));
@@ -210,17 +239,8 @@ fn split(
         operands,
         certificate,
         with,
+        edition,
     }))
-}
-
-fn certificate_number(argument: Option<OsString>) -> Result<usize, Usage> {
-    let number = argument.as_deref().and_then(digits);
-    // A plus sign is no digit, so what is left to fail is a number that is too large.
-    let number = number.and_then(|digits| digits.parse().ok());
-    number.ok_or_else(|| {
-        let given = argument.as_deref().map(shown).unwrap_or_default();
-        Command::Show.wrong(format!("no number of a certificate: '{given}'"))
-    })
 }
 
 fn judge(files: Vec<OsString>) -> Result<Request, Usage> {
@@ -257,21 +277,6 @@ fn screen(operands: Vec<OsString>, with: Option<OsString>) -> Result<Request, Us
     };
     let word = operands.map(event).collect::<Result<Vec<u8>, Usage>>()?;
     Ok(Request::Screen { file, with, word })
-}
-
-/// The number of an event. Above 255 it is cut, which changes no answer, since no
-/// bundle has more than twelve events.
-fn event(argument: &OsStr) -> Option<u8> {
-    let digits = digits(argument).filter(|digits| digits.len() <= 20)?;
-    let number: u128 = digits.parse().ok()?;
-    Some(u8::try_from(number).unwrap_or(u8::MAX))
-}
-
-/// The argument, when it is one decimal digit or more.
-fn digits(argument: &OsStr) -> Option<&str> {
-    let text = argument.to_str()?;
-    let all_digits = text.bytes().all(|byte| byte.is_ascii_digit());
-    (all_digits && !text.is_empty()).then_some(text)
 }
 
 /// As many arguments as the command takes.

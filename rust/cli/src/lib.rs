@@ -1,5 +1,5 @@
-//! The command-line tool `hov`: judges, screens, seals, unseals, prunes and shows
-//! sealed files, with the proved library.
+//! The command-line tool `hov`: judges, screens, seals, unseals, prunes, converts and
+//! shows sealed files, with the proved library.
 //!
 //! All of it is here, so that tests can call it; the binary only hands over its
 //! arguments. Every verdict is the library's: nothing here decides by itself.
@@ -8,6 +8,7 @@
 #![deny(missing_docs)]
 
 mod args;
+mod editions;
 mod files;
 mod judge;
 mod names;
@@ -55,6 +56,11 @@ fn answer(request: Request) -> Result<Status, Trouble> {
         Request::Seal { input, output } => sealing::seal(&input, &output),
         Request::Unseal { input, output } => sealing::unseal(&input, &output),
         Request::Prune { input, output } => pruning::prune(&input, &output),
+        Request::Convert {
+            edition,
+            input,
+            output,
+        } => editions::convert(edition, &input, &output),
         Request::Show { file, certificate } => show::show(&file, certificate),
     }
 }

@@ -1,18 +1,19 @@
 //! `hov prune`.
 
+#[path = "support/rewriting.rs"]
+mod rewriting;
 mod support;
 
 use differential::bundle_faults::BundleFault;
-use differential::bundles::{one_for_each_answer, SAMPLE_A, SAMPLE_E};
+use differential::bundles::{SAMPLE_A, SAMPLE_E};
 use differential::faults::{BlockFault, LengthFault};
 use differential::files::build;
 use differential::nets::small_certified;
 use differential::pruning::{idle_count, pruned, Idle, WITHOUT_IDLE, WITH_IDLE};
 use differential::run::Run;
-use std::fs::{self, File};
-use std::os::unix::fs::MetadataExt;
-use std::path::Path;
-use support::{command, directory, hov, hov_in, hov_unread, hov_with, names_in, refused, Done};
+use rewriting::{read, write};
+use std::fs::File;
+use support::{command, directory, hov, hov_in, hov_with, names_in, refused, Done};
 
 const A: &str = "samples/a.sealed";
 
@@ -21,14 +22,6 @@ fn told(dropped: usize, places: usize) -> String {
     let noun = if places == 1 { "place" } else { "places" };
     let left = places - dropped;
     format!("pruned {dropped} of {places} {noun}: {left} left\n")
-}
-
-fn read(path: impl AsRef<Path>) -> Vec<u8> {
-    fs::read(path).expect("the file is read")
-}
-
-fn write(path: impl AsRef<Path>, bytes: &[u8]) {
-    fs::write(path, bytes).expect("the file is written");
 }
 
 /// Of 64 places the last is named.
@@ -90,47 +83,9 @@ fn standard_input_and_output() {
     assert_eq!(judged, b"accepted 6 5 6 1 -\n");
 }
 
-/// Every refusal, of the file and of its bundle: its line on standard error, and nothing
-/// written, be the output there before or not.
 #[test]
 fn refusals() {
-    let directory = directory("prune_refusals");
-    write(directory.join("there"), b"as it was");
-    let inode = || {
-        let found = fs::metadata(directory.join("there"));
-        found.expect("it is there").ino()
-    };
-    let before = inode();
-    let file = build(&[5; 600]);
-    let altered = |byte: usize| {
-        let mut altered = file.clone();
-        altered[byte] ^= 1;
-        altered
-    };
-    let mut inputs = vec![
-        (vec![], 1, 0),
-        (altered(4), 2, 0),
-        (altered(512), 17, 1),
-        (altered(1_000), 18, 1),
-    ];
-    for (bundle, outcome) in one_for_each_answer() {
-        // No sealed file has a bundle that 4 refuses.
-        if let (Err(refused), false) = (outcome, bundle.is_empty()) {
-            inputs.push((build(&bundle), refused.number, refused.spot));
-        }
-    }
-    assert_eq!(inputs.len(), 4 + 9);
-    for (bytes, number, spot) in inputs {
-        write(directory.join("in"), &bytes);
-        for output in ["there", "new", "-"] {
-            let done = hov_in(&directory, &["prune", "in", output]);
-            let line = refused(number, spot, "in");
-            assert_eq!(done, Done::new(1, "", &line), "{number} {output}");
-        }
-        assert_eq!(names_in(&directory), ["in", "there"], "{number}");
-    }
-    assert_eq!(read(directory.join("there")), b"as it was");
-    assert_eq!(inode(), before);
+    rewriting::refusals("prune_refusals", &["prune"], Vec::new());
 }
 
 /// Accepted files with idle places, and refused ones.
@@ -188,33 +143,12 @@ fn samples() {
 /// Trouble with the input or the output: nothing is told of places.
 #[test]
 fn trouble() {
-    let directory = directory("prune_trouble");
-    write(directory.join("in"), &build(&WITH_IDLE));
-    for (input, output, name, reason) in [
-        ("missing", "out", "missing", "No such file or directory"),
-        (".", "-", ".", "Is a directory"),
-        (
-            "in",
-            "missing/out",
-            "missing/out",
-            "No such file or directory",
-        ),
-        ("in", ".", ".", "Is a directory"),
-        ("in", "in/", "in/", "Not a directory"),
-    ] {
-        let done = hov_in(&directory, &["prune", input, output]);
-        let error = format!("hov: {name}: {reason}\n");
-        assert_eq!(done, Done::new(3, "", &error), "{input} {output}");
-        assert_eq!(names_in(&directory), ["in"], "{input} {output}");
-    }
-    assert!(read(directory.join("in")) == build(&WITH_IDLE));
-
+    rewriting::trouble("prune_trouble", &["prune"], &build(&WITH_IDLE));
     let full = File::create("/dev/full").expect("a device that is full");
     let mut prune = command(&["prune", A, "-"]);
     let done = Done::of(prune.stdout(full).output().expect("hov runs"));
     let error = "hov: standard output: No space left on device\n";
     assert_eq!(done, Done::new(3, "", error));
-    assert_eq!(hov_unread(&["prune", A, "-"]), Done::new(3, "", ""));
     // An endless input is read until it is too long.
     let done = hov(&["prune", "/dev/zero", "-"]);
     assert_eq!(done, Done::new(1, "", &refused(1, 0, "/dev/zero")));

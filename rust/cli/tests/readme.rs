@@ -56,6 +56,7 @@ fn commands() {
         "hov show ",
         "hov seal ",
         "hov unseal ",
+        "hov convert ",
         "examples/may_run.sh ",
         "crates/judge/out/judge ",
     ] {

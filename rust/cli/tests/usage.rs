@@ -8,7 +8,9 @@ use std::io::{Read, Seek};
 use std::os::unix::ffi::OsStrExt;
 use support::{command, directory, hov, hov_in, start, Done};
 
-const COMMANDS: [&str; 6] = ["judge", "screen", "seal", "unseal", "prune", "show"];
+const COMMANDS: [&str; 7] = [
+    "judge", "screen", "seal", "unseal", "prune", "convert", "show",
+];
 
 #[test]
 fn help() {
@@ -25,6 +27,7 @@ fn help() {
         "too: judge first",
         "--certificate N",
         "--with FILE2",
+        "--to new|old",
         "'--' ends",
     ] {
         assert!(help.output.contains(words), "{words}");
@@ -54,11 +57,17 @@ fn version() {
 type Wrong = Vec<(Vec<&'static str>, &'static str)>;
 
 fn wrong() -> Wrong {
-    [wrong_commands(), wrong_files(), wrong_certificates()].concat()
+    [
+        wrong_commands(),
+        wrong_files(),
+        wrong_editions(),
+        wrong_certificates(),
+    ]
+    .concat()
 }
 
 fn wrong_commands() -> Wrong {
-    let any = "hov judge|screen|seal|unseal|prune|show ARGUMENT...";
+    let any = "hov judge|screen|seal|unseal|prune|convert|show ARGUMENT...";
     vec![
         (vec![], any),
         (vec![""], any),
@@ -111,8 +120,35 @@ fn wrong_files() -> Wrong {
         all.push((vec![writes, "-", "-", "-"], usage));
         all.push((vec![writes, "-", "--", "-", "-"], usage));
         all.push((vec![writes, "-", "-", "-x"], usage));
+        all.push((vec![writes, "-", "-", "--to", "new"], usage));
     }
     all
+}
+
+fn wrong_editions() -> Wrong {
+    let wrong = [
+        vec![],
+        vec!["-", "-"],
+        vec!["--", "--to", "new", "-", "-"],
+        vec!["--to"],
+        vec!["-", "-", "--to"],
+        vec!["--to", "", "-", "-"],
+        vec!["--to", "New", "-", "-"],
+        vec!["--to", "newer", "-", "-"],
+        vec!["--to", "128", "-", "-"],
+        vec!["--to", "-", "-", "new"],
+        vec!["--to=new", "-", "-"],
+        vec!["--to", "new", "--to", "new", "-", "-"],
+        vec!["--to", "new"],
+        vec!["--to", "old", "-"],
+        vec!["--to", "old", "-", "-", "-"],
+        vec!["--to", "old", "-", "-", "-x"],
+        vec!["--to", "old", "--with", "-", "-"],
+        vec!["new", "-", "-"],
+    ];
+    let usage = "hov convert --to new|old IN OUT";
+    let whole = |arguments: Vec<_>| ([vec!["convert"], arguments].concat(), usage);
+    wrong.map(whole).to_vec()
 }
 
 fn wrong_certificates() -> Wrong {

@@ -1,5 +1,7 @@
 //! Lent buffers with guards on both sides.
 
+pub mod rewritten;
+
 use crate::run::Run;
 use hovmekhar::ffi;
 use std::hint::black_box;

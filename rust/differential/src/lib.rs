@@ -12,8 +12,9 @@
 //! - [`bundle_faults`], [`ordered_faults`]: bundles that have to be refused, for one fault or
 //!   for the first of several.
 //! - [`fields`], [`places`]: reading a bundle, and its places, by the definitions.
-//! - [`judging`], [`pruning`], [`screening`]: judging, pruning and screening, by the
-//!   definitions.
+//! - [`judging`], [`pruning`], [`editions`], [`screening`]: judging, pruning, conversion and
+//!   screening, by the definitions.
+//! - [`rewriting`]: the calls that judge a bundle and write it anew.
 //! - [`comparing`]: two accepted files compared.
 //! - [`long_words`]: long words, and places that have no token to spare on them.
 //! - [`samples`]: the files in `samples/`.
@@ -38,6 +39,7 @@ pub mod bundle_faults;
 pub mod bundles;
 pub mod c_programs;
 pub mod comparing;
+pub mod editions;
 pub mod faults;
 pub mod fields;
 pub mod files;
@@ -51,6 +53,7 @@ pub mod ordered_faults;
 pub mod places;
 pub mod program;
 pub mod pruning;
+pub mod rewriting;
 pub mod rng;
 pub mod run;
 pub mod sales;

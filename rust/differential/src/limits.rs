@@ -40,6 +40,15 @@ pub const MOST_WORDS: Size = Size {
     ..LARGEST
 };
 
+/// The largest bundle that can be converted to the new edition: like [`LARGEST`], with 1,020
+/// events and 64,008 bytes. The new edition has a byte more for each of
+/// 252 words and 252 certificates of kind 1, and so 64,512.
+pub const LARGEST_FITTING: Size = Size {
+    events: 1_020,
+    terms: 10_679,
+    ..LARGEST
+};
+
 /// A bundle with 43 rows, 12 places, 20 words, 200 events and 1,630 bytes.
 pub const MIDDLE: Size = Size {
     n: 6,

@@ -3,14 +3,10 @@
 
 use crate::bundles::{Bundle, Certificate, Pair, Place, Term, MAX_PLACES};
 use crate::fields::{Fields, Log};
-use crate::judging::judge_by_definitions;
-use crate::logs::TABLE;
 use crate::nets::Certified;
+use crate::rewriting::{rewrite, rewritten, Rewrite};
 use crate::rng::Rng;
-use crate::run::{output_lengths, refusal, Outcome, Run};
-
-/// Table lengths worth trying: none, too short by one, exact, longer.
-pub const TABLE_LENGTHS: [usize; 4] = [0, TABLE - 1, TABLE, TABLE + 500];
+use crate::run::{Outcome, Run};
 
 /// A bundle of four places, of which no certificate names the first: accepted with the
 /// counts 6 5 6 1. Its log has the words 0 0 0 1 and 0 1.
@@ -42,60 +38,20 @@ pub const WITHOUT_IDLE: [u8; 67] = [
 /// its third event.
 pub const LEAVES_EARLIER: [u8; 4] = [0, 0, 1, 0];
 
-/// Prunes a bundle of an allowed length on both sides, and checks all by the definitions, as
-/// [`prune_as`] does.
+/// Prunes a bundle of an allowed length on both sides, and checks all by the definitions.
 pub fn prune(run: &mut Run, bundle: &[u8]) -> Outcome<Vec<u8>> {
-    let (outcome, front) = prune_by_definitions(bundle);
-    prune_as(run, bundle, &outcome, &front);
-    outcome
+    rewrite(run, Rewrite::Prune, bundle)
 }
 
-/// Prunes a bundle of an allowed length on both sides, with outputs and tables of several
-/// lengths. Checks the answer, the output, and what the front of the table is afterwards: 5
-/// comes before what the bundle is refused with, and that before 3, which leaves the log's
-/// rows in the table.
-pub fn prune_as(run: &mut Run, bundle: &[u8], outcome: &Outcome<Vec<u8>>, front: &[u16]) {
-    let needed = outcome.as_ref().map_or(bundle.len(), Vec::len);
-    for output_len in output_lengths(&mut run.rng, needed) {
-        for table_len in TABLE_LENGTHS {
-            let noise: Vec<u16> = run.rng.items(table_len);
-            let done = run.prune(bundle, output_len, &noise);
-            if table_len < TABLE {
-                assert_eq!(done.outcome, refusal(5, TABLE), "{run}");
-                assert!(done.table == noise, "another table: {run}");
-                continue;
-            }
-            let expected = match outcome {
-                Err(refused) => Err(*refused),
-                Ok(_) if output_len < needed => refusal(3, needed),
-                Ok(pruned) => {
-                    assert!(done.output[..needed] == *pruned, "{bundle:?}, {run}");
-                    Ok(needed)
-                }
-            };
-            assert_eq!(done.outcome, expected, "{bundle:?}, {run}");
-            assert!(done.table[..TABLE] == *front, "another table: {run}");
-            assert!(done.table[TABLE..] == noise[TABLE..], "beyond it: {run}");
-        }
-    }
-}
-
-/// Prunes an accepted bundle on both sides, into an output of its length, and returns the
-/// result.
+/// Prunes an accepted bundle on both sides, and returns the result.
 pub fn prune_accepted(run: &mut Run, bundle: &[u8]) -> Vec<u8> {
-    let noise: Vec<u16> = run.rng.items(TABLE);
-    let mut done = run.prune(bundle, bundle.len(), &noise);
-    let length = done.outcome.expect("an accepted bundle");
-    done.output.truncate(length);
-    done.output
+    rewritten(run, Rewrite::Prune, bundle)
 }
 
 /// Prunes a bundle of an allowed length by the definitions: returns the result, and what
 /// the first 3,584 numbers of the table are afterwards.
 pub fn prune_by_definitions(bundle: &[u8]) -> (Outcome<Vec<u8>>, Vec<u16>) {
-    let (judged, table) = judge_by_definitions(bundle);
-    let pruned = judged.map(|_| pruned(&contents(bundle)).bytes());
-    (pruned, table)
+    Rewrite::Prune.by_definitions(bundle)
 }
 
 /// A bundle without the places that no certificate of kind 0 names.

@@ -104,6 +104,52 @@ fn pruning() {
 }
 
 #[test]
+fn conversion() {
+    assert_eq!(
+        run("convert"),
+        "old\n\
+         to new: 0, 15 7 7 7, output 129 2 0 0 0 0 1 0 0 0 0 1 0 0 0, table with rows\n\
+         to old: 0, 13 7 7 7, output 1 2 0 0 1 0 0 0 0 1 0 0 0, table with rows\n\
+         new\n\
+         to new: 0, 15 7 7 7, output 129 2 0 0 0 0 1 0 0 0 0 1 0 0 0, table with rows\n\
+         to old: 0, 13 7 7 7, output 1 2 0 0 1 0 0 0 0 1 0 0 0, table with rows\n\
+         exact output\n\
+         to new: 0, 15 7 7 7, output 129 2 0 0 0 0 1 0 0 0 0 1 0 0 0, table with rows\n\
+         to old: 0, 13 7 7 7, output 1 2 0 0 1 0 0 0 0 1 0 0 0, table with rows\n\
+         short output\n\
+         to new: 3, 15 7 7 7, output as it was, table with rows\n\
+         to old: 3, 13 7 7 7, output as it was, table with rows\n\
+         completed\n\
+         to new: 0, 15 7 7 7, output 129 2 0 0 0 1 1 0 0 0 0 1 0 0 0, table with rows\n\
+         to old: 21, 1 7 7 7, output as it was, table with rows\n\
+         empty\n\
+         to new: 4, 0 7 7 7, output as it was, table as it was\n\
+         to old: 4, 0 7 7 7, output as it was, table as it was\n\
+         short table\n\
+         to new: 5, 3584 7 7 7, output as it was, table as it was\n\
+         to old: 5, 3584 7 7 7, output as it was, table as it was\n\
+         cut\n\
+         to new: 6, 12 7 7 7, output as it was, table zero\n\
+         to old: 6, 12 7 7 7, output as it was, table zero\n\
+         too many events\n\
+         to new: 8, 1026 7 7 7, output as it was, table zero\n\
+         to old: 8, 1026 7 7 7, output as it was, table zero\n\
+         too many rows\n\
+         to new: 9, 258 7 7 7, output as it was, table zero\n\
+         to old: 9, 258 7 7 7, output as it was, table zero\n\
+         no terms\n\
+         to new: 12, 0 7 7 7, output as it was, table zero\n\
+         to old: 12, 0 7 7 7, output as it was, table zero\n\
+         a byte more\n\
+         to new: 13, 13 7 7 7, output as it was, table zero\n\
+         to old: 13, 13 7 7 7, output as it was, table zero\n\
+         no such place\n\
+         to new: 7, 12 7 7 7, output as it was, table zero\n\
+         to old: 7, 12 7 7 7, output as it was, table zero\n"
+    );
+}
+
+#[test]
 fn screening() {
     assert_eq!(
         run("screen"),
@@ -147,7 +193,7 @@ fn pages_around_the_buffers_are_not_touched() {
     );
     assert_eq!(run("joined_pages"), "6240 screened on two nets\n");
     assert_eq!(run("long_pages"), "15360 long words screened\n");
-    assert_eq!(run("prune_pages"), "17920 pruned\n");
+    assert_eq!(run("rewrite_pages"), "17920 pruned\n37016 converted\n");
 }
 
 /// The texts of the refusals are those of the Rust crate, and so is the version.
@@ -191,6 +237,7 @@ fn header_and_crate_agree() {
         ("HOV_BLOCK_NUMBER", Refusal::BLOCK_NUMBER),
         ("HOV_BLOCK_USE", Refusal::BLOCK_USE),
         ("HOV_EVENT_COUNTS", Refusal::EVENT_COUNTS),
+        ("HOV_PLACE_DISOBEYS", Refusal::PLACE_DISOBEYS),
     ] {
         assert!(
             has(&[name, "=", &format!("{number},")]),
@@ -199,9 +246,9 @@ fn header_and_crate_agree() {
     }
     // The last one of the enum, without a comma.
     assert!(has(&[
-        "HOV_PLACE_DISOBEYS",
+        "HOV_WORD_COMPLETED",
         "=",
-        &Refusal::PLACE_DISOBEYS.to_string()
+        &Refusal::WORD_COMPLETED.to_string()
     ]));
 
     for (name, size) in [

@@ -1,5 +1,6 @@
 //! What the documents say is what the library and the files have.
 
+use differential::bundles::{SAMPLE_A, SAMPLE_A_NEW};
 use differential::samples::directory;
 use hovmekhar::Kind;
 use std::collections::HashSet;
@@ -43,6 +44,34 @@ fn annotated_bytes() {
         assert_eq!(file[4..4 + length], bytes, "{sample}");
     }
     assert!(bundles.is_empty(), "a further table of bytes");
+}
+
+/// The table of conversion has all bytes of case A in the new edition, each behind the one
+/// before, and the offsets of those that stay in the old one.
+#[test]
+fn converted_bytes() {
+    let format = document("docs/FORMAT.md");
+    let (_, table) = format
+        .split_once("| Offset | In the new edition |")
+        .expect("the table");
+    let rows = table.lines().skip(2).take_while(|line| !line.is_empty());
+    let mut bytes = Vec::new();
+    for row in rows {
+        let cells: Vec<&str> = row.split('|').map(str::trim).collect();
+        let [_, old, new, shown, _, _] = cells[..] else {
+            panic!("{row}");
+        };
+        assert_eq!(new, bytes.len().to_string(), "{row}");
+        let shown = between_ticks(shown).expect("bytes").split(' ');
+        bytes.extend(shown.map(|byte| byte.parse::<u8>().expect("a byte")));
+        let old: usize = old.parse().expect("an offset");
+        let (first, after) = (
+            bytes[new.parse::<usize>().expect("an offset")],
+            SAMPLE_A[old],
+        );
+        assert_eq!(first % 128, after, "{row}");
+    }
+    assert_eq!(bytes, SAMPLE_A_NEW);
 }
 
 fn between_ticks(cell: &str) -> Option<&str> {

@@ -6,13 +6,15 @@ use std::fs;
 use std::path::{Path, PathBuf};
 
 /// The public calls: the crate, the file in its `src`, and the function.
-const CALLS: [(&str, &str, &str); 20] = [
+const CALLS: [(&str, &str, &str); 24] = [
     ("block", "lib.rt", "open"),
     ("sealing", "lib.rt", "seal"),
     ("logs", "lib.rt", "fresh"),
     ("logs", "lib.rt", "take"),
     ("judging", "lib.rt", "judge"),
     ("pruning", "lib.rt", "prune"),
+    ("editions", "lib.rt", "to_new"),
+    ("editions", "lib.rt", "to_old"),
     ("screening", "lib.rt", "screen"),
     ("screening", "lib.rt", "screen_joined"),
     ("files", "lib.rt", "run"),
@@ -25,6 +27,8 @@ const CALLS: [(&str, &str, &str); 20] = [
     ("abi", "hov_logs.rt", "hov_take"),
     ("abi", "hov_judging.rt", "hov_judge"),
     ("abi", "hov_pruning.rt", "hov_prune"),
+    ("abi", "hov_editions.rt", "hov_to_new"),
+    ("abi", "hov_editions.rt", "hov_to_old"),
     ("abi", "hov_screening.rt", "hov_screen"),
     ("abi", "hov_screening.rt", "hov_screen_joined"),
 ];

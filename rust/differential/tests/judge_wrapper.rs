@@ -1,12 +1,17 @@
-//! The safe calls for judging and pruning: results and errors, against the reference.
+//! The safe calls for judging, pruning and conversion: results and errors, against the
+//! reference.
 
 use differential::bundle_faults::BundleFault;
-use differential::bundles::{one_for_each_answer, SAMPLE_A};
+use differential::bundles::{one_for_each_answer, SAMPLE_A, SAMPLE_NEW};
+use differential::editions::in_new;
 use differential::faults::{BlockFault, LengthFault};
 use differential::files::{build, MAX_BUNDLE_SIZE};
+use differential::limits::{LARGEST, LARGEST_FITTING};
 use differential::logs::TABLE;
 use differential::nets::small_certified;
-use differential::pruning::{prune_by_definitions, Idle, WITH_IDLE};
+use differential::pruning::Idle;
+use differential::rewriting::Rewrite;
+use differential::rng::Rng;
 use differential::run::{output_lengths, Outcome, Run};
 use hovmekhar::{Judged, Refusal, Tally, ROW_SIZE, TABLE_SIZE};
 use std::error::Error;
@@ -135,67 +140,123 @@ fn files_agree() {
     run.finish(&[(0, 500 + 80), (1, 80), (17, 10), (18, 6), (2, 20), (7, 40)]);
 }
 
-/// The calls that prune: into lent buffers of any length, and the one that never lacks
-/// room.
+/// A safe call that writes a bundle anew into lent buffers.
+type Lent = fn(&[u8], &mut [u8], &mut [u16]) -> Result<usize, Refusal>;
+
+/// The safe calls that write a bundle anew: into lent buffers, and into one of their own.
+struct Safe {
+    call: Rewrite,
+    lent: Lent,
+    owned: fn(&[u8]) -> Result<Vec<u8>, Refusal>,
+}
+
+const SAFE: [Safe; 3] = [
+    Safe {
+        call: Rewrite::Prune,
+        lent: hovmekhar::prune,
+        owned: hovmekhar::prune_vec,
+    },
+    Safe {
+        call: Rewrite::ToNew,
+        lent: hovmekhar::to_new,
+        owned: hovmekhar::to_new_vec,
+    },
+    Safe {
+        call: Rewrite::ToOld,
+        lent: hovmekhar::to_old,
+        owned: hovmekhar::to_old_vec,
+    },
+];
+
+/// Into lent buffers of any length, and by the call that never lacks room.
+fn agrees(run: &mut Run, safe: &Safe) {
+    let bundle = any_bundle(run);
+    let lengths = output_lengths(&mut run.rng, bundle.len());
+    let output_len = run.rng.choose(&lengths);
+    let any = run.rng.below(2 * TABLE);
+    let length = run.rng.choose(&[TABLE, TABLE + 1, TABLE + 500, any]);
+    let mut table: Vec<u16> = run.rng.items(length);
+    let done = run.rewrite(safe.call, &bundle, output_len, &table);
+
+    let mut output = vec![9; output_len];
+    let result = (safe.lent)(&bundle, &mut output, &mut table);
+    assert_eq!(refused(result), done.outcome, "{run}");
+    assert!(table == done.table, "{run}");
+    let (front, rest) = output.split_at(result.unwrap_or(0));
+    assert!(front == &done.output[..front.len()], "{run}");
+    assert!(rest.iter().all(|&byte| byte == 9), "{run}");
+
+    let result = (safe.owned)(&bundle);
+    let has_allowed_length = (1..=MAX_BUNDLE_SIZE).contains(&bundle.len());
+    let expected = match has_allowed_length {
+        true => safe.call.by_definitions(&bundle).0,
+        false => Err(reference::Refusal { number: 4, spot: 0 }),
+    };
+    assert_eq!(refused(result), expected, "{run}");
+}
+
 #[test]
 fn prune_agrees() {
     let mut run = Run::start("prune_agrees");
     for _ in 0..run.cases(1_000) {
-        let bundle = any_bundle(&mut run);
-        let lengths = output_lengths(&mut run.rng, bundle.len());
-        let output_len = run.rng.choose(&lengths);
-        let any = run.rng.below(2 * TABLE);
-        let length = run.rng.choose(&[TABLE, TABLE + 1, TABLE + 500, any]);
-        let mut table: Vec<u16> = run.rng.items(length);
-        let pruned = run.prune(&bundle, output_len, &table);
-
-        let mut output = vec![9; output_len];
-        let result = hovmekhar::prune(&bundle, &mut output, &mut table);
-        assert_eq!(refused(result), pruned.outcome, "{run}");
-        assert!(table == pruned.table, "{run}");
-        let (front, rest) = output.split_at(result.unwrap_or(0));
-        assert!(front == &pruned.output[..front.len()], "{run}");
-        assert!(rest.iter().all(|&byte| byte == 9), "{run}");
-
-        let result = hovmekhar::prune_vec(&bundle);
-        let has_allowed_length = (1..=MAX_BUNDLE_SIZE).contains(&bundle.len());
-        let expected = match has_allowed_length {
-            true => prune_by_definitions(&bundle).0,
-            false => Err(reference::Refusal { number: 4, spot: 0 }),
-        };
-        assert_eq!(refused(result), expected, "{run}");
+        agrees(&mut run, &SAFE[0]);
     }
     run.finish(&[(0, 60), (3, 20), (4, 50), (5, 40), (7, 60), (11, 5)]);
 }
 
-/// Each refusal that judging and pruning can give is an error with its number, its spot
-/// and a sentence with both.
+#[test]
+fn conversions_agree() {
+    let mut run = Run::start("conversions_agree");
+    for _ in 0..run.cases(1_000) {
+        for safe in &SAFE[1..] {
+            agrees(&mut run, safe);
+        }
+    }
+    let refused = [(4, 100), (5, 80), (7, 120), (11, 10), (21, 10)];
+    run.finish(&[[(0, 120), (3, 40)].as_slice(), &refused].concat());
+}
+
+/// The call that returns a bundle of its own has room for the longest result.
+#[test]
+fn longest_result() {
+    let mut run = Run::start("judge_wrapper::longest_result");
+    let bundle = LARGEST_FITTING.certified(&mut run.rng).bundle;
+    let old = bundle.bytes();
+    let new = hovmekhar::to_new_vec(&old).expect("it fits");
+    assert_eq!(Ok(&new), in_new(&bundle).as_ref(), "{run}");
+    assert!(hovmekhar::to_old_vec(&new) == Ok(old), "{run}");
+}
+
+/// Each refusal that these calls can give is an error with its number, its spot and a
+/// sentence with both.
 #[test]
 fn refusals_are_errors() {
     let mut table = [9; TABLE_SIZE];
-    let mut output = [9; 66];
     for (bundle, outcome) in one_for_each_answer() {
         if let Err(refused) = outcome {
             check_error(hovmekhar::judge(&bundle, &mut table), refused);
             check_error(hovmekhar::judge_vec(&bundle), refused);
-            let pruned = hovmekhar::prune(&bundle, &mut output, &mut table);
-            check_error(pruned, refused);
-            check_error(hovmekhar::prune_vec(&bundle), refused);
+            for Safe { lent, owned, .. } in SAFE {
+                check_error(lent(&bundle, &mut [9; 66], &mut table), refused);
+                check_error(owned(&bundle), refused);
+            }
         }
     }
-    let short = reference::Refusal {
-        number: Refusal::NUMBERS_SHORT,
-        spot: 3_584,
-    };
+    let refusal = |number, spot| reference::Refusal { number, spot };
+    let short = refusal(Refusal::NUMBERS_SHORT, 3_584);
     check_error(hovmekhar::judge(&SAMPLE_A, &mut table[1..]), short);
-    let pruned = hovmekhar::prune(&SAMPLE_A, &mut output, &mut table[1..]);
-    check_error(pruned, short);
-    let short = reference::Refusal {
-        number: Refusal::OUTPUT_SHORT,
-        spot: 67,
-    };
-    let pruned = hovmekhar::prune(&WITH_IDLE, &mut output, &mut table);
-    check_error(pruned, short);
+    for Safe { call, lent, .. } in SAFE {
+        check_error(lent(&SAMPLE_A, &mut [9; 66], &mut table[1..]), short);
+        let needed = if call == Rewrite::ToNew { 56 } else { 53 };
+        let short = refusal(Refusal::OUTPUT_SHORT, needed);
+        check_error(lent(&SAMPLE_A, &mut [9; 52], &mut table), short);
+    }
+    let completed = refusal(Refusal::WORD_COMPLETED, 0);
+    let result = hovmekhar::to_old(&SAMPLE_NEW, &mut [9; 80], &mut table);
+    check_error(result, completed);
+    check_error(hovmekhar::to_old_vec(&SAMPLE_NEW), completed);
+    let longest = LARGEST.certified(&mut Rng::new(0)).bundle.bytes();
+    check_error(hovmekhar::to_new_vec(&longest), refusal(4, 0));
 }
 
 fn check_error<R: Debug>(result: Result<R, Refusal>, expected: reference::Refusal) {

@@ -6,8 +6,9 @@ use differential::files::MAX_BUNDLE_SIZE;
 use differential::logs::{table_of, TABLE};
 use differential::nets::{small_certified, small_log, Certified};
 use differential::pruning::{
-    idle_count, prune, prune_by_definitions, pruned, Idle, TABLE_LENGTHS, WITHOUT_IDLE, WITH_IDLE,
+    idle_count, prune, prune_by_definitions, pruned, Idle, WITHOUT_IDLE, WITH_IDLE,
 };
+use differential::rewriting::TABLE_LENGTHS;
 use differential::run::{output_lengths, refusal, Run};
 
 /// Bundles and their results, byte by byte.

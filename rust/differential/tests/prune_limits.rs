@@ -5,7 +5,8 @@ use differential::files::MAX_BUNDLE_SIZE;
 use differential::limits::{LARGEST, MIDDLE, MOST_WORDS};
 use differential::logs::{MAX_EVENTS, TABLE};
 use differential::nets::Certified;
-use differential::pruning::{idle_count, name_lowest, prune, prune_accepted, prune_as, pruned};
+use differential::pruning::{idle_count, name_lowest, prune, prune_accepted, pruned};
+use differential::rewriting::{rewrite_as, Rewrite};
 use differential::run::{refusal, Run};
 
 /// A place that refuses every event, with numbers of its own.
@@ -169,7 +170,8 @@ fn large_bundles() {
             let judged_again = run.judge(&expected, &[0; TABLE]);
             assert_eq!(judged_again.outcome, Ok(counts), "{run}");
             assert!(judged_again.table == judged.table, "{run}");
-            prune_as(&mut run, &bytes, &Ok(expected), &judged.table);
+            let expected = Ok(expected);
+            rewrite_as(&mut run, Rewrite::Prune, &bytes, &expected, &judged.table);
         }
     }
     run.finish(&[(0, 6 * 10), (3, 6 * 4), (5, 6 * 12)]);

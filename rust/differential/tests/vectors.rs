@@ -5,24 +5,28 @@
 use differential::files::{BLOCK, MAX_BLOCKS, MAX_BUNDLE_SIZE};
 use differential::judging::judge;
 use differential::logs::{ROW, TABLE};
-use differential::pruning::prune;
+use differential::rewriting::{keeps_table, rewrite, Rewrite};
 use differential::run::{Outcome, Run};
 use differential::screening::{screen, screen_joined};
 use differential::vectors::{
     line, rows_line, screened_line, table_line, written_line, Case, Cases,
 };
 
-const FILE: &str = include_str!("data/08.txt");
+const FILE: &str = include_str!("data/09.txt");
 
 /// The calls of the file, with how many cases each has. Each has a test below.
-const COUNTS: [(&str, usize); 7] = [
+const COUNTS: [(&str, usize); 11] = [
     ("judge", 120),
-    ("judge_lent", 551),
+    ("judge_lent", 237),
     ("log", 40),
-    ("prune", 50),
-    ("prune_lent", 77),
+    ("prune", 32),
+    ("prune_lent", 27),
     ("screen", 80),
-    ("screen_joined", 172),
+    ("screen_joined", 139),
+    ("to_new", 42),
+    ("to_new_lent", 80),
+    ("to_old", 42),
+    ("to_old_lent", 75),
 ];
 
 #[test]
@@ -52,13 +56,13 @@ fn judged() {
             .and_then(|length| judge(&mut run, &opened.output[..length]));
         assert_eq!(line(answer), case.answer, "{run}");
     }
-    let of_files = [(1, 2), (17, 3), (18, 6), (2, 1)];
-    let of_fields = [(6, 11), (7, 19), (13, 1)];
-    let of_nets = [(10, 17), (20, 8), (11, 1), (12, 17)];
+    let of_files = [(1, 2), (17, 2), (18, 1), (2, 1)];
+    let of_fields = [(6, 11), (7, 19)];
+    let of_nets = [(10, 19), (20, 11), (11, 5), (12, 16)];
     let refused = [of_files.as_slice(), &of_fields, &of_nets].concat();
-    all_of("judge", &[refused.as_slice(), &[(0, 34)]].concat());
+    all_of("judge", &[refused.as_slice(), &[(0, 33)]].concat());
     // Each file that is opened, and each bundle that is accepted.
-    run.finish(&[refused.as_slice(), &[(0, 108 + 34)]].concat());
+    run.finish(&[refused.as_slice(), &[(0, 114 + 33)]].concat());
 }
 
 /// Each file that opens is the one that sealing makes of its bundle, whatever the
@@ -76,7 +80,7 @@ fn sealed_again() {
             assert!(sealed.output[..file.len()] == file, "{run}");
         }
     }
-    run.finish(&[(0, 2 * 108)]);
+    run.finish(&[(0, 2 * 114)]);
 }
 
 /// The answer, and the lent table afterwards.
@@ -90,53 +94,121 @@ fn judged_with_lent_table() {
         let answer = format!("{} {table}", line(judged.outcome));
         assert_eq!(answer, case.answer, "{run}");
     }
-    let by_length = [(0, 30), (4, 24), (5, 6)];
-    let of_fields = [(6, 48), (7, 172), (8, 22), (9, 11), (13, 7)];
-    let of_nets = [(10, 91), (20, 45), (11, 34), (12, 61)];
+    let by_length = [(0, 29), (4, 5), (5, 4)];
+    let of_fields = [(6, 17), (7, 59), (8, 6), (9, 3), (13, 3)];
+    let of_nets = [(10, 51), (20, 21), (11, 8), (12, 31)];
     let numbers = [by_length.as_slice(), &of_fields, &of_nets].concat();
     all_of("judge_lent", &numbers);
     run.finish(&numbers);
 }
 
-/// Each case is tried with outputs of 6 lengths, two of them too short, and tables of 4,
-/// two of them too short.
-#[test]
-fn pruned() {
-    let mut run = Run::start("vectors::pruned");
-    for case in cases("prune") {
+/// Runs the cases of a call that writes a bundle anew. Each is tried with outputs of 6
+/// lengths, two of them too short, and tables of 4, two of them too short. Notes the results
+/// that are not as long as the bundle.
+fn rewritten(run: &mut Run, call: Rewrite, name: &str) {
+    for case in cases(name) {
         let [bundle] = case.arguments();
         let bundle = bundle.bytes();
-        let answer = prune(&mut run, &bundle);
-        if matches!(&answer, Ok(result) if result.len() < bundle.len()) {
-            run.note("shorter");
+        let answer = rewrite(run, call, &bundle);
+        if matches!(&answer, Ok(result) if result.len() != bundle.len()) {
+            run.note("another length");
         }
         let answer = answer.as_deref().map_err(|refusal| *refusal);
         assert_eq!(written_line(answer), case.answer, "{run}");
     }
-    all_of("prune", &[(0, 44), (7, 1), (12, 3), (13, 2)]);
-    let written = [(0, 44 * 8), (3, 44 * 4), (5, 50 * 12)];
-    let refused = [(7, 12), (12, 36), (13, 24)];
-    run.finish_with_classes(&[written.as_slice(), &refused].concat(), &[("shorter", 35)]);
 }
 
-/// The answer with the bytes that are written, and the lent table afterwards: it has the
-/// log's rows also where the output is too short.
+/// Runs the cases of such a call that have a lent output and a lent table: the answer with the
+/// bytes that are written, and the table afterwards, which has the log's rows also where
+/// judging does not refuse and there is no result.
+fn rewritten_with_lent_memory(run: &mut Run, call: Rewrite, name: &str) {
+    for case in cases(name) {
+        let [bundle, output_len, table_len] = case.arguments();
+        let bundle = bundle.bytes();
+        let done = run.rewrite_into(call, &bundle, output_len.lent(), &table_len.lent::<u16>());
+        let written: Outcome<&[u8]> = done.outcome.map(|length| &done.output[..length]);
+        let has_rows = match done.outcome {
+            Ok(_) => true,
+            Err(refused) => {
+                let of_result = [3, 4, 21].contains(&refused.number);
+                of_result && !keeps_table(&bundle, refused.number)
+            }
+        };
+        let answer = format!(
+            "{} {}",
+            written_line(written),
+            table_line(&done.table, has_rows)
+        );
+        assert_eq!(answer, case.answer, "{run}");
+    }
+}
+
+#[test]
+fn pruned() {
+    let mut run = Run::start("vectors::pruned");
+    rewritten(&mut run, Rewrite::Prune, "prune");
+    all_of("prune", &[(0, 26), (7, 1), (12, 3), (13, 2)]);
+    let written = [(0, 26 * 8), (3, 26 * 4), (5, 32 * 12)];
+    let refused = [(7, 12), (12, 36), (13, 24)];
+    let numbers = [written.as_slice(), &refused].concat();
+    run.finish_with_classes(&numbers, &[("another length", 21)]);
+}
+
 #[test]
 fn pruned_with_lent_memory() {
     let mut run = Run::start("vectors::pruned_with_lent_memory");
-    for case in cases("prune_lent") {
-        let [bundle, output_len, table_len] = case.arguments();
-        let done = run.prune_into(&bundle.bytes(), output_len.lent(), &table_len.lent::<u16>());
-        let written: Outcome<&[u8]> = done.outcome.map(|length| &done.output[..length]);
-        let is_short = matches!(done.outcome, Err(refused) if refused.number == 3);
-        let table = table_line(&done.table, done.outcome.is_ok() || is_short);
-        let answer = format!("{} {table}", written_line(written));
-        assert_eq!(answer, case.answer, "{run}");
-    }
-    let written = [(0, 24), (3, 24), (4, 1), (5, 4)];
-    let refused = [(6, 7), (7, 6), (8, 2), (11, 2), (12, 5), (13, 2)];
+    rewritten_with_lent_memory(&mut run, Rewrite::Prune, "prune_lent");
+    let written = [(0, 7), (3, 8)];
+    let refused = [(6, 2), (7, 2), (8, 1), (11, 2), (12, 3), (13, 2)];
     let numbers = [written.as_slice(), &refused].concat();
     all_of("prune_lent", &numbers);
+    run.finish(&numbers);
+}
+
+#[test]
+fn converted_to_new() {
+    let mut run = Run::start("vectors::converted_to_new");
+    rewritten(&mut run, Rewrite::ToNew, "to_new");
+    all_of("to_new", &[(0, 36), (10, 1), (12, 2), (13, 2), (20, 1)]);
+    let written = [(0, 36 * 8), (3, 36 * 4), (5, 42 * 12)];
+    let refused = [(10, 12), (12, 24), (13, 24), (20, 12)];
+    let numbers = [written.as_slice(), &refused].concat();
+    run.finish_with_classes(&numbers, &[("another length", 16)]);
+}
+
+#[test]
+fn converted_to_new_with_lent_memory() {
+    let mut run = Run::start("vectors::converted_to_new_with_lent_memory");
+    rewritten_with_lent_memory(&mut run, Rewrite::ToNew, "to_new_lent");
+    let written = [(0, 25), (3, 28), (4, 4), (5, 4)];
+    let of_fields = [(6, 5), (7, 1), (8, 2), (13, 2)];
+    let of_nets = [(10, 2), (20, 2), (11, 1), (12, 4)];
+    let numbers = [written.as_slice(), &of_fields, &of_nets].concat();
+    all_of("to_new_lent", &numbers);
+    run.finish(&numbers);
+}
+
+#[test]
+fn converted_to_old() {
+    let mut run = Run::start("vectors::converted_to_old");
+    rewritten(&mut run, Rewrite::ToOld, "to_old");
+    let refused = [(11, 1), (12, 2), (13, 2), (20, 1), (21, 9)];
+    all_of("to_old", &[&[(0, 27)], refused.as_slice()].concat());
+    let written = [(0, 27 * 8), (3, 27 * 4), (5, 42 * 12)];
+    let refused = refused.map(|(number, cases)| (number, cases * 12));
+    let numbers = [written.as_slice(), &refused].concat();
+    run.finish_with_classes(&numbers, &[("another length", 11)]);
+}
+
+#[test]
+fn converted_to_old_with_lent_memory() {
+    let mut run = Run::start("vectors::converted_to_old_with_lent_memory");
+    rewritten_with_lent_memory(&mut run, Rewrite::ToOld, "to_old_lent");
+    let written = [(0, 22), (21, 6), (3, 22), (4, 1), (5, 4)];
+    let of_fields = [(6, 8), (7, 1), (8, 2), (13, 2)];
+    let of_nets = [(20, 1), (11, 3), (12, 3)];
+    let numbers = [written.as_slice(), &of_fields, &of_nets].concat();
+    all_of("to_old_lent", &numbers);
     run.finish(&numbers);
 }
 
@@ -148,9 +220,9 @@ fn screened() {
         let answer = screen(&mut run, &bundle.bytes(), &word.bytes());
         assert_eq!(screened_line(answer), case.answer, "{run}");
     }
-    let numbers = [(0, 35), (14, 10), (4, 3), (6, 7), (7, 3), (8, 3), (15, 19)];
+    let numbers = [(0, 38), (14, 9), (4, 2), (6, 9), (7, 2), (8, 3), (15, 17)];
     all_of("screen", &numbers);
-    run.finish_with_classes(&numbers, &[("permitted", 25), ("stopped", 10)]);
+    run.finish_with_classes(&numbers, &[("permitted", 27), ("stopped", 11)]);
 }
 
 #[test]
@@ -161,11 +233,11 @@ fn screened_on_two_nets() {
         let answer = screen_joined(&mut run, &first.bytes(), &second.bytes(), &word.bytes());
         assert_eq!(screened_line(answer), case.answer, "{run}");
     }
-    let answered = [(0, 34), (19, 19), (15, 9)];
-    let refused = [(14, 11), (4, 18), (6, 36), (7, 28), (8, 17)];
+    let answered = [(0, 21), (19, 19), (15, 10)];
+    let refused = [(14, 11), (4, 14), (6, 27), (7, 23), (8, 14)];
     let numbers = [answered.as_slice(), &refused].concat();
     all_of("screen_joined", &numbers);
-    run.finish_with_classes(&numbers, &[("permitted", 18), ("stopped", 16)]);
+    run.finish_with_classes(&numbers, &[("permitted", 9), ("stopped", 12)]);
 }
 
 /// The words of a log leave these rows in a table that held anything.

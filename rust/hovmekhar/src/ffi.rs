@@ -58,6 +58,26 @@ unsafe extern "C" {
         answer: *mut u64,
     ) -> u32;
 
+    fn hov_to_new(
+        bundle: *const u8,
+        bundle_len: usize,
+        output: *mut u8,
+        output_len: usize,
+        table: *mut u16,
+        table_len: usize,
+        answer: *mut u64,
+    ) -> u32;
+
+    fn hov_to_old(
+        bundle: *const u8,
+        bundle_len: usize,
+        output: *mut u8,
+        output_len: usize,
+        table: *mut u16,
+        table_len: usize,
+        answer: *mut u64,
+    ) -> u32;
+
     fn hov_screen(
         bundle: *const u8,
         bundle_len: usize,
@@ -163,6 +183,38 @@ pub fn prune(bundle: &[u8], output: &mut [u8], table: &mut [u16], answer: &mut A
     // are allowed.
     unsafe {
         hov_prune(
+            bundle.as_ptr(),
+            bundle.len(),
+            output.as_mut_ptr(),
+            output.len(),
+            table.as_mut_ptr(),
+            table.len(),
+            answer.as_mut_ptr(),
+        )
+    }
+}
+
+/// Calls `hov_to_new`.
+pub fn to_new(bundle: &[u8], output: &mut [u8], table: &mut [u16], answer: &mut Answer) -> u32 {
+    // SAFETY: As for `hov_prune`.
+    unsafe {
+        hov_to_new(
+            bundle.as_ptr(),
+            bundle.len(),
+            output.as_mut_ptr(),
+            output.len(),
+            table.as_mut_ptr(),
+            table.len(),
+            answer.as_mut_ptr(),
+        )
+    }
+}
+
+/// Calls `hov_to_old`.
+pub fn to_old(bundle: &[u8], output: &mut [u8], table: &mut [u16], answer: &mut Answer) -> u32 {
+    // SAFETY: As for `hov_prune`.
+    unsafe {
+        hov_to_old(
             bundle.as_ptr(),
             bundle.len(),
             output.as_mut_ptr(),

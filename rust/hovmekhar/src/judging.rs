@@ -34,8 +34,9 @@ pub struct Tally {
 /// A sealed file that was accepted: its bundle, and what judging said of it.
 #[derive(Clone, Debug, PartialEq, Eq)]
 pub struct Judged {
-    /// The bundle, for [`screen`](crate::screen) and [`prune`](crate::prune): the
-    /// file need not be opened again.
+    /// The bundle, for [`screen`](crate::screen), [`prune`](crate::prune),
+    /// [`to_new`](crate::to_new) and [`to_old`](crate::to_old): the file need not be opened
+    /// again.
     pub bundle: Vec<u8>,
     /// The counts.
     pub tally: Tally,

@@ -1,5 +1,5 @@
-//! Opens and seals files, keeps log tables, judges and prunes bundles and screens
-//! words, with the proved static library.
+//! Opens and seals files, keeps log tables, judges, prunes and converts bundles and
+//! screens words, with the proved static library.
 //!
 //! A *sealed file* is 1 to 128 blocks of 512 bytes, each with its number, its
 //! used count, 504 bytes of contents and two checksums. The used contents of
@@ -16,12 +16,13 @@
 //! initial tokens. [`judge`] accepts a bundle when the net permits the log, obeys its
 //! completed words, and every certificate holds; [`judge_file_vec`] opens a file, judges
 //! its bundle and hands both back. [`prune`] writes an accepted bundle without the places
-//! that no certificate names. [`screen`] replays a word on the net of a bundle, and says
-//! where it is stopped and how many tokens were missing; [`screen_joined`] does so with
-//! the places of two bundles.
+//! that no certificate names, [`to_new`] and [`to_old`] write one in the other edition.
+//! [`screen`] replays a word on the net of a bundle, and says where it is stopped and how
+//! many tokens were missing; [`screen_joined`] does so with the places of two bundles.
 //!
 //! A call that cannot give a result returns a [`Refusal`] and writes nothing; only
-//! [`judge`] clears the table. [`prune`] leaves the table as [`judge`] does.
+//! [`judge`] clears the table. [`prune`], [`to_new`] and [`to_old`] leave the table as
+//! [`judge`] does.
 //!
 //! ```
 //! use hovmekhar::Refusal;
@@ -48,11 +49,13 @@
 compile_error!("the static library is built for x86-64");
 
 mod blocks;
+mod editions;
 // Public for tests that look at every number of an answer; not part of the API.
 #[allow(unsafe_code)]
 #[doc(hidden)]
 pub mod ffi;
 mod judging;
+mod kind;
 mod logs;
 mod pruning;
 mod refusal;
@@ -60,9 +63,11 @@ mod screening;
 
 pub use blocks::{open, open_vec, seal, seal_vec};
 pub use blocks::{BLOCK_SIZE, CONTENTS_SIZE, MAX_BLOCKS, MAX_BUNDLE_SIZE, MAX_FILE_SIZE};
+pub use editions::{to_new, to_new_vec, to_old, to_old_vec};
 pub use judging::{judge, judge_file_vec, judge_vec, Judged, Tally};
 pub use judging::{MAX_PAIRS, MAX_PLACES, MAX_TERMS, NEW_EDITION};
+pub use kind::Kind;
 pub use logs::{Summary, MAX_EVENTS, MAX_LOG_EVENTS, MAX_ROWS, ROW_SIZE, TABLE_SIZE};
 pub use pruning::{prune, prune_vec};
-pub use refusal::{Kind, Refusal};
+pub use refusal::Refusal;
 pub use screening::{screen, screen_joined, Screened, MAX_WORD_EVENTS};

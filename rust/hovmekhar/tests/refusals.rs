@@ -7,7 +7,7 @@ use std::collections::HashSet;
 #[test]
 fn kinds_and_numbers() {
     let numbers: Vec<u8> = Kind::ALL.iter().map(|kind| kind.number()).collect();
-    assert_eq!(numbers, (1..=20).collect::<Vec<u8>>());
+    assert_eq!(numbers, (1..=21).collect::<Vec<u8>>());
     for number in 0..=u8::MAX {
         let kind = Refusal { number, spot: 3 }.kind();
         assert_eq!(

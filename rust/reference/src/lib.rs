@@ -1,19 +1,22 @@
 //! A second implementation of the file format, the log table, the judge, the pruning
-//! of nets and the screening of words, in plain safe Rust.
+//! of nets, conversion between the editions and the screening of words, in plain safe
+//! Rust.
 //!
 //! It is written from the product's rules alone and shares no code with the
 //! proved library, so that tests can compare the two. See [`open`] and [`seal`]
 //! for files, [`fresh`] and [`take`] for the log table, [`judge`] for bundles,
-//! [`prune`] for bundles without idle places, [`screen`] for a word, [`screen_joined`] for
-//! a word on two nets. [`log_rows`] has the same rows without a table. Bundles are read
-//! in both editions.
+//! [`prune`] for bundles without idle places, [`to_new`] and [`to_old`] for bundles in the
+//! other edition, [`screen`] for a word, [`screen_joined`] for a word on two nets.
+//! [`log_rows`] has the same rows without a table. Bundles are read in both editions.
 
 #![forbid(unsafe_code)]
 #![deny(missing_docs)]
 
 mod blocks;
+mod editions;
 mod judging;
 mod logs;
+mod parts;
 mod places;
 mod pruning;
 mod reader;
@@ -22,6 +25,7 @@ mod tables;
 mod weights;
 
 pub use blocks::{open, seal};
+pub use editions::{to_new, to_old};
 pub use judging::{judge, Tally};
 pub use logs::{log_rows, Row};
 pub use pruning::prune;

@@ -5,7 +5,7 @@ use crate::Refusal;
 use std::ops::RangeBounds;
 
 /// By how much the first byte of the new edition is above the event count.
-const NEW: u8 = 128;
+pub const NEW: u8 = 128;
 
 /// Which fields a bundle has.
 #[derive(Clone, Copy, PartialEq, Eq)]

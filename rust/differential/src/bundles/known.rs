@@ -19,6 +19,19 @@ pub const SAMPLE_A: [u8; 53] = [
     0, 0,
 ];
 
+/// Sample A in the new edition: two marks and a pair count more.
+pub const SAMPLE_A_NEW: [u8; 56] = [
+    130, 2, 1, 0, 1, 3, 0, 0, 0, 1, //
+    2, 1, 0, 1, 0, 0, 0, 1, 0, 1, 0, //
+    2, 0, 0, 0, 0, 0, 1, 0, 0, 0, //
+    0, 0, //
+    0, 0, //
+    1, 2, 0, 2, 0, 0, 1, 1, 0, 3, 0, 1, 1, 0, 0, //
+    0, 1, //
+    0, 0, //
+    0, 0,
+];
+
 /// Sample E: no word; one place refuses the only event.
 pub const SAMPLE_E: [u8; 11] = [1, 0, 1, 0, 0, 0, 0, 1, 0, 0, 0];
 

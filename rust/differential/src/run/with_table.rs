@@ -2,7 +2,7 @@
 
 use super::{Outcome, Run, Written};
 use crate::logs::TABLE;
-use hovmekhar::ffi;
+use crate::rewriting::{keeps_table, Rewrite};
 
 /// What such a call did, the same on both sides.
 pub struct WithTable {
@@ -14,35 +14,37 @@ pub struct WithTable {
     pub table: Vec<u16>,
 }
 
-/// Such a call, ours and the reference's.
-type Ours = fn(&[u8], &mut [u8], &mut [u16], &mut ffi::Answer) -> u32;
-type Reference = fn(&[u8], &mut [u8], &mut [u16]) -> Outcome;
-
 impl Run {
-    /// Prunes a bundle on both sides, with copies of this table and outputs of noise, and
-    /// compares.
+    /// Prunes a bundle, as [`Run::rewrite`] does.
     pub fn prune(&mut self, bundle: &[u8], output_len: usize, table: &[u16]) -> WithTable {
-        let noise = self.rng.bytes(output_len);
-        self.prune_into(bundle, noise, table)
+        self.rewrite(Rewrite::Prune, bundle, output_len, table)
     }
 
-    /// Prunes a bundle on both sides, with copies of this output and this table, and
-    /// compares.
-    pub fn prune_into(&mut self, bundle: &[u8], output: Vec<u8>, table: &[u16]) -> WithTable {
-        self.compare_with_table(bundle, output, table, ffi::prune, reference::prune)
-    }
-
-    /// Makes a call that judges a bundle on its way, on both sides, and compares. Of the
-    /// output only the result's bytes may change, and none when the call is refused; the
-    /// table may change unless 4 or 5 refuses, also when the output is too short.
-    fn compare_with_table(
+    /// Makes a call on both sides, with copies of this table and outputs of noise, and
+    /// compares as [`Run::rewrite_into`] does.
+    pub fn rewrite(
         &mut self,
+        call: Rewrite,
+        bundle: &[u8],
+        output_len: usize,
+        table: &[u16],
+    ) -> WithTable {
+        let noise = self.rng.bytes(output_len);
+        self.rewrite_into(call, bundle, noise, table)
+    }
+
+    /// Makes a call on both sides, with copies of this output and this table, and compares.
+    /// Of the output only the result's bytes may change, and none when the call is refused;
+    /// the table may change unless judging refuses with 4 or 5, also when the output is too
+    /// short.
+    pub fn rewrite_into(
+        &mut self,
+        call: Rewrite,
         bundle: &[u8],
         mut output: Vec<u8>,
         table: &[u16],
-        ours: Ours,
-        reference: Reference,
     ) -> WithTable {
+        let (ours, reference) = (call.ours(), call.reference());
         let mut our_output = self.guarded(&output);
         let (outcome, table) = self.compare(
             [bundle],
@@ -53,9 +55,9 @@ impl Run {
                 items: TABLE,
                 ..Written::length(length)
             },
-            |refused| match refused.number {
-                4 | 5 => 0,
-                _ => TABLE,
+            |refused| match keeps_table(bundle, refused.number) {
+                true => 0,
+                false => TABLE,
             },
         );
         assert!(our_output.lent() == output, "the outputs differ: {self}");

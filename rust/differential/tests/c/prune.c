@@ -2,39 +2,12 @@
  * Prunes bundles from C, one for each answer, and prints what each call returned, the
  * numbers of its answer, the output, and how it left the table.
  */
-#include "judged.h"
-
-#include <inttypes.h>
-#include <stdio.h>
-#include <string.h>
-
-static uint8_t output[HOV_MAX_BUNDLE_SIZE];
-
-/* Prints the bytes in front of the nines that the output was filled with. */
-static void print_output(void)
-{
-    size_t written = sizeof output;
-    while (written > 0 && output[written - 1] == 9) {
-        written--;
-    }
-    fputs(written == 0 ? "output as it was" : "output", stdout);
-    for (size_t i = 0; i < written; i++) {
-        printf(" %u", (unsigned)output[i]);
-    }
-}
+#include "rewritten.h"
 
 static void prune(const char *what, const uint8_t *bundle, size_t bundle_len, size_t output_len,
                   size_t table_len)
 {
-    uint64_t answer[4] = {7, 7, 7, 7};
-    memset(output, 9, sizeof output);
-    fill_table();
-    uint32_t number =
-        hov_prune(bundle, bundle_len, output, output_len, table, table_len, answer);
-    printf("%s: %" PRIu32 ", %" PRIu64 " %" PRIu64 " %" PRIu64 " %" PRIu64 ", ", what, number,
-           answer[0], answer[1], answer[2], answer[3]);
-    print_output();
-    printf(", %s\n", table_state());
+    rewrite(hov_prune, what, bundle, bundle_len, output_len, table_len);
 }
 
 int main(void)
