@@ -470,7 +470,8 @@ uint32_t hov_prune(const uint8_t *bundle, size_t bundle_len,
  * refusal that applies, with its spot in answer[0]: those of hov_judge in its order,
  * then HOV_BUNDLE_LENGTH where the result is longer than HOV_MAX_BUNDLE_SIZE, then
  * HOV_OUTPUT_SHORT. All leave the output as it was. answer[1] to answer[3] stay as
- * they were.
+ * they were. HOV_BUNDLE_LENGTH is the result's exactly where bundle_len is 1 to
+ * HOV_MAX_BUNDLE_SIZE.
  *
  * The table is as hov_judge leaves it for this bundle, whatever comes after: with
  * HOV_OK, HOV_OUTPUT_SHORT, and HOV_BUNDLE_LENGTH where it is the result's, it has the

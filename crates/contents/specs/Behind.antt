@@ -83,10 +83,10 @@ module _ (table_length : ℕ) (b : List ℕ) (bytes : Bytes b) where
         let law = answer-own k other spot in
         ((λ e. ⊎_elim (λ v. v) (λ (c, d, j, q). absurd (never d spot q)) (law.0 e)), (λ v. law.1 (inl v)))
 
-    -- where what follows has n bytes exactly so
+    -- Size c d n says exactly when what follows gives n bytes
     module _ (Size : Tally → Contents → ℕ → Type 0) (sizes : (c : Tally) (d : Contents) → JudgedAs table_length b c d → (n : ℕ)
         → ((new : List ℕ) × (f d ≡ value new) × (n ≡ length new)) ↔ Size c d n) where
-      -- 3, where what follows has it not
+      -- 3; what follows never refuses with 3 itself
       pub answer-short : ((d : Contents) (spot : ℕ) → f d ≡ refused 3 spot → ⊥) → (spot : ℕ) → (answer its room ≡ Err (refusal 3 spot))
           ↔ ((c : Tally) × (d : Contents) × JudgedAs table_length b c d × Size c d spot × (room < spot))
       unfolding any

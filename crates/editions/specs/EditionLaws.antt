@@ -14,7 +14,8 @@ use Rattle.nets.specs.Bundle.{accepted, tally, is_by_place}
 use Rattle.nets.proofs.Certificates.{WithoutPairs, all-unpaired}
 use Rattle.bundles.specs.Layout.{CertificateFields, kind0, kind1, PairFields, WeightFields, Head, Contents, EntryInLimits, HeadInLimits}
 use Rattle.bundles.specs.Layout.{CertificateInLimits, InLimits, first_in, to_net, to_term, to_pair, to_certificate, to_bundle}
-use Rattle.bundles.specs.Layout.{mark_bytes, entry_bytes, term_bytes, pair_bytes, pairs_bytes, weight_bytes, places_bytes, certificate_bytes, front_bytes, head_bytes, bytes_of, first_of}
+use Rattle.bundles.specs.Layout.{mark_bytes, entry_bytes, term_bytes, pair_bytes, pairs_bytes, weight_bytes, places_bytes, certificate_bytes}
+use Rattle.bundles.specs.Layout.{front_bytes, head_bytes, bytes_of, first_of}
 use Rattle.bundles.specs.LayoutLaws.{every_map}
 use Rattle.verdicts.specs.Acceptance.{AcceptedAs}
 use Rattle.verdicts.specs.OldEdition.{NoPairs}
@@ -32,7 +33,10 @@ same-bundle e c = refl
 
 -- in the edition that it has, a bundle is as it was
 pub in-own : {e : Bool} (c : Contents) → c.head.is_new ≡ e → in_edition e c ≡ c
-in-own {e} c own = λ i. record { head = record { is_new = sym own i; events = c.head.events; entries = c.head.entries; places = c.head.places }; certificates = c.certificates }
+in-own {e} c own = λ i. record {
+  head = record { is_new = sym own i; events = c.head.events; entries = c.head.entries; places = c.head.places };
+  certificates = c.certificates;
+}
 
 -- ---- a bundle without completed words
 
@@ -115,7 +119,7 @@ in-accepted e c a plain fits = record {
 
 -- ---- lengths
 
--- how many certificates are of kind 1
+-- a certificate is of kind 1
 unfoldable pub is_weights : CertificateFields → Bool
 is_weights (kind0 j) = false
 is_weights (kind1 w) = true
@@ -136,7 +140,7 @@ words-length (x ∷ xs) = omega (
   words-length xs,
 )
 
--- so has weights without pairs, for the pair count
+-- so have weights without pairs, for the pair count
 weights-length : (w : WeightFields) → w.pairs ≡ [] → length (weight_bytes true w) ≡ length (weight_bytes false w) + 1
 unfolding weight_bytes pairs_bytes flat_map
 weights-length w none = omega (
@@ -148,7 +152,8 @@ weights-length w none = omega (
   ap (λ (qs : List PairFields). length (flat_map pair_bytes qs)) none,
 )
 
-certificate-length : (c : CertificateFields) → NoPairs c → length (certificate_bytes true c) ≡ length (certificate_bytes false c) + cond (is_weights c) 1 0
+certificate-length : (c : CertificateFields) → NoPairs c
+    → length (certificate_bytes true c) ≡ length (certificate_bytes false c) + cond (is_weights c) 1 0
 unfolding certificate_bytes is_weights
 certificate-length (kind0 j) v = refl
 certificate-length (kind1 w) v = omega (arith, weights-length w v)
@@ -169,8 +174,9 @@ certificates-length (c ∷ cs) v = go (is_weights c) (certificate-length c v.0) 
     olds : List ℕ
     olds = flat_map (certificate_bytes false) cs
 
-    go : (b : Bool) → length (certificate_bytes true c) ≡ length (certificate_bytes false c) + cond b 1 0 → length news ≡ length olds + weights_count cs
-        → length (certificate_bytes true c ++ news) ≡ length (certificate_bytes false c ++ olds) + length (cond b (c ∷ keep is_weights cs) (keep is_weights cs))
+    go : (b : Bool) → length (certificate_bytes true c) ≡ length (certificate_bytes false c) + cond b 1 0
+        → length news ≡ length olds + weights_count cs → length (certificate_bytes true c ++ news)
+        ≡ length (certificate_bytes false c ++ olds) + length (cond b (c ∷ keep is_weights cs) (keep is_weights cs))
     go true e rest = omega (arith, e, rest, length-append (certificate_bytes true c) news, length-append (certificate_bytes false c) olds)
     go false e rest = omega (arith, e, rest, length-append (certificate_bytes true c) news, length-append (certificate_bytes false c) olds)
 

@@ -7,7 +7,8 @@ use Rattle.laws.specs.Numbers.{le16}
 use Rattle.limits.specs.Limits.{new_edition}
 use Rattle.nets.specs.Nets.{Entry}
 use Rattle.bundles.specs.Editions.{first-written}
-use Rattle.bundles.specs.Layout.{First, CertificateFields, kind1, WeightFields, Head, Contents, InLimits, first_of, first_in, mark_bytes, entry_bytes, place_bytes}
+use Rattle.bundles.specs.Layout.{First, CertificateFields, kind1, WeightFields, Head, Contents, InLimits, first_of, first_in, mark_bytes}
+use Rattle.bundles.specs.Layout.{entry_bytes, place_bytes}
 use Rattle.bundles.specs.Layout.{term_bytes, pairs_bytes, weight_bytes, certificate_bytes, front_bytes, bytes_of}
 use Rattle.bundles.specs.Readers.{to_first}
 use Rattle.contents.specs.Certificates.{weights, piece_of, weights-back}
@@ -92,7 +93,8 @@ count-byte h front is = ap (λ (l : List ℕ). get_or l 1 0) is
 pub first-byte : (e : Bool) (c : Contents) → InLimits c → (x : ℕ) → x ≡ first_of (first_in c.head)
     → x % new_edition + new_edition * bool_byte e ≡ first_of (first_in (in_edition e c).head)
 unfolding first_of to_first
-first-byte e c limits x is = go e (ap (λ (y : ℕ). y % new_edition) is ∙ ap (λ (f : First). f.events) (first-written (first_in c.head) limits.head.events.1))
+first-byte e c limits x is =
+    go e (ap (λ (y : ℕ). y % new_edition) is ∙ ap (λ (f : First). f.events) (first-written (first_in c.head) limits.head.events.1))
   where
     go : (e : Bool) → x % new_edition ≡ c.head.events → x % new_edition + new_edition * bool_byte e ≡ cond e new_edition 0 + c.head.events
     go true n = omega (arith, n)

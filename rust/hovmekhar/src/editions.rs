@@ -21,7 +21,8 @@ use crate::{Refusal, MAX_BUNDLE_SIZE, TABLE_SIZE};
 /// As for [`judge`](crate::judge), else [`Refusal::BUNDLE_LENGTH`] where the result is
 /// longer than [`MAX_BUNDLE_SIZE`], else [`Refusal::OUTPUT_SHORT`]; `output` is then as it
 /// was. In every case `table` is as [`judge`](crate::judge) leaves it: unless the refusal is
-/// the judge's, it has the rows of the log.
+/// the judge's, it has the rows of the log. [`Refusal::BUNDLE_LENGTH`] is the result's
+/// exactly where the bundle itself has 1 to [`MAX_BUNDLE_SIZE`] bytes.
 ///
 /// ```
 /// use hovmekhar::{Refusal, NEW_EDITION, TABLE_SIZE};

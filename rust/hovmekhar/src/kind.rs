@@ -145,7 +145,7 @@ impl Kind {
                 "only from a program that lends too little: lend so much"
             }
             Kind::BundleLength => {
-                "there is no bundle, or the modeller must send fewer words, places or certificates"
+                "there is no bundle, or the modeller must send fewer words, places or certificates; a sound one can stay in the old edition"
             }
             Kind::BundleEnd => "the modeller's file lacks what the counts before announce",
             Kind::Value => "the modeller looks at that offset in docs/FORMAT.md",

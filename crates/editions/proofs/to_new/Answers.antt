@@ -13,10 +13,11 @@ pub returns-in_err-tally : goal.returns-in_err-tally
 returns-in_err-tally c =
     let p = err_from_is_err_and c.from_residual.result c.from_residual.ensures.1 in
     let r = c.in_err-tally.field-0.0 in
-    let ends = ends-refused _ c.args.output.now r.number r.spot (to_new-refused (length c.args.table.now) c.args.bundle.now r (sym c.judge.ensures.value ∙ c.in_err-tally.was)) in
+    let refused = to_new-refused (length c.args.table.now) c.args.bundle.now r (sym c.judge.ensures.value ∙ c.in_err-tally.was) in
+    let ends = ends-refused _ c.args.output.now r.number r.spot refused in
     record { value = rw (p.1, p.2) ends.0; output_after = ends.1; table_after = c.judge.ensures.table_after }
 
--- what the judge has shown
+-- the bundle's numbers are bytes
 bytes : (c : In_ok-tally) → Bytes c.args.bundle.now
 bytes c = λ i. omega (arith, c.type_inv.bundle i)
 

@@ -1,5 +1,6 @@
 -- `editions::write_new` meets its contract: the bundle, 4, or the bundle in the new edition.
-use Rattle.std.proofs.Common.{◌≡◌, sym, ap, ◌∙◌, arith, refl, ◌+◌, true, false, length}
+use Rattle.std.proofs.Common.{◌≡◌, sym, ap, ◌∙◌, arith, refl, ◌+◌, ◌≤◌, true, false, length}
+use Rattle.limits.specs.Limits.{max_bundle_size}
 use Rattle.laws.specs.Clauses.{value-output_after}
 use Rattle.refusals.specs.Table.{bundle_length_number}
 use Rattle.refusals.proofs.Laws.{ends-refused}
@@ -18,7 +19,9 @@ returns-then-parts c =
     let edition = rw c.of-parts.ensures at c.of-parts.result.edition_is in
     let contents = contents_of c.args.bundle.now in
     let same = own-bytes contents c.requires true (sym edition ∙ c.if-parts.true) in
-    rw ((in_new-value contents c.args.bundle.now).1 (omega (arith, ap length same, ap length c.requires.layout, c.requires.limits.size), sym same)) c.copy.ensures
+    let fits : length (bytes_of (newer contents)) ≤ max_bundle_size =
+    omega (arith, ap length same, ap length c.requires.layout, c.requires.limits.size) in
+    rw ((in_new-value contents c.args.bundle.now).1 (fits, sym same)) c.copy.ensures
 
 -- the bundle is of the old edition
 is_old : (c : Else-parts) → (contents_of c.args.bundle.now).head.is_new ≡ false
@@ -33,7 +36,8 @@ words c =
     let front = rw c.of-parts.ensures at c.of-parts.result.front_is in
     c.from.ensures ∙ count-byte (contents_of c.args.bundle.now).head _ front
 
-size : (c : After-from) → length c.args.bundle.now + c.from.result + c.args.tally.by_weights ≡ length (bytes_of (newer (contents_of c.args.bundle.now)))
+size : (c : After-from) → length c.args.bundle.now + c.from.result + c.args.tally.by_weights
+    ≡ length (bytes_of (newer (contents_of c.args.bundle.now)))
 size c = omega (arith, words c, newer-size _ c.requires (is_old (goal.at.After-from c).Else-parts))
 
 pub overflow_add-size-2 : goal.overflow_add-size-2

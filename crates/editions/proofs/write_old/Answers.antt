@@ -20,7 +20,8 @@ returns-then-not-parts c =
     let edition = rw c.of-parts.ensures at c.of-parts.result.edition_is in
     let contents = contents_of c.args.bundle.now in
     let old = sym edition ∙ c.if-not-parts.true in
-    rw ((in_old-value contents c.args.bundle.now).1 ((old-convertible contents c.requires old).partial, sym (own-bytes contents c.requires false old))) c.copy.ensures
+    let same = own-bytes contents c.requires false old in
+    rw ((in_old-value contents c.args.bundle.now).1 ((old-convertible contents c.requires old).partial, sym same)) c.copy.ensures
 
 pub returns-in-Some : goal.returns-in-Some
 returns-in-Some c =
@@ -47,7 +48,8 @@ words c =
     let front = rw c.of-parts.ensures at c.of-parts.result.front_is in
     c.from.ensures ∙ count-byte (contents_of c.args.bundle.now).head _ front
 
-size : (c : After-from) → length (bytes_of (older (contents_of c.args.bundle.now))) + c.from.result + c.args.tally.by_weights ≡ length c.args.bundle.now
+size : (c : After-from) → length (bytes_of (older (contents_of c.args.bundle.now))) + c.from.result + c.args.tally.by_weights
+    ≡ length c.args.bundle.now
 size c =
     let at = goal.at.After-from c in
     let edition = rw c.of-parts.ensures at c.of-parts.result.edition_is in
@@ -62,7 +64,8 @@ overflow_sub-size-2 c = omega (arith, size (goal.at.overflow_sub-size-2 c).After
 pub convert-requires : goal.convert-requires
 convert-requires c =
     let at = goal.at.convert-requires c in
-    rw c.of-parts.ensures (record { plain = partial-convertible (contents_of c.args.bundle.now) c.requires (none at.In_default); size = omega (arith, size at.After-from) })
+    let plain = partial-convertible (contents_of c.args.bundle.now) c.requires (none at.In_default) in
+    rw c.of-parts.ensures (record { plain = plain; size = omega (arith, size at.After-from) })
 
 pub returns : goal.returns
 returns c =

@@ -21,7 +21,8 @@ unfolding rewritten
 loop-certificate-init c = pushed-none c.args.writer.now
 
 -- there is room for all of them
-room : (c : Start) → HasRoom c.args.writer.now (rewritten (λ i. certificate_bytes c.args.is_new) (contents_of c.args.parts.now.bundle.now).certificates)
+room : (c : Start)
+    → HasRoom c.args.writer.now (rewritten (λ i. certificate_bytes c.args.is_new) (contents_of c.args.parts.now.bundle.now).certificates)
 room c = rw (rewritten-each (certificate_bytes c.args.is_new) (contents_of c.args.parts.now.bundle.now).certificates) c.requires.room
 
 -- the loop goes over the certificates
@@ -61,32 +62,37 @@ as_weights c =
     let there = (turn (goal.at.In-Weights c).In-Some).0 in
     rw parts.edition_is
     (weights-piece contents.head.is_new c.args.is_new _ c.in-Weights.bytes.now (ap shown (sym c.in-Weights.is) ∙ in_walk c)
-    (every_member NoPairs contents.certificates c.requires.pairs (get_d_member contents.certificates (length c.loop-certificate.yielded) no_certificate there)))
+    (every_member NoPairs contents.certificates c.requires.pairs
+    (get_d_member contents.certificates (length c.loop-certificate.yielded) no_certificate there)))
 
 pub push-requires : goal.push-requires
 push-requires c =
     let at = goal.at.push-requires c in
-    piece-room (λ i. certificate_bytes c.args.is_new) (contents_of c.args.parts.now.bundle.now).certificates _ c.loop-certificate.invariant no_certificate
+    piece-room (λ i. certificate_bytes c.args.is_new) (contents_of c.args.parts.now.bundle.now).certificates _
+    c.loop-certificate.invariant no_certificate
     (turn at.In-Some).0 (room at.Start) _ (as_place at.In-Place ∙ ap (λ (kind : ℕ). kind ∷ c.in-Place.place ∷ []) (sym c.from.ensures))
 
 pub loop-certificate-preserved-in-Place : goal.loop-certificate-preserved-in-Place
 loop-certificate-preserved-in-Place c =
     let at = goal.at.loop-certificate-preserved-in-Place c in
     rw length-append
-    (piece-pushed (λ i. certificate_bytes c.args.is_new) (contents_of c.args.parts.now.bundle.now).certificates _ c.loop-certificate.invariant no_certificate
+    (piece-pushed (λ i. certificate_bytes c.args.is_new) (contents_of c.args.parts.now.bundle.now).certificates _
+    c.loop-certificate.invariant no_certificate
     (turn at.In-Some).0 (room at.Start) _ (as_place at.In-Place) (rw c.from.ensures at c.push.ensures))
 
 pub overflow_sub-terms : goal.overflow_sub-terms
 overflow_sub-terms c =
     let at = goal.at.overflow_sub-terms c in
-    omega (arith, c.from-in-Weights.ensures, ap bool_byte c.args.parts.now.edition_is, pairless-fits _ _ c.in-Weights.bytes.now (ap shown (sym c.in-Weights.is) ∙ in_walk at.In-Weights))
+    let fits = pairless-fits _ _ c.in-Weights.bytes.now (ap shown (sym c.in-Weights.is) ∙ in_walk at.In-Weights) in
+    omega (arith, c.from-in-Weights.ensures, ap bool_byte c.args.parts.now.edition_is, fits)
 
 -- there is room for both pieces
 room_for : (c : In-Weights) → HasRoom c.loop-certificate.writer
     (take (length c.in-Weights.bytes.now - bool_byte c.args.parts.now.is_new) c.in-Weights.bytes.now ++ take (bool_byte c.args.is_new) (0 ∷ []))
 room_for c =
     let at = goal.at.In-Weights c in
-    piece-room (λ i. certificate_bytes c.args.is_new) (contents_of c.args.parts.now.bundle.now).certificates _ c.loop-certificate.invariant no_certificate
+    piece-room (λ i. certificate_bytes c.args.is_new) (contents_of c.args.parts.now.bundle.now).certificates _
+    c.loop-certificate.invariant no_certificate
     (turn at.In-Some).0 (room at.Start) _ (as_weights c)
 
 pub push-requires-in-Weights : goal.push-requires-in-Weights
@@ -106,7 +112,8 @@ loop-certificate-preserved c =
     let first = rw c.from-in-Weights.ensures at c.push-in-Weights.ensures in
     let second = rw c.from-in-Weights-2.ensures at c.push-in-Weights-2.ensures in
     rw length-append
-    (piece-pushed (λ i. certificate_bytes c.args.is_new) (contents_of c.args.parts.now.bundle.now).certificates _ c.loop-certificate.invariant no_certificate
+    (piece-pushed (λ i. certificate_bytes c.args.is_new) (contents_of c.args.parts.now.bundle.now).certificates _
+    c.loop-certificate.invariant no_certificate
     (turn at.In-Some).0 (room at.Start) _ (as_weights at.In-Weights) (pushed-next first _ (room_for at.In-Weights) second))
 
 pub returns : goal.returns

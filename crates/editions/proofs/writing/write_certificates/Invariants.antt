@@ -8,4 +8,5 @@ use Rattle.editions.proofs.writing.write_certificates.Given as goal
 
 abbrev pub invariant-loop-certificate : goal.invariant-loop-certificate
 invariant-loop-certificate l =
-    Pushed l.initial.writer l.writer (rewritten (λ i. certificate_bytes l.is_new) (take (length l.yielded) (contents_of l.parts.bundle.now).certificates))
+    Pushed l.initial.writer l.writer
+    (rewritten (λ i. certificate_bytes l.is_new) (take (length l.yielded) (contents_of l.parts.bundle.now).certificates))

@@ -25,7 +25,8 @@ unfolding front_bytes
 first c =
     let parts = c.args.parts.now in
     let contents = contents_of parts.bundle.now in
-    let byte = first-byte c.args.is_new contents parts.judged.limits (get_or parts.front.now 0 0) (ap (λ (l : List ℕ). get_or l 0 0) parts.front_is) in
+    let front = ap (λ (l : List ℕ). get_or l 0 0) parts.front_is in
+    let byte = first-byte c.args.is_new contents parts.judged.limits (get_or parts.front.now 0 0) front in
     ap₂ (λ (a b : ℕ). a ∷ b ∷ []) (rw c.from.ensures byte) (count-byte contents.head _ parts.front_is)
 
 -- where the writer stands behind each part
@@ -63,7 +64,8 @@ pub push-requires-3 : goal.push-requires-3
 push-requires-3 c =
     let (end, size) = behind_words (goal.at.push-requires-3 c).After-write_words in
     let places = ap length c.args.parts.now.places_are in
-    omega (arith, c.requires.room, lengths c.args.is_new (contents_of c.args.parts.now.bundle.now), end, size, places, c.push-2.ensures.ends, c.push-2.ensures.size)
+    let parts = lengths c.args.is_new (contents_of c.args.parts.now.bundle.now) in
+    omega (arith, c.requires.room, parts, end, size, places, c.push-2.ensures.ends, c.push-2.ensures.size)
 
 pub write_certificates-requires-clause-room : goal.write_certificates-requires-clause-room
 write_certificates-requires-clause-room c =
@@ -77,7 +79,8 @@ returns c =
     let p₁ = rw (first at.After-from) at c.push.ensures in
     let p₃ = rw parts.count_is at c.push-2.ensures in
     let p₄ = rw parts.places_are at c.push-3.ensures in
-    let all = all-pushed c.args.is_new (contents_of parts.bundle.now) p₁ c.write_words.ensures p₃ p₄ c.write_certificates.ensures refl c.requires.room in
+    let p₂ = c.write_words.ensures in
+    let all = all-pushed c.args.is_new (contents_of parts.bundle.now) p₁ p₂ p₃ p₄ c.write_certificates.ensures refl c.requires.room in
     let same = sym all.reference in
     let is = pushed-front all refl in
     search rules

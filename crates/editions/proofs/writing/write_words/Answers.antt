@@ -66,11 +66,13 @@ overflow_cast-word c = omega (arith, short (goal.at.overflow_cast-word c).In-Som
 
 pub push-requires : goal.push-requires
 push-requires c =
-    room-shorter _ _ (1 + bool_byte c.args.is_new) (omega (arith, c.from.ensures)) c.loop-word.writer (room-first c.loop-word.writer _ _ (room_for (goal.at.push-requires c).In-Some))
+    room-shorter _ _ (1 + bool_byte c.args.is_new) (omega (arith, c.from.ensures)) c.loop-word.writer
+    (room-first c.loop-word.writer _ _ (room_for (goal.at.push-requires c).In-Some))
 
 pub push-requires-in-loop-word : goal.push-requires-in-loop-word
 push-requires-in-loop-word c =
-    room-next _ _ (1 + bool_byte c.args.is_new) (omega (arith, c.from.ensures)) _ c.push.ensures (room_for (goal.at.push-requires-in-loop-word c).In-Some)
+    room-next _ _ (1 + bool_byte c.args.is_new) (omega (arith, c.from.ensures)) _ c.push.ensures
+    (room_for (goal.at.push-requires-in-loop-word c).In-Some)
 
 pub loop-word-preserved : goal.loop-word-preserved
 loop-word-preserved c =
