@@ -19,3 +19,4 @@ pub mod HeadReading
 pub mod Scaling
 pub mod NextPlace
 pub mod Keeping
+pub mod NetReading

@@ -48,6 +48,15 @@ fields_at n b at = record { initial = number_at b at; produced = numbers_at n b 
 abbrev pub place_on : ℕ → List ℕ → ℕ → theory.Place
 place_on n b at = to_place (fields_at n b at)
 
+-- its numbers for event e
+pub produced-at : (n : ℕ) (b : List ℕ) (at e : ℕ) → e < n → (place_on n b at).produced e ≡ number_at b (at + 2 * (1 + e))
+unfolding to_place
+produced-at n b at e h = get_d_items 1 number_at n b (at + 2) e 0 h ∙ ap (number_at b) (omega arith)
+
+pub consumed-at : (n : ℕ) (b : List ℕ) (at e : ℕ) → e < n → (place_on n b at).consumed e ≡ number_at b (at + 2 * (1 + n + e))
+unfolding to_place
+consumed-at n b at e h = get_d_items 1 number_at n b (at + 2 + 2 * n) e 0 h ∙ ap (number_at b) (omega arith)
+
 -- each number is a `u16`
 module _ (b : List ℕ) (small : Bytes b) where
   number_small : (at : ℕ) → number_at b at < 65536

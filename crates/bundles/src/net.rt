@@ -3,7 +3,7 @@ ghost use Rattle.std.specs.Prelude.{◌≡◌, cond, ◌+◌, ◌*◌, ◌≤◌
 ghost use Rattle.laws.specs.Numbers.{number_at};
 ghost use Rattle.limits.specs.Limits.{max_events, max_places};
 ghost use Rattle.bundles.specs.Readers.{places};
-ghost use Rattle.bundles.specs.PlaceReading.{place_size, numbers_at, fields_at, widened, machine_place, placed};
+ghost use Rattle.bundles.specs.PlaceReading.{place_size, numbers_at, fields_at, place_there, widened, machine_place, placed};
 
 use crate::Reader;
 use limits::{MAX_EVENTS, MAX_PLACES};
@@ -95,7 +95,7 @@ fn row_at(bundle: &[u8], at: usize, n: usize) -> [u16; MAX_EVENTS]
 }
 
 impl<'a> Net<'a> {
-    ghost use Rattle.bundles.specs.Keeping.{place_spot, PlacesOf};
+    ghost use Rattle.bundles.specs.Keeping.{kept, place_spot, PlacesOf};
 
     // The offset of place j, or the one behind the last place.
     #[inline(always)]
@@ -128,6 +128,27 @@ impl<'a> Net<'a> {
         ensures { result ≡ number_at self.now.bundle.now (place_spot self.now j) }
     {
         number_at(self.bundle, self.offset(j))
+    }
+
+    // The tokens that event e puts into place j, alone.
+    #[inline(always)]
+    pub fn produced(&self, j: usize, e: usize) -> u16
+        requires { (j < self.now.count) × (e < self.now.n) }
+        ensures { result ≡ (place_there (kept self.now) j).produced e }
+    {
+        number_at(self.bundle, self.offset(j) + 2 * (1 + e))
+    }
+
+    // Those that it takes from place j.
+    #[inline(always)]
+    pub fn consumed(&self, j: usize, e: usize) -> u16
+        requires { (j < self.now.count) × (e < self.now.n) }
+        ensures { result ≡ (place_there (kept self.now) j).consumed e }
+    {
+        number_at(
+            self.bundle,
+            self.offset(j) + 2 * (1 + usize::from(self.n) + e),
+        )
     }
 
     // Writes the places to the front of a list, by number, so that each is read once.

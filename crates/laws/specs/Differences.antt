@@ -1,9 +1,10 @@
 -- Signed numbers as differences of two natural numbers, `sub_ℕ a b`: each law takes a statement on signed numbers to one on natural
 -- numbers, which `omega` reads.
-use Rattle.std.specs.Prelude.{◌≡◌, refl, Bool, true, false, not, cond, ◌↔◌, ℕ, zero, suc, ◌+◌, ◌-◌, ◌*◌, ◌≤◌, ◌<◌, T, eqb, ltb, ℤ, pos, negsuc, neg_ℤ, ◌+ℤ◌, ◌-ℤ◌, ◌*ℤ◌, ◌≤ℤ◌}
+use Rattle.std.specs.Prelude.{◌≡◌, refl, Bool, true, false, not, cond, ◌↔◌, ℕ, zero, suc, ◌+◌, ◌-◌, ◌*◌, ◌≤◌, ◌<◌, T, eqb, leb, ltb, ℤ, pos, negsuc, neg_ℤ, ◌+ℤ◌, ◌-ℤ◌, ◌*ℤ◌, ◌≤ℤ◌}
 use Rattle.std.proofs.Common.{sym, ap, ap₂, ◌∙◌, subst, zero-le, add-zero, zero-mul, suc-mul, mul_comm, arith, eqb→eq, le→leb, leb→le, ltb-true, ltb-false, le-ltb, le-leb, ne_eqb}
 use Rattle.std.proofs.Math.IntN.{pos-ne-negsuc, sub_ℕ, +ℤ_assoc, +ℤ_comm, +ℤ_idl, +ℤ_idr, neg_ℤ-+ℤ, *ℤ_comm, zero-*ℤ, suc_ℤ-*ℤ}
 use Rattle.std.specs.Int.Signed.{mag, non_neg, le_z, le_z_yes, ≤ℤ_refl, yes_non_neg}
+use Rattle.laws.specs.Booleans.{same_test}
 use Rattle.laws.specs.Sums.{sum}
 
 pub difference : (a b : ℕ) → pos a -ℤ pos b ≡ sub_ℕ a b
@@ -185,6 +186,15 @@ negative-difference a b = go (ltb a b) refl
     go : (t : Bool) → ltb a b ≡ t → negative_part (cond t (negsuc (b - suc a)) (pos (a - b))) ≡ b - a
     go true e = omega (arith, ltb-true a b e)
     go false e = omega (arith, ltb-false a b e)
+
+-- a natural number covers another exactly when it is as large, and what is missing is the difference
+pub covers-exactly : (t c : ℕ) → leb c t ≡ non_neg (pos t -ℤ pos c)
+covers-exactly t c = same_test (leb c t) (non_neg (pos t -ℤ pos c))
+    (λ h. subst (λ (z : ℤ). T (non_neg z)) (sym (difference t c)) ((non_neg_difference t c).1 (leb→le c t h)))
+    (λ h. le→leb c t ((non_neg_difference t c).0 (subst (λ (z : ℤ). T (non_neg z)) (difference t c) h)))
+
+pub missing-is : (t c : ℕ) → c - t ≡ negative_part (pos t -ℤ pos c)
+missing-is t c = sym (negative-difference t c) ∙ ap negative_part (sym (difference t c))
 
 -- ---- The two parts of a signed number
 

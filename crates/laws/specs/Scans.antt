@@ -266,6 +266,20 @@ module _ {A : Type 0} (test : A → Bool) (d : A) where
       from : (k < length l) × (test (get_or l k d) ≡ false) × ((j : ℕ) → j < k → test (get_or l j d) ≡ true) → (k ≡ first_failing test l) × (all test l ≡ false)
       from (h, here, below) = let is = failing-is l k h here below in (sym is, failing-some test l (rw is h))
 
+-- tests that agree on the numbers below n fail first at the same one
+pub first_false-same : (f g : ℕ → Bool) (n : ℕ) → ((k : ℕ) → k < n → f k ≡ g k) → first_false f n ≡ first_false g n
+unfolding first_false
+first_false-same f g zero same = refl
+first_false-same f g (suc n) same =
+    ap₂ (λ (b : Bool) (m : ℕ). cond b (suc m) 0) (same 0 (zero-lt-suc n))
+    (first_false-same (λ k. f (suc k)) (λ k. g (suc k)) n (λ k h. same (suc k) (suc-le-suc h)))
+
+-- a test of each element, by its number
+pub failing-numbered : {A : Type 0} (test : A → Bool) (d : A) (l : List A) → first_failing test l ≡ first_false (λ k. test (get_or l k d)) (length l)
+unfolding first_failing first_false
+failing-numbered test d [] = refl
+failing-numbered test d (x ∷ l) = ap (λ (k : ℕ). cond (test x) (suc k) 0) (failing-numbered test d l)
+
 -- of the images of a list, where the tests agree
 pub failing-map : {A B : Type 0} (p : B → Bool) (q : A → Bool) (f : A → B) → ((x : A) → q x ≡ p (f x)) → (l : List A) → first_failing q l ≡ first_failing p (map f l)
 unfolding first_failing

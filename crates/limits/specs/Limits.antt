@@ -69,3 +69,7 @@ new_edition = 128
 -- the events of a screened word
 abbrev pub max_word_events : ℕ
 max_word_events = 65535
+
+-- the most tokens that a run can leave in a place: 65,535 at first, and 65,535 more at each of 65,535 events
+abbrev pub max_tokens : ℕ
+max_tokens = 4294901760

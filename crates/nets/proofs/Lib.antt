@@ -21,3 +21,5 @@ pub mod TokenGame
 pub mod Entries
 pub mod Completed
 pub mod CompletedCases
+pub mod Carrying
+pub mod Plays

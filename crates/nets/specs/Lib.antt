@@ -26,3 +26,4 @@ pub mod Entries
 pub mod Completed
 pub mod Wide
 pub mod Pruning
+pub mod Carrying

@@ -3,3 +3,4 @@ pub mod Results
 pub mod Answers
 pub mod Laws
 pub mod Exactly
+pub mod Tests

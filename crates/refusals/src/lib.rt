@@ -27,7 +27,7 @@ pub enum Cause {
     OutputShort = 3,
     // A bundle's length is 0 or above 64,512, or that of a bundle that would be written is above it.
     BundleLength = 4,
-    // A slice of numbers that the call writes is too short; today this is the table.
+    // A slice of numbers that the call writes is too short: the table, or the tokens of places.
     NumbersShort = 5,
     // The bundle ends before or inside a field.
     BundleEnd = 6,
@@ -45,11 +45,11 @@ pub enum Cause {
     Weights = 12,
     // Bytes follow the last certificate.
     BytesFollow = 13,
-    // A screened word is above 65,535 events.
+    // A screened word is above 65,535 events, or a run would be.
     WordLength = 14,
-    // A screened event is not below n.
+    // An event of a screened word, or of a run, is not below n.
     WordEvent = 15,
-    // A state that is handed back to a call is outside its ranges; today this is a summary.
+    // A state that is handed back to a call is outside its ranges: a summary, or the tokens of places.
     StateRange = 16,
     // A block's number is not its position.
     BlockNumber = 17,
@@ -59,7 +59,7 @@ pub enum Cause {
     EventCounts = 19,
     // A place does not obey a completed word of the log: its effect on the place is not 0.
     PlaceDisobeys = 20,
-    // A word is completed, and the old edition has none.
+    // A word is completed, and the old edition has no mark for it.
     WordCompleted = 21,
 }
 

@@ -1,12 +1,12 @@
 -- The exits of screening, with one bundle and with two, each with the answer that the definition gives there.
-use Rattle.std.specs.Prelude.{◌≡◌, Bool, true, false, List, [], ℕ, ◌≤◌, ◌<◌, eqb, leb, length, Err, None, Ok, Option, Some}
+use Rattle.std.specs.Prelude.{◌≡◌, true, List, [], ℕ, ◌≤◌, ◌<◌, eqb, leb, length, Err, None, Ok, Option, Some}
 use Rattle.std.proofs.Common.{refl, sym, ◌∙◌, le_of_eq, arith}
 use Rattle.std.proofs.Math.Dec.{ltb}
 use borrow.Author.Tests.{le-leb, lt-leb, leb-true, leb-false, eq-eqb, ne_eqb}
-use Rattle.laws.specs.Booleans.{impossible}
 use Rattle.laws.specs.Lists.{all}
 use Rattle.laws.specs.Scans.{failing-all, failing-some, all-failing, some-failing}
 use Rattle.refusals.specs.Answers.{Answer, answered}
+use Rattle.refusals.specs.Tests.{test-passed, test-failed}
 use Rattle.limits.specs.Limits.{max_places, max_word_events}
 use Rattle.refusals.specs.Table.{word_length_number, word_event_number, event_counts_number}
 use Rattle.refusals.specs.Results.{value, refused, bind, require}
@@ -15,9 +15,8 @@ use Rattle.refusals.specs.declared.Refusal.{Refusal}
 use Rattle.nets.specs.Nets.{Word, Net, join, screen}
 use Rattle.nets.specs.Events.{first_bad, none_bad}
 use Rattle.std.specs.Borrow.{Bor}
-use Rattle.bundles.specs.Readers.{read_head, head_of, events_in, net_in, bundle_head}
-use Rattle.bundles.specs.HeadReading.{HeadAt, HeadIsRead, head_read, kept_read}
-use Rattle.bundles.specs.Keeping.{kept}
+use Rattle.bundles.specs.Readers.{read_head, head_of, events_in, net_in}
+use Rattle.bundles.specs.NetReading.{NetOf}
 use Rattle.bundles.specs.declared.net.Net as bundles
 use Rattle.stops.specs.Onward.{Searched}
 use Rattle.stops.specs.declared.Search.{Search}
@@ -42,18 +41,6 @@ unfolding replayed stop_or_end
 found_means n net w None finds = rw (best-permitted n finds.best (omega arith))
 found_means n net w (Some s) finds = rw (best-stopped n finds.best (finds.inside s refl))
 
--- a net that was read from a bundle is the bundle's
-pub record NetOf (b : List ℕ) (net : bundles.Net) : Type 0 where
-  pub found : HeadAt (kept net)
-  pub events : events_in b ≡ net.n
-  pub same : net.bundle.now ≡ b
-  pub read : HeadIsRead b
-
-pub net-of : (bundle : Bor (List ℕ)) (net : bundles.Net) → Ok (kept net) ≡ head_read bundle (bundle_head bundle.now 0) → NetOf bundle.now net
-net-of bundle net e =
-    let (found, same, read) = kept_read bundle (kept net) (sym e) in
-    record { found = found; events = rw same at found.events; same = same; read = read }
-
 -- a word that passed the tests may be searched in its places, behind so few others
 abbrev pub search_in : {b : List ℕ} {net : bundles.Net} → NetOf b net → (word : Bor (List ℕ)) → length word.now ≤ max_word_events
     → length word.now ≤ first_bad net.n word.now → (before : ℕ) → before ≤ max_places → Search
@@ -76,26 +63,6 @@ module _ {b : List ℕ} {w : Word} where
   search-on s n one net is size events finds searched = rw events (rw is at (rw net.same at (searched one size (rw (net.same, is) (rw events at finds)))))
 
 -- ---- the tests, as the code answers them
-
--- a test that a chain makes
-module _ (number spot : ℕ) where
-  pub test-passes : {ok : Bool} → ok ≡ true → Ok (tt {0}) ≡ answered (require ok number spot)
-  unfolding answered require
-  test-passes e = rw e
-
-  pub test-fails : {ok : Bool} → ok ≡ false → Err (refusal number spot) ≡ answered (require ok number spot)
-  unfolding answered require
-  test-fails e = rw e
-
-  pub test-passed : (ok : Bool) {u : Unit {0}} → Ok u ≡ answered (require ok number spot) → ok ≡ true
-  unfolding answered require
-  test-passed true e = refl
-  test-passed false e = impossible cc
-
-  pub test-failed : (ok : Bool) {r : Refusal} → Err r ≡ answered (require ok number spot) → (ok ≡ false) × (r ≡ refusal number spot)
-  unfolding answered require
-  test-failed true e = impossible cc
-  test-failed false e = (refl, (cc))
 
 module _ (w : Word) where
   -- 14

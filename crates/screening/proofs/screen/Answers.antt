@@ -4,7 +4,8 @@ use Rattle.std.proofs.Common.{refl, ap, sym, ◌∙◌, arith}
 use Rattle.std.proofs.lemmas.Result.{err_from_is_err_and}
 use Rattle.bundles.specs.HeadReading.{kept-refused}
 use Rattle.stops.specs.Positions.{stop_or_end}
-use Rattle.screening.specs.ScreenLaws.{length-failed, length-passed, events-failed, events-passed, word-long, head_wrong, word_wrong, word-right, found_means, net-of, search_in, search-first}
+use Rattle.bundles.specs.NetReading.{net-of}
+use Rattle.screening.specs.ScreenLaws.{length-failed, length-passed, events-failed, events-passed, word-long, head_wrong, word_wrong, word-right, found_means, search_in, search-first}
 use Rattle.screening.proofs.screen.Goals as goal
 
 pub returns-in_err-test_length : goal.returns-in_err-test_length

@@ -8,7 +8,8 @@ use Rattle.bundles.specs.Keeping.{kept}
 use Rattle.stops.specs.Positions.{Finds, stop_or_end}
 use Rattle.stops.specs.Searching.{WordOver}
 use Rattle.stops.specs.declared.Search.{Search}
-use Rattle.screening.specs.ScreenLaws.{length-failed, length-passed, events-failed, events-passed, joined-long, first_wrong, second_wrong, counts-differ, joined_wrong, joined-right, found_means, net-of, search_in, search-first, search-on}
+use Rattle.bundles.specs.NetReading.{net-of}
+use Rattle.screening.specs.ScreenLaws.{length-failed, length-passed, events-failed, events-passed, joined-long, first_wrong, second_wrong, counts-differ, joined_wrong, joined-right, found_means, search_in, search-first, search-on}
 use Rattle.screening.proofs.screen_joined.Goals as goal
 use Rattle.screening.proofs.screen_joined.Goals.{In_ok-test_events, After-search_places-from}
 

@@ -2,7 +2,7 @@
 use Rattle.std.specs.Prelude.{Err}
 use Rattle.std.proofs.Common.{ap, sym, ◌∙◌}
 use Rattle.places.specs.Words.{bad_event-none, bad_event-some}
-use Rattle.screening.specs.ScreenLaws.{test-passes, test-fails}
+use Rattle.refusals.specs.Tests.{test-passes, test-fails}
 use Rattle.screening.proofs.test_events.Goals as goal
 
 pub returns-in-Some : goal.returns-in-Some

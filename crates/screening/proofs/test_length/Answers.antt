@@ -2,7 +2,7 @@
 use Rattle.std.specs.Prelude.{Err}
 use Rattle.std.proofs.Common.{ap, ◌∙◌, le-leb}
 use Rattle.std.proofs.lemmas.Bool.{lt-leb}
-use Rattle.screening.specs.ScreenLaws.{test-passes, test-fails}
+use Rattle.refusals.specs.Tests.{test-passes, test-fails}
 use Rattle.screening.proofs.test_length.Goals as goal
 
 pub returns-then-word-gt-MAX_WORD_EVENTS : goal.returns-then-word-gt-MAX_WORD_EVENTS

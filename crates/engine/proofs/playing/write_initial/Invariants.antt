@@ -1,0 +1,8 @@
+-- `engine::playing::write_initial` meets its contract. The loop's invariant: the tokens of the places below j are written.
+use Rattle.std.proofs.Common.{◌≡◌, ℕ, ◌<◌, get_or}
+use Rattle.nets.specs.Carrying.{initials}
+use Rattle.engine.specs.Playing.{places_of}
+use Rattle.engine.proofs.playing.write_initial.Given as goal
+
+abbrev pub invariant-loop-j : goal.invariant-loop-j
+invariant-loop-j l = (i : ℕ) → i < l.j → get_or l.tokens-items i 0 ≡ get_or (initials (places_of l.net)) i 0
