@@ -3,7 +3,7 @@
 -- 'Every call returns HOV_OK for a result, else the number of a refusal; screening has a second result, HOV_STOPPED. A refusal's spot is in
 -- answer[0]; where a result is, each call says. Numbers of answer that a call does not use stay as they were.' (include/hovmekhar.h)
 use Rattle.std.specs.Prelude.{◌≡◌, ◌↔◌, List, ℕ, length, get_or, Err, None, Ok, Some}
-use Rattle.refusals.specs.Answers.{answer, number_of}
+use Rattle.refusals.specs.Answers.{Answer, answer, number_of}
 use Rattle.refusals.specs.declared.Refusal.{Refusal}
 use Rattle.refusals.specs.Answers.{Written}
 use Rattle.block.specs.File.{opened, sealed}
@@ -19,7 +19,10 @@ use Rattle.screening.specs.Screening.{screened, screened_joined, screened_number
 use Rattle.screening.specs.Screening.{Screened}
 use Rattle.editions.specs.Converting.{converting_to_new, converting_to_old}
 use Rattle.pruning.specs.Pruning.{pruning}
-use Rattle.numbers.specs.Numbers.{with_value, with_taken, with_verdict, with_screened}
+use Rattle.engine.specs.declared.Outcome.{Outcome}
+use Rattle.engine.specs.declared.Outcome.TheVariants.{Moved, Stopped}
+use Rattle.demands.specs.Carrying.{start_answer, step_answer}
+use Rattle.numbers.specs.Numbers.{with_value, with_taken, with_verdict, with_screened, stepped_number, with_stepped}
 
 -- In each line `old` is what `answer` held before, `new` what it holds afterwards, and `result` what is returned.
 
@@ -61,6 +64,14 @@ pub record ScreenedOut (s : Screened) (result : ℕ) (old new : List ℕ) : Type
   pub stopped : (t : Stop) → s ≡ Ok (Some t) → Numbers new t.position t.place t.shortfall (get_or old 3 0)
   pub refused : (r : Refusal) → s ≡ Err r → RefusedOut r result old new
 
+-- a step of the carried engine: 0 exactly for a permitted event, and the next number; 256 exactly for a stop: position, place and shortfall
+pub record SteppedOut (a : Answer Outcome) (result : ℕ) (old new : List ℕ) : Type 0 where
+  pub ok : (result ≡ 0) ↔ ((next : ℕ) × (a ≡ Ok (Moved next)))
+  pub stop : (result ≡ 256) ↔ ((s : Stop) × (a ≡ Ok (Stopped s)))
+  pub moved : (next : ℕ) → a ≡ Ok (Moved next) → Numbers new next (get_or old 1 0) (get_or old 2 0) (get_or old 3 0)
+  pub stopped : (s : Stop) → a ≡ Ok (Stopped s) → Numbers new s.position s.place s.shortfall (get_or old 3 0)
+  pub refused : (r : Refusal) → a ≡ Err r → RefusedOut r result old new
+
 -- ---- The calls: `result` and `new` are those of their contracts, and `answer` has four numbers
 
 abbrev pub Writes : Written → Type 0
@@ -75,6 +86,9 @@ Judges v = (old : List ℕ) → length old ≡ 4 → VerdictOut v (verdict_numbe
 abbrev pub Screens : Screened → Type 0
 Screens s = (old : List ℕ) → length old ≡ 4 → ScreenedOut s (screened_number s) old (with_screened old s)
 
+abbrev pub Steps : Answer Outcome → Type 0
+Steps a = (old : List ℕ) → length old ≡ 4 → SteppedOut a (stepped_number a) old (with_stepped old a)
+
 pub record Boundary : Type 0 where
   pub hov_open : (file output : List ℕ) → Writes (answer (opened file) (length output))
   pub hov_seal : (b output : List ℕ) → Writes (answer (sealed b) (length output))
@@ -86,3 +100,6 @@ pub record Boundary : Type 0 where
   pub hov_prune : (b output table : List ℕ) → Writes (answer (pruning (length table) b) (length output))
   pub hov_to_new : (b output table : List ℕ) → Writes (answer (converting_to_new (length table) b) (length output))
   pub hov_to_old : (b output table : List ℕ) → Writes (answer (converting_to_old (length table) b) (length output))
+  -- a start call: 0, and the number of events so far, which is 0
+  pub hov_start : (b ts : List ℕ) → Writes (start_answer b ts)
+  pub hov_step : (b ts : List ℕ) (number event : ℕ) → Steps (step_answer b ts number event)

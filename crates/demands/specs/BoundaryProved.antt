@@ -4,7 +4,7 @@ use Rattle.std.proofs.Common.{sym, ap, subst, arith}
 use Rattle.laws.specs.Booleans.{impossible}
 use Rattle.laws.specs.Lists.{any, among, not-among}
 use Rattle.refusals.specs.Results.{Result, value, refused, Refuses}
-use Rattle.refusals.specs.Answers.{refusal, answer, number_of, value_of}
+use Rattle.refusals.specs.Answers.{Answer, refusal, answer, number_of, value_of}
 use Rattle.refusals.proofs.Laws.{refuses-fitted, answer-refused}
 use Rattle.refusals.specs.declared.Refusal.{Refusal}
 use Rattle.refusals.specs.Answers.{Written}
@@ -27,8 +27,12 @@ use Rattle.screening.specs.RefusalNumbers.{screening-refuses, joining-refuses}
 use Rattle.screening.specs.Screening.{Screened}
 use Rattle.editions.specs.RefusalNumbers.{to_new-refuses, to_old-refuses}
 use Rattle.pruning.specs.RefusalNumbers.{pruning-refuses}
-use Rattle.numbers.specs.Numbers.{with_value, with_taken, with_verdict, with_screened}
-use Rattle.demands.specs.Boundary.{Numbers, RefusedOut, Writes, Takes, Judges, Screens, Boundary}
+use Rattle.engine.specs.RefusalNumbers.{start_numbers, start_numbers_lem, step_numbers, step_numbers_lem}
+use Rattle.engine.specs.declared.Outcome.{Outcome}
+use Rattle.engine.specs.declared.Outcome.TheVariants.{Moved, Stopped}
+use Rattle.demands.specs.Carrying.{start_answer, step_answer}
+use Rattle.numbers.specs.Numbers.{with_value, with_taken, with_verdict, with_stop, with_screened, stepped_number, with_stepped}
+use Rattle.demands.specs.Boundary.{Numbers, RefusedOut, Writes, Takes, Judges, Screens, Steps, Boundary}
 
 -- ---- Four numbers, of which some are set
 
@@ -109,6 +113,13 @@ verdict_out (Err r) never old size = record {
   refused = λ s e. refused_out old size r s cc;
 }
 
+-- a stop handed out
+stop_out : (old : List ℕ) → length old ≡ 4 → (t u : Stop) → t ≡ u → Numbers (with_stop old t) u.position u.place u.shortfall (get_or old 3 0)
+unfolding with_stop
+stop_out old size t u same =
+    subst (λ (x : Stop). Numbers (with_stop old t) x.position x.place x.shortfall (get_or old 3 0)) same
+    (three-set old size t.position t.place t.shortfall)
+
 screened_out : (s : Screened) → ((r : Refusal) → s ≡ Err r → r.number ≡ 0 → ⊥)
     → ((r : Refusal) → s ≡ Err r → r.number ≡ 256 → ⊥) → Screens s
 unfolding screened_number with_screened
@@ -123,10 +134,7 @@ screened_out (Ok (Some t)) never nor old size = record {
   ok = ((λ z. absurd (omega (arith, z))), λ e. impossible cc);
   stop = ((λ z. (t, refl)), λ h. refl);
   permitted = λ e. impossible cc;
-  stopped = λ u e. let same : t ≡ u = cc in
-      subst (λ (x : Stop). Numbers (set (set (set old 0 t.position) 1 t.place) 2 t.shortfall)
-      x.position x.place x.shortfall (get_or old 3 0)) same
-      (three-set old size t.position t.place t.shortfall);
+  stopped = λ u e. stop_out old size t u cc;
   refused = λ r e. impossible cc;
 }
 screened_out (Err r) never nor old size = record {
@@ -134,6 +142,32 @@ screened_out (Err r) never nor old size = record {
   stop = ((λ z. absurd (nor r refl z)), λ (t, e). impossible cc);
   permitted = λ e. impossible cc;
   stopped = λ t e. impossible cc;
+  refused = λ s e. refused_out old size r s cc;
+}
+
+stepped_out : (a : Answer Outcome) → ((r : Refusal) → a ≡ Err r → r.number ≡ 0 → ⊥)
+    → ((r : Refusal) → a ≡ Err r → r.number ≡ 256 → ⊥) → Steps a
+unfolding stepped_number with_stepped
+stepped_out (Ok (Moved next)) never nor old size = record {
+  ok = ((λ z. (next, refl)), λ h. refl);
+  stop = ((λ z. absurd (omega (arith, z))), λ (s, e). impossible cc);
+  moved = λ k e. let same : next ≡ k = cc in
+      subst (λ (x : ℕ). Numbers (set old 0 next) x (get_or old 1 0) (get_or old 2 0) (get_or old 3 0)) same (one_set old size next);
+  stopped = λ s e. impossible cc;
+  refused = λ r e. impossible cc;
+}
+stepped_out (Ok (Stopped t)) never nor old size = record {
+  ok = ((λ z. absurd (omega (arith, z))), λ (k, e). impossible cc);
+  stop = ((λ z. (t, refl)), λ h. refl);
+  moved = λ k e. impossible cc;
+  stopped = λ u e. stop_out old size t u cc;
+  refused = λ r e. impossible cc;
+}
+stepped_out (Err r) never nor old size = record {
+  ok = ((λ z. absurd (never r refl z)), λ (k, e). impossible cc);
+  stop = ((λ z. absurd (nor r refl z)), λ (s, e). impossible cc);
+  moved = λ k e. impossible cc;
+  stopped = λ s e. impossible cc;
   refused = λ s e. refused_out old size r s cc;
 }
 
@@ -184,4 +218,8 @@ boundary = record {
   hov_prune = λ b output table. writes (pruning-refuses (length table) b) refl refl (length output);
   hov_to_new = λ b output table. writes (to_new-refuses (length table) b) refl refl (length output);
   hov_to_old = λ b output table. writes (to_old-refuses (length table) b) refl refl (length output);
+  hov_start = λ b ts. written_out (start_answer b ts) (λ r e is. not-among start_numbers 0 r.number refl (start_numbers_lem b ts r e) (sym is));
+  hov_step = λ b ts number event. stepped_out (step_answer b ts number event)
+      (λ r e is. not-among step_numbers 0 r.number refl (step_numbers_lem b ts number event r e) (sym is))
+      (λ r e is. not-among step_numbers 256 r.number refl (step_numbers_lem b ts number event r e) (sym is));
 }

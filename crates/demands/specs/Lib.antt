@@ -13,6 +13,8 @@ pub mod Outputs
 pub mod Converting
 pub mod Pruning
 pub mod Sealing
+pub mod Carrying
+pub mod Carried
 pub mod Boundary
 pub mod Demands
 pub mod OpeningProved
@@ -34,6 +36,9 @@ pub mod Alike
 pub mod ConvertedProved
 pub mod PruningProved
 pub mod TrafficProved
+pub mod CarryingProved
+pub mod CarriedProved
+pub mod CarriedWhole
 pub mod BoundaryProved
 pub mod Proved
 pub mod OldJudgeProved
@@ -43,6 +48,7 @@ pub mod JoiningProved
 pub mod CallSamples
 pub mod CompletedSamples
 pub mod ConvertingSamples
+pub mod CarryingSamples
 pub mod Met
 pub mod CompletedBytes
 pub mod CompletedPairs

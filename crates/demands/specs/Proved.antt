@@ -33,6 +33,7 @@ use Rattle.demands.specs.JudgingProved.{judge_exactly, fields-exactly}
 use Rattle.demands.specs.ScreeningProved.{screen-exactly, join-exactly}
 use Rattle.demands.specs.PruningProved.{prune-exactly}
 use Rattle.demands.specs.ConvertingProved.{to_new-exactly, to_old-exactly}
+use Rattle.demands.specs.CarryingProved.{calls-of-engine}
 use Rattle.demands.specs.BoundaryProved.{boundary}
 use Rattle.demands.specs.Accepting.{acceptance-asks, counts_are, regions-exactly}
 use Rattle.demands.specs.Comparing.{accepted-head, net-complete, net-suboptimal, table-left, numbers-left, compared}
@@ -51,6 +52,7 @@ demand_1 = record {
   to_new-exactly = λ table_length b room bytes. to_new-exactly table_length b bytes room;
   to_old-exactly = λ table_length b room bytes. to_old-exactly table_length b bytes room;
   fields-exactly = fields-exactly;
+  engine = calls-of-engine;
   boundary = boundary;
   refusals_of_open = open_numbers_lem;
   refusals_of_seal = seal_numbers_lem;

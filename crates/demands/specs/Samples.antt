@@ -22,7 +22,7 @@ use Rattle.bundles.specs.Readers.{head, bundle_size, bundle_head, read_head, ter
 use Rattle.verdicts.specs.Judging.{unsolved, solved, at_end, after_head, contents, judging, judged, Verdict, verdict_of, verdict, verdict_number}
 use Rattle.verdicts.specs.declared.Tally.{Tally}
 use Rattle.screening.specs.Screening.{word_on, screening, joining, replayed, screened_of, screened, screened_joined, screened_number, Screened}
-use Rattle.numbers.specs.Numbers.{with_verdict, with_screened}
+use Rattle.numbers.specs.Numbers.{with_verdict, with_stop, with_screened}
 
 -- 0 and the four counts, or the refusal's number and spot
 unfoldable pub of_verdict : Verdict → List ℕ
@@ -193,8 +193,8 @@ pub record Computed : Type 0 where
   pub refuses10 : permits (events_in bytes_a) (net_in bytes_a) (1 ∷ 0 ∷ []) ≡ false
 
 pub computed : Computed
-unfolding of_verdict of_screened handed_verdict handed_screened verdict_number with_verdict screened_number with_screened bytes_a bytes_q bytes_r
-    bytes_four log_i samples all any keep tabulate equal number_at first_failing negative_part sumℤ same occurrences event_count weighed beginnings
+unfolding of_verdict of_screened handed_verdict handed_screened verdict_number with_verdict screened_number with_stop with_screened bytes_a bytes_q
+    bytes_r bytes_four log_i samples all any keep tabulate equal number_at first_failing negative_part sumℤ same occurrences event_count weighed beginnings
     prefixes add_row counts tokens surplus place_permits shortfall net_permits first_refusing shortfall_of stopped_at screen_after screen rows
     allowed passes traffic row_steps continuations allowed_steps wrong_continuations fits refused_by weighs_before weighs_after weights_hold solves
     is_by_place tally first_bad flat_map bind results.require onward item_in require field byte number each words completed_words is_zero_ℤ

@@ -18,7 +18,7 @@ use Rattle.screening.specs.Screens.{Readable, stopped-exactly, readable-below, r
 use Rattle.stops.specs.declared.Stop.{Stop}
 use Rattle.demands.specs.Shortfalls.{StopLacks, Request2}
 
-two_bytes : (l : List ℕ) → Every TwoBytes l → (i : ℕ) → get_or l i 0 ≤ 65535
+pub two_bytes : (l : List ℕ) → Every TwoBytes l → (i : ℕ) → get_or l i 0 ≤ 65535
 two_bytes [] v i = omega arith
 two_bytes (x ∷ l) v zero = omega (arith, v.0)
 two_bytes (x ∷ l) v (suc i) = two_bytes l v.1 i

@@ -4,7 +4,10 @@ use Rattle.refusals.specs.Answers.{Answer, Written, number_of, value_of}
 use Rattle.refusals.specs.declared.Refusal.{Refusal}
 use Rattle.logs.specs.Answers.{Taken, taken_number}
 use Rattle.verdicts.specs.Judging.{Verdict, verdict_number}
-use Rattle.screening.specs.Screening.{Screened, screened_number}
+use Rattle.screening.specs.Screening.{Screened, screened_number, stopped_number}
+use Rattle.stops.specs.declared.Stop.{Stop}
+use Rattle.engine.specs.declared.Outcome.{Outcome}
+use Rattle.engine.specs.declared.Outcome.TheVariants.{Moved, Stopped}
 
 -- a length, or a refusal's spot, in the first; the others stay
 unfoldable pub with_value : List ℕ → Written → List ℕ
@@ -20,11 +23,27 @@ unfoldable pub with_verdict : List ℕ → Verdict → List ℕ
 with_verdict numbers (Ok c) = set (set (set (set numbers 0 c.rows) 1 c.allowed) 2 c.by_place) 3 c.by_weights
 with_verdict numbers (Err r) = set numbers 0 r.spot
 
--- the stop's position, place and shortfall in the first three, or a refusal's spot in the first; the others stay
+-- a stop's position, place and shortfall in the first three; the last stays
+unfoldable pub with_stop : List ℕ → Stop → List ℕ
+with_stop numbers stop = set (set (set numbers 0 stop.position) 1 stop.place) 2 stop.shortfall
+
+-- a stop, or a refusal's spot in the first; a word that is permitted leaves all as they were
 unfoldable pub with_screened : List ℕ → Screened → List ℕ
 with_screened numbers (Ok None) = numbers
-with_screened numbers (Ok (Some stop)) = set (set (set numbers 0 stop.position) 1 stop.place) 2 stop.shortfall
+with_screened numbers (Ok (Some stop)) = with_stop numbers stop
 with_screened numbers (Err r) = set numbers 0 r.spot
+
+-- the number of a step's answer: 0 where it is permitted, 256 where it is stopped, else the refusal's
+unfoldable pub stepped_number : Answer Outcome → ℕ
+stepped_number (Ok (Moved number)) = 0
+stepped_number (Ok (Stopped stop)) = stopped_number
+stepped_number (Err r) = r.number
+
+-- how many events there were with it in the first, or a stop, or a refusal's spot in the first; the others stay
+unfoldable pub with_stepped : List ℕ → Answer Outcome → List ℕ
+with_stepped numbers (Ok (Moved number)) = set numbers 0 number
+with_stepped numbers (Ok (Stopped stop)) = with_stop numbers stop
+with_stepped numbers (Err r) = set numbers 0 r.spot
 
 -- ---- A refusal is handed out alike by each: its number, and its spot in the first
 
@@ -48,3 +67,7 @@ verdict_refused = record { numbered = λ r. refl; spotted = λ numbers r. refl }
 pub screened_refused : RefusedAlike screened_number with_screened
 unfolding screened_number with_screened
 screened_refused = record { numbered = λ r. refl; spotted = λ numbers r. refl }
+
+pub stepped_refused : RefusedAlike stepped_number with_stepped
+unfolding stepped_number with_stepped
+stepped_refused = record { numbered = λ r. refl; spotted = λ numbers r. refl }

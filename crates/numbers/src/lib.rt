@@ -1,5 +1,5 @@
-// Answers handed out as numbers: what is returned is 0, the number of a refusal, or 256 for a word that is stopped; `answer` takes the result's
-// numbers, or in answer[0] the refusal's spot. C takes them so. Numbers are cast, since std has no `From` of `usize` for `u64`.
+// Answers handed out as numbers: what is returned is 0, the number of a refusal, or 256 for a word or an event that is stopped; `answer` takes the
+// result's numbers, or in answer[0] the refusal's spot. C takes them so. Numbers are cast, since std has no `From` of `usize` for `u64`.
 // The contracts cite specs/Numbers.antt. All are inner functions.
 #![tactic(auto)]
 
@@ -7,9 +7,11 @@ ghost use Rattle.std.specs.Prelude.{◌≡◌, ℕ, List, Ok};
 ghost use Rattle.refusals.specs.Answers.{Answer, number_of};
 ghost use Rattle.logs.specs.Answers.{taken_number};
 ghost use Rattle.verdicts.specs.Judging.{verdict_number};
-ghost use Rattle.screening.specs.Screening.{screened_number};
-ghost use Rattle.numbers.specs.Numbers.{with_value, with_taken, with_verdict, with_screened, RefusedAlike, value_refused, taken_refused, verdict_refused, screened_refused};
+ghost use Rattle.screening.specs.Screening.{screened_number, stopped_number};
+ghost use Rattle.numbers.specs.Numbers.{with_value, with_taken, with_verdict, with_stop, with_screened, stepped_number, with_stepped, RefusedAlike};
+ghost use Rattle.numbers.specs.Numbers.{value_refused, taken_refused, verdict_refused, screened_refused, stepped_refused};
 
+use engine::Outcome;
 use logs::Summary;
 use refusals::Refusal;
 use stops::Stop;
@@ -82,6 +84,18 @@ impl Numbers for Tally {
     }
 }
 
+// Hands a stop out.
+#[tactic(auto, unfolding(crate::specs::Numbers::with_stop))]
+fn write_stop(stop: Stop, answer: &mut [u64; 4]) -> u32
+    ensures value { result ≡ stopped_number }
+    ensures answer_after { answer.new ≡ with_stop answer.old stop }
+{
+    answer[0] = stop.position as u64;
+    answer[1] = stop.place as u64;
+    answer[2] = stop.shortfall;
+    256
+}
+
 // Where a word is stopped, if it is.
 #[tactic(auto, unfolding(screening::specs::Screening::screened_number, crate::specs::Numbers::with_screened))]
 impl Numbers for Option<Stop> {
@@ -94,12 +108,27 @@ impl Numbers for Option<Stop> {
     fn write(self, answer: &mut [u64; 4]) -> u32 {
         match self {
             None => 0,
-            Some(stop) => {
-                answer[0] = stop.position as u64;
-                answer[1] = stop.place as u64;
-                answer[2] = stop.shortfall;
-                256
+            Some(stop) => write_stop(stop, answer),
+        }
+    }
+}
+
+// What a step did.
+#[tactic(auto, unfolding(crate::specs::Numbers::stepped_number, crate::specs::Numbers::with_stepped))]
+impl Numbers for Outcome {
+    ghost number = { stepped_number };
+
+    ghost shown = { with_stepped };
+
+    ghost refused = { stepped_refused };
+
+    fn write(self, answer: &mut [u64; 4]) -> u32 {
+        match self {
+            Outcome::Moved(number) => {
+                answer[0] = number as u64;
+                0
             }
+            Outcome::Stopped(stop) => write_stop(stop, answer),
         }
     }
 }
