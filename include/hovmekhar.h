@@ -1,6 +1,7 @@
 /*
  * Hovmekhar: opening and sealing of files, the log table, judging, the pruning of
- * nets, conversion between the editions, and the screening of words. C11 and C++.
+ * nets, conversion between the editions, the screening of words, and the engine that
+ * plays them event by event. C11 and C++.
  * The library, libhovmekhar.a, is compiled for x86-64 Linux.
  *
  * A sealed file is 1 to 128 blocks of 512 bytes. Numbers of two bytes have the
@@ -71,16 +72,24 @@
  * not the judge accepts it. Joined screening does so with the places of two bundles
  * that have the same n: those of the first, then those of the second, numbered on.
  *
+ * The carried engine plays a word event by event; the caller keeps the tokens of the
+ * places and the number of the events so far. hov_start gives the initial tokens, and
+ * hov_step tests an event on every place before it moves their tokens. An event that a
+ * place refuses is stopped: it moves no token and is not counted. Where all calls get
+ * the same bundle, nothing else writes to the tokens and each number is handed on, the
+ * answers are those of screening, and each place has m + the sum of
+ * v(i) * (in(i) - out(i)) tokens after the counts v of the permitted events.
+ *
  * Every call returns HOV_OK for a result, else the number of a refusal (see
- * enum hov_refusal); screening has a second result, HOV_STOPPED. A refusal's spot
- * is in answer[0]; where a result is, each call says. Numbers of answer that a
- * call does not use stay as they were.
+ * enum hov_refusal); screening and hov_step have a second result, HOV_STOPPED. A
+ * refusal's spot is in answer[0]; where a result is, each call says. Numbers of
+ * answer that a call does not use stay as they were.
  *
  * The caller's duties, for every call:
  *   - No pointer is NULL, not even one with length 0.
  *   - Each pointer is valid for its length: inputs for reads; outputs, the
- *     table and the four numbers of answer for reads and writes. The numbers
- *     of table and answer are aligned.
+ *     table, the tokens and the four numbers of answer for reads and writes.
+ *     The numbers of table, tokens and answer are aligned.
  *   - The buffers of one call do not overlap, except that the inputs of
  *     hov_screen and of hov_screen_joined may.
  *   - Nothing else writes to these buffers during the call, and nothing else
@@ -100,9 +109,9 @@ extern "C" {
 #endif
 
 /** The version, as text and in its three numbers. */
-#define HOV_VERSION "0.11.0"
+#define HOV_VERSION "0.12.0"
 #define HOV_VERSION_MAJOR 0
-#define HOV_VERSION_MINOR 11
+#define HOV_VERSION_MINOR 12
 #define HOV_VERSION_PATCH 0
 
 /** Bytes of a block. */
@@ -151,15 +160,18 @@ extern "C" {
 /** By how much the first byte of a bundle of the new edition is above n. */
 #define HOV_NEW_EDITION 128
 
-/** The largest number of events in a word that is screened. */
+/** The largest number of events in a word that is screened or played. */
 #define HOV_MAX_WORD_EVENTS 65535
+
+/** The most tokens of a place after so many events: 65,536 * 65,535. */
+#define HOV_MAX_TOKENS 4294901760
 
 /** What a call returns for a result. */
 #define HOV_OK 0
 
 /**
- * What hov_screen and hov_screen_joined return for a word that is stopped; it is
- * no refusal.
+ * What hov_screen and hov_screen_joined return for a word that is stopped, and
+ * hov_step for an event that is; it is no refusal.
  */
 #define HOV_STOPPED 256
 
@@ -167,8 +179,8 @@ extern "C" {
  * The numbers of the refusals.
  *
  * Each comment gives the cause, the spot that answer[0] then holds, and what
- * stays as it was. No refusal writes to an input or to an output. hov_prune,
- * hov_to_new and hov_to_old leave the table as judge does.
+ * stays as it was. No refusal writes to an input, to an output or to tokens.
+ * hov_prune, hov_to_new and hov_to_old leave the table as judge does.
  *
  * This is the whole table, so that a number keeps its meaning when calls are
  * added.
@@ -195,9 +207,9 @@ enum hov_refusal {
     HOV_OUTPUT_SHORT = 3,
 
     /**
-     * seal, judge, prune, to_new, to_old, screen, screen_joined: a bundle's length
-     * is 0 or above 64,512.
-     * Spot: 0. As it was: the output, the table.
+     * seal, judge, prune, to_new, to_old, screen, screen_joined, start, step: a
+     * bundle's length is 0 or above 64,512.
+     * Spot: 0. As it was: the output, the table, the tokens.
      * to_new: the result's length is above 64,512; the bundle is accepted.
      * Spot: 0. As it was: the output. The rows of the log are in the table.
      */
@@ -207,22 +219,25 @@ enum hov_refusal {
      * fresh, take, judge, prune, to_new, to_old: the table has fewer than 3,584
      * numbers.
      * Spot: 3,584. As it was: the table; from prune, to_new and to_old the output.
+     * start, step: there are fewer tokens than places.
+     * Spot: the number of places. As it was: the tokens.
      */
     HOV_NUMBERS_SHORT = 5,
 
     /**
-     * judge, prune, to_new, to_old, screen, screen_joined: a bundle ends before or
-     * inside a field.
-     * Spot: the offset of the field. As it was: the bundle; from prune, to_new and
-     * to_old the output. See HOV_VALUE for the table.
+     * judge, prune, to_new, to_old, screen, screen_joined, start, step: a bundle ends
+     * before or inside a field.
+     * Spot: the offset of the field. As it was: the bundle, the tokens; from prune,
+     * to_new and to_old the output. See HOV_VALUE for the table.
      */
     HOV_BUNDLE_END = 6,
 
     /**
-     * take, judge, prune, to_new, to_old, screen, screen_joined: a value is outside
-     * its range, or names a row, event, place or word that is not there.
+     * take, judge, prune, to_new, to_old, screen, screen_joined, start, step: a value
+     * is outside its range, or names a row, event, place or word that is not there.
      * Spot: the offset of the field; in a lent word, the position in the word.
-     * As it was: from take, the table; from prune, to_new and to_old, the output.
+     * As it was: from take, the table; from prune, to_new and to_old, the output; from
+     * start and step, the tokens.
      * The judge, refusing with any number but 4 and 5, leaves the table's numbers 0
      * to 3,583 zero and the rest as it was; so do prune, to_new and to_old where the
      * refusal is the judge's.
@@ -230,8 +245,8 @@ enum hov_refusal {
     HOV_VALUE = 7,
 
     /**
-     * take, judge, prune, to_new, to_old, screen, screen_joined: the events would
-     * pass 1,024.
+     * take, judge, prune, to_new, to_old, screen, screen_joined, start, step: the
+     * events would pass 1,024.
      * Spot: the offset of the word's length byte; from take 0.
      * As it was: as for HOV_VALUE.
      */
@@ -273,12 +288,16 @@ enum hov_refusal {
     /**
      * screen, screen_joined: the word has more than 65,535 events.
      * Spot: 65,535. As it was: the inputs.
+     * step: there were 65,535 events or more before this one.
+     * Spot: 65,535. As it was: the tokens.
      */
     HOV_WORD_LENGTH = 14,
 
     /**
      * screen, screen_joined: an event of the word is not below the event count.
      * Spot: its position. As it was: the inputs.
+     * step: the event is not below the event count.
+     * Spot: the number of events before it. As it was: the tokens.
      */
     HOV_WORD_EVENT = 15,
 
@@ -286,6 +305,8 @@ enum hov_refusal {
      * fresh, take: the event count is not 1 to 12, the rows are not 1 to 256,
      * or the events are above 1,024.
      * Spot: 0. As it was: the table.
+     * step: a place has more than 4,294,901,760 tokens, which no run reaches.
+     * Spot: the lowest such place. As it was: the tokens.
      */
     HOV_STATE_RANGE = 16,
 
@@ -563,6 +584,50 @@ uint32_t hov_screen_joined(const uint8_t *first, size_t first_len,
                            uint64_t answer[4]);
 
 /**
+ * Starts a run on the net of a bundle, which need not be one that hov_judge accepts:
+ * writes the initial tokens of its places, in their order, to the front of the tokens
+ * and leaves the rest as it was. tokens_len counts numbers, not bytes. The bundle is
+ * read as hov_screen reads one.
+ *
+ * Returns HOV_OK, with the number of the events so far, 0, in answer[0]. Or returns
+ * the first refusal that applies, with its spot in answer[0]: HOV_BUNDLE_LENGTH; then
+ * HOV_BUNDLE_END, HOV_VALUE and HOV_EVENTS in the order of the bundle, up to its last
+ * place; then HOV_NUMBERS_SHORT. All leave the tokens as they were. answer[1] to
+ * answer[3] stay as they were.
+ *
+ * HOV_MAX_PLACES numbers are enough for every bundle.
+ */
+uint32_t hov_start(const uint8_t *bundle, size_t bundle_len,
+                   uint64_t *tokens, size_t tokens_len,
+                   uint64_t answer[4]);
+
+/**
+ * Plays an event of a run behind so many others: number is that of the events so far,
+ * which the call before put in answer[0]. tokens_len counts numbers, not bytes.
+ *
+ * Every place is tested first: it permits the event when it has out(event) tokens or
+ * more. When all do, each gets out(event) tokens fewer and in(event) more. Tokens and
+ * number may be others than a run leaves, and are then taken as they are. The numbers
+ * behind the last place are neither looked at nor changed.
+ *
+ * Returns HOV_OK, with number + 1 in answer[0], to be handed to the next call;
+ * answer[1] to answer[3] stay as they were. Returns HOV_STOPPED when a place refuses
+ * the event, with number in answer[0], in answer[1] the lowest such place, and in
+ * answer[2] its shortfall, at least 1 and at most 65,535; answer[3] and the tokens stay
+ * as they were, and the run can go on with another event.
+ *
+ * Or returns the first refusal that applies, with its spot in answer[0]:
+ * HOV_WORD_LENGTH; then HOV_BUNDLE_LENGTH, HOV_BUNDLE_END, HOV_VALUE, HOV_EVENTS and
+ * HOV_NUMBERS_SHORT as in hov_start; then HOV_STATE_RANGE, where a place has more than
+ * HOV_MAX_TOKENS tokens; then HOV_WORD_EVENT. All leave the tokens and answer[1] to
+ * answer[3] as they were.
+ */
+uint32_t hov_step(const uint8_t *bundle, size_t bundle_len,
+                  uint64_t *tokens, size_t tokens_len,
+                  size_t number, size_t event,
+                  uint64_t answer[4]);
+
+/**
  * What a refusal means, in words for a message: the number is what a call
  * returned. The spot, which tells where, is in answer[0].
  */
@@ -579,7 +644,8 @@ static inline const char *hov_refusal_text(uint32_t number)
         return "the bundle's length is 0 or above 64,512, or the result's is "
                "above 64,512";
     case HOV_NUMBERS_SHORT:
-        return "the table has fewer than 3,584 numbers";
+        return "the table has fewer than 3,584 numbers, or the tokens have "
+               "fewer than there are places";
     case HOV_BUNDLE_END:
         return "the bundle ends before or inside a field";
     case HOV_VALUE:
@@ -600,12 +666,13 @@ static inline const char *hov_refusal_text(uint32_t number)
     case HOV_BYTES_FOLLOW:
         return "bytes follow the last certificate";
     case HOV_WORD_LENGTH:
-        return "the screened word has more than 65,535 events";
+        return "the events of the word would pass 65,535";
     case HOV_WORD_EVENT:
-        return "an event of the screened word is not below n";
+        return "an event of the word is not below n";
     case HOV_STATE_RANGE:
-        return "n is not 1 to 12, the rows are not 1 to 256, or the "
-               "events are above 1,024";
+        return "n is not 1 to 12, the rows are not 1 to 256, the events "
+               "are above 1,024, or the tokens of a place above "
+               "4,294,901,760";
     case HOV_BLOCK_NUMBER:
         return "a block's number is not its position";
     case HOV_BLOCK_USE:

@@ -8,6 +8,7 @@
 
 mod batch;
 mod calls;
+mod carrying;
 mod nets;
 mod rewriting;
 mod timing;
@@ -22,9 +23,9 @@ fn main() {
     println!("reference in turn. Both get the same buffers, allocated once and not cleared");
     println!("between calls. A log is a fresh table and then all of its words, one by one. The");
     println!("bundles that are judged, pruned or converted are accepted, and the words that are");
-    println!("screened permitted, or stopped where the size says so: at the last event or at the");
-    println!("position that is named, by the last place. The ratio is ours / reference; below 1");
-    println!("ours is faster.");
+    println!("screened and the events that are played permitted, or stopped where the size says");
+    println!("so: at the last event or at the position that is named, by the last place. The");
+    println!("ratio is ours / reference; below 1 ours is faster.");
     println!();
     println!(
         "{:<13} {:<48} {:>10} {:>10} {:>6}",
@@ -46,6 +47,12 @@ fn main() {
         print(&call);
     }
     for call in words::on_two_nets() {
+        print(&call);
+    }
+    for call in carrying::on_tokens() {
+        print(&call);
+    }
+    for call in carrying::on_words() {
         print(&call);
     }
     batch::print(env::args_os().nth(1).map(Into::into));

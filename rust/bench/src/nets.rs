@@ -1,10 +1,10 @@
 //! Nets, and words to screen with them.
 
-use differential::bundles::{Bundle, Place, MAX_PLACES, SAMPLE_A, SAMPLE_NEW};
+use differential::bundles::{Bundle, Place, MAX_LENGTH, MAX_PLACES, SAMPLE_A, SAMPLE_NEW};
 use differential::rng::Rng;
 use differential::sales::LARGEST_NEW;
 use differential::screening::net;
-use hovmekhar::{MAX_EVENTS, MAX_WORD_EVENTS};
+use hovmekhar::{MAX_EVENTS, MAX_LOG_EVENTS, MAX_WORD_EVENTS};
 
 /// The last position of the longest word.
 pub const LAST: usize = MAX_WORD_EVENTS - 1;
@@ -103,6 +103,23 @@ pub fn largest_net() -> Bundle {
         }
     };
     net(MAX_EVENTS, (0..MAX_PLACES).map(place).collect())
+}
+
+/// The same with as many events in its log as there can be.
+pub fn largest_with_log() -> Bundle {
+    let mut net = largest_net();
+    let lengths = [vec![MAX_LENGTH; 4], vec![MAX_LOG_EVENTS - 4 * MAX_LENGTH]].concat();
+    let events = events(net.n);
+    net.words = lengths
+        .iter()
+        .map(|&length| events[..length].to_vec())
+        .collect();
+    net
+}
+
+/// The longest word on this net.
+pub fn longest_with_log() -> Screening<1> {
+    longest_on(&largest_with_log())
 }
 
 /// The fewest initial tokens with which a place permits a word.

@@ -118,13 +118,15 @@ pub fn on_two_nets() -> Vec<Call<Screening<2>, u8>> {
     ]
 }
 
-fn screen_ours(buffers: &mut Buffers<Screening<1>, u8>) -> Option<usize> {
+/// Screens the word.
+pub fn screen_ours(buffers: &mut Buffers<Screening<1>, u8>) -> Option<usize> {
     let Screening { bundles, word } = &buffers.input;
     let screened = hovmekhar::screen(black_box(&bundles[0]), black_box(word));
     Some(told(screened.ok()?, word))
 }
 
-fn screen_reference(buffers: &mut Buffers<Screening<1>, u8>) -> Option<usize> {
+/// Screens the word by the reference.
+pub fn screen_reference(buffers: &mut Buffers<Screening<1>, u8>) -> Option<usize> {
     let Screening { bundles, word } = &buffers.input;
     let screened = reference::screen(black_box(&bundles[0]), black_box(word));
     Some(told_by_reference(screened.ok()?, word))
@@ -169,7 +171,7 @@ fn told_by_reference(screened: reference::Screened, word: &[u8]) -> usize {
 }
 
 /// An input of a call that only reads.
-fn without_output<I>(input: I) -> Buffers<I, u8> {
+pub fn without_output<I>(input: I) -> Buffers<I, u8> {
     Buffers {
         input,
         output: Vec::new(),

@@ -6,7 +6,7 @@ use crate::editions::Edition;
 use crate::names::shown;
 use std::ffi::OsString;
 use std::fmt;
-use values::{certificate_number, event, wanted_edition};
+use values::{certificate_number, file_and_word, one_standard_input, wanted_edition};
 
 /// What the arguments ask for.
 #[derive(Debug, PartialEq, Eq)]
@@ -26,6 +26,13 @@ pub enum Request {
         file: OsString,
         /// The file of a net that is joined to it.
         with: Option<OsString>,
+        /// The events of the word; 255 stands for every higher number.
+        word: Vec<u8>,
+    },
+    /// The tokens of a net, event by event.
+    Replay {
+        /// The file of the net.
+        file: OsString,
         /// The events of the word; 255 stands for every higher number.
         word: Vec<u8>,
     },
@@ -90,6 +97,7 @@ impl fmt::Display for Usage {
 enum Command {
     Judge,
     Screen,
+    Replay,
     Seal,
     Unseal,
     Prune,
@@ -102,6 +110,7 @@ impl Command {
         match name {
             "judge" => Some(Self::Judge),
             "screen" => Some(Self::Screen),
+            "replay" => Some(Self::Replay),
             "seal" => Some(Self::Seal),
             "unseal" => Some(Self::Unseal),
             "prune" => Some(Self::Prune),
@@ -115,6 +124,7 @@ impl Command {
         match self {
             Self::Judge => "hov judge FILE...",
             Self::Screen => "hov screen FILE [--with FILE2] EVENT...",
+            Self::Replay => "hov replay FILE EVENT...",
             Self::Seal => "hov seal IN OUT",
             Self::Unseal => "hov unseal IN OUT",
             Self::Prune => "hov prune IN OUT",
@@ -135,7 +145,7 @@ impl Command {
 ///
 /// When they ask for nothing that there is.
 pub fn parse(mut arguments: impl Iterator<Item = OsString>) -> Result<Request, Usage> {
-    let right = "hov judge|screen|seal|unseal|prune|convert|show ARGUMENT...";
+    let right = "hov judge|screen|replay|seal|unseal|prune|convert|show ARGUMENT...";
     let wrong = |problem| Usage { problem, right };
     let first = arguments.next();
     let first = first.ok_or_else(|| wrong("no command".into()))?;
@@ -177,6 +187,10 @@ fn parse_command(
     match command {
         Command::Judge => judge(operands),
         Command::Screen => screen(operands, with),
+        Command::Replay => {
+            let (file, word) = file_and_word(command, operands)?;
+            Ok(Request::Replay { file, word })
+        }
         Command::Seal => {
             exactly(command, operands).map(|[input, output]| Request::Seal { input, output })
         }
@@ -251,31 +265,12 @@ fn judge(files: Vec<OsString>) -> Result<Request, Usage> {
     Ok(Request::Judge { files })
 }
 
-fn one_standard_input<'f>(
-    command: Command,
-    files: impl IntoIterator<Item = &'f OsString>,
-) -> Result<(), Usage> {
-    let inputs = files.into_iter().filter(|&name| name == "-");
-    if inputs.count() > 1 {
-        let problem = "standard input is read once, but '-' is there twice";
-        return Err(command.wrong(problem.into()));
-    }
-    Ok(())
-}
-
 fn screen(operands: Vec<OsString>, with: Option<OsString>) -> Result<Request, Usage> {
-    let mut operands = operands.into_iter();
-    let file = operands.next();
-    let file = file.ok_or_else(|| Command::Screen.wrong("no file".into()))?;
-    one_standard_input(Command::Screen, [&file].into_iter().chain(&with))?;
-    let event = |argument: OsString| {
-        let wrong = || {
-            let problem = format!("no event of 1 to 20 digits: '{}'", shown(&argument));
-            Command::Screen.wrong(problem)
-        };
-        event(&argument).ok_or_else(wrong)
-    };
-    let word = operands.map(event).collect::<Result<Vec<u8>, Usage>>()?;
+    // An input that is there twice is told before an event that is wrong.
+    if let Some(file) = operands.first() {
+        one_standard_input(Command::Screen, [file].into_iter().chain(&with))?;
+    }
+    let (file, word) = file_and_word(Command::Screen, operands)?;
     Ok(Request::Screen { file, with, word })
 }
 

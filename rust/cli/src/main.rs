@@ -1,4 +1,4 @@
-//! `hov`: judges, screens, seals, unseals, prunes, converts and shows sealed files.
+//! `hov`: judges, screens, replays, seals, unseals, prunes, converts and shows sealed files.
 
 #![forbid(unsafe_code)]
 #![deny(missing_docs)]

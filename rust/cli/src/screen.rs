@@ -85,18 +85,32 @@ impl Joined<'_> {
     }
 }
 
-fn read(name: &OsStr) -> Result<Vec<u8>, Trouble> {
+/// Reads a sealed file, or enough of a longer one.
+///
+/// # Errors
+///
+/// When it can't be read.
+pub fn read(name: &OsStr) -> Result<Vec<u8>, Trouble> {
     files::read(name, MAX_FILE_SIZE + 1)
 }
 
-fn refused(refusal: Refusal, name: &OsStr) -> Result<Status, Trouble> {
+/// Prints what is refused.
+///
+/// # Errors
+///
+/// When standard output does not take the line.
+pub fn refused(refusal: Refusal, name: &OsStr) -> Result<Status, Trouble> {
     output::print_line(&output::refused(refusal, name))?;
     Ok(Status::Refused)
 }
 
 /// Prints what the net says to a word. `whose` tells more of the place that refuses the
 /// event at a position.
-fn told(
+///
+/// # Errors
+///
+/// When standard output does not take the line.
+pub fn told(
     screened: Screened,
     word: &[u8],
     whose: impl FnOnce(usize) -> String,

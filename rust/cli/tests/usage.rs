@@ -8,8 +8,8 @@ use std::io::{Read, Seek};
 use std::os::unix::ffi::OsStrExt;
 use support::{command, directory, hov, hov_in, start, Done};
 
-const COMMANDS: [&str; 7] = [
-    "judge", "screen", "seal", "unseal", "prune", "convert", "show",
+const COMMANDS: [&str; 8] = [
+    "judge", "screen", "replay", "seal", "unseal", "prune", "convert", "show",
 ];
 
 #[test]
@@ -67,7 +67,7 @@ fn wrong() -> Wrong {
 }
 
 fn wrong_commands() -> Wrong {
-    let any = "hov judge|screen|seal|unseal|prune|convert|show ARGUMENT...";
+    let any = "hov judge|screen|replay|seal|unseal|prune|convert|show ARGUMENT...";
     vec![
         (vec![], any),
         (vec![""], any),
@@ -87,6 +87,7 @@ fn wrong_commands() -> Wrong {
 fn wrong_files() -> Wrong {
     let judge = "hov judge FILE...";
     let screen = "hov screen FILE [--with FILE2] EVENT...";
+    let replay = "hov replay FILE EVENT...";
     let mut all = vec![
         (vec!["judge"], judge),
         (vec!["judge", "--"], judge),
@@ -109,6 +110,12 @@ fn wrong_files() -> Wrong {
         (vec!["screen", "-", "--with", "a", "x"], screen),
         (vec!["screen", "-", "--", "0", "--with", "a"], screen),
         (vec!["judge", "-", "--with", "a"], judge),
+        (vec!["replay"], replay),
+        (vec!["replay", "-x", "0"], replay),
+        (vec!["replay", "-", "-1"], replay),
+        (vec!["replay", "-", "--", "-1"], replay),
+        (vec!["replay", "-", "x"], replay),
+        (vec!["replay", "-", "--with", "a"], replay),
     ];
     for (writes, usage) in [
         ("seal", "hov seal IN OUT"),

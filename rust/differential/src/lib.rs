@@ -12,8 +12,8 @@
 //! - [`bundle_faults`], [`ordered_faults`]: bundles that have to be refused, for one fault or
 //!   for the first of several.
 //! - [`fields`], [`places`]: reading a bundle, and its places, by the definitions.
-//! - [`judging`], [`pruning`], [`editions`], [`screening`]: judging, pruning, conversion and
-//!   screening, by the definitions.
+//! - [`judging`], [`pruning`], [`editions`], [`screening`], [`engine`]: judging, pruning,
+//!   conversion, screening and the carried engine, by the definitions.
 //! - [`rewriting`]: the calls that judge a bundle and write it anew.
 //! - [`comparing`]: two accepted files compared.
 //! - [`long_words`]: long words, and places that have no token to spare on them.
@@ -40,6 +40,7 @@ pub mod bundles;
 pub mod c_programs;
 pub mod comparing;
 pub mod editions;
+pub mod engine;
 pub mod faults;
 pub mod fields;
 pub mod files;

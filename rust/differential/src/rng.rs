@@ -20,6 +20,12 @@ impl Item for u16 {
     }
 }
 
+impl Item for u64 {
+    fn low_bits(number: u64) -> Self {
+        number
+    }
+}
+
 /// A seeded random generator.
 pub struct Rng(u64);
 

@@ -1,5 +1,6 @@
 //! Makes each call on both sides, compares, and counts.
 
+mod carried;
 mod with_table;
 
 use crate::guarded::Guarded;
@@ -11,10 +12,11 @@ use std::collections::BTreeMap;
 use std::time::{SystemTime, UNIX_EPOCH};
 use std::{env, fmt};
 
+pub use carried::Carried;
 pub use with_table::WithTable;
 
 /// What a call answers: a result or a refusal. The result is a length, except
-/// for the calls on a log table, for judging and for screening.
+/// for the calls on a log table, for judging, for screening and for steps.
 pub type Outcome<R = usize> = Result<R, Refusal>;
 
 /// The refusal with this number and spot.

@@ -51,7 +51,7 @@ fn check_length(word: &[u8]) -> Outcome<()> {
 }
 
 /// The event count and the places of a bundle.
-fn read_net(bundle: &[u8]) -> Outcome<(usize, Vec<places::Place>)> {
+pub fn read_net(bundle: &[u8]) -> Outcome<(usize, Vec<places::Place>)> {
     if bundle.is_empty() || bundle.len() > MAX_BUNDLE_SIZE {
         return refusal(4, 0);
     }

@@ -2,11 +2,11 @@
 //!
 //! A line is `CALL ARGUMENT.. = ANSWER`, or a comment that starts with `#`. Bytes are in
 //! hexadecimal, no bytes are `-`; many bytes are parts joined by `.`, of which
-//! `HEXxCOUNT` is a part that is repeated.
+//! `HEXxCOUNT` is a part that is repeated. Tokens are decimal, with commas.
 
 use crate::logs::{ROW, TABLE};
 use crate::run::Outcome;
-use reference::{Refusal, Screened, Tally};
+use reference::{Refusal, Screened, Step, Tally};
 use std::collections::BTreeMap;
 
 /// What each number and each byte of lent memory is before a call.
@@ -54,6 +54,17 @@ impl Argument<'_> {
     /// The argument as a number, or as a length.
     pub fn number(self) -> usize {
         self.0.parse().expect("a number")
+    }
+
+    /// The argument as tokens.
+    pub fn tokens(self) -> Vec<u64> {
+        match self.0 {
+            "-" => Vec::new(),
+            text => text
+                .split(',')
+                .map(|number| number.parse().expect("a number"))
+                .collect(),
+        }
     }
 
     /// Lent memory of this length.
@@ -209,6 +220,36 @@ pub fn screened_line(answer: Outcome<Screened>) -> String {
             shortfall,
         }) => format!("stopped {position} {place} {shortfall}"),
         Err(refused) => refused_line(refused),
+    }
+}
+
+/// The answer of starting in words.
+pub fn started_line(answer: Outcome) -> String {
+    match answer {
+        Ok(number) => format!("started {number}"),
+        Err(refused) => refused_line(refused),
+    }
+}
+
+/// The answer of a step in words.
+pub fn stepped_line(answer: Outcome<Step>) -> String {
+    match answer {
+        Ok(Step::Moved(number)) => format!("moved {number}"),
+        Ok(Step::Stopped {
+            position,
+            place,
+            shortfall,
+        }) => format!("stopped {position} {place} {shortfall}"),
+        Err(refused) => refused_line(refused),
+    }
+}
+
+/// Tokens as they are listed, with this between two.
+pub fn tokens_line(tokens: &[u64], between: &str) -> String {
+    let numbers: Vec<String> = tokens.iter().map(ToString::to_string).collect();
+    match numbers.as_slice() {
+        [] => "tokens -".to_string(),
+        _ => format!("tokens {}", numbers.join(between)),
     }
 }
 

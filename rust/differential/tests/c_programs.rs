@@ -183,6 +183,30 @@ fn screening() {
 }
 
 #[test]
+fn carrying() {
+    assert_eq!(
+        run("carry"),
+        "empty: refused 4, 0 9 9 9, tokens 7 7 7\n\
+         cut: refused 6, 27 9 9 9, tokens 7 7 7\n\
+         n = 0: refused 7, 0 9 9 9, tokens 7 7 7\n\
+         too many events: refused 8, 1026 9 9 9, tokens 7 7 7\n\
+         few tokens: refused 5, 2 9 9 9, tokens 7 7 7\n\
+         start: result 0, 0 9 9 9, tokens 1 2 7\n\
+         0: result 0, 1 9 9 9, tokens 1 1 7\n\
+         0: result 0, 2 9 9 9, tokens 1 0 7\n\
+         0: stopped 256, 2 1 1 9, tokens 1 0 7\n\
+         2: refused 15, 2 9 9 9, tokens 1 0 7\n\
+         few tokens: refused 5, 2 9 9 9, tokens 1 0 7\n\
+         1: result 0, 3 9 9 9, tokens 0 0 7\n\
+         last number: stopped 256, 65534 0 1 9, tokens 0 0 7\n\
+         number: refused 14, 65535 9 9 9, tokens 0 0 7\n\
+         cut: refused 6, 27 9 9 9, tokens 0 0 7\n\
+         most tokens: result 0, 6 9 9 9, tokens 4294901759 0 7\n\
+         too many tokens: refused 16, 0 9 9 9, tokens 4294901761 0 7\n"
+    );
+}
+
+#[test]
 fn pages_around_the_buffers_are_not_touched() {
     assert_eq!(
         run("pages"),
@@ -194,6 +218,7 @@ fn pages_around_the_buffers_are_not_touched() {
     assert_eq!(run("joined_pages"), "6240 screened on two nets\n");
     assert_eq!(run("long_pages"), "15360 long words screened\n");
     assert_eq!(run("rewrite_pages"), "17920 pruned\n37016 converted\n");
+    assert_eq!(run("carry_pages"), "9200 starts and steps\n");
 }
 
 /// The texts of the refusals are those of the Rust crate, and so is the version.
@@ -267,6 +292,7 @@ fn header_and_crate_agree() {
         ("HOV_MAX_PAIRS", hovmekhar::MAX_PAIRS),
         ("HOV_NEW_EDITION", hovmekhar::NEW_EDITION.into()),
         ("HOV_MAX_WORD_EVENTS", hovmekhar::MAX_WORD_EVENTS),
+        ("HOV_MAX_TOKENS", hovmekhar::MAX_TOKENS as usize),
         ("HOV_OK", 0),
         ("HOV_STOPPED", hovmekhar::ffi::STOPPED as usize),
     ] {

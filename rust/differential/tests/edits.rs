@@ -6,7 +6,7 @@ use std::fs;
 use std::path::{Path, PathBuf};
 
 /// The public calls: the crate, the file in its `src`, and the function.
-const CALLS: [(&str, &str, &str); 24] = [
+const CALLS: [(&str, &str, &str); 28] = [
     ("block", "lib.rt", "open"),
     ("sealing", "lib.rt", "seal"),
     ("logs", "lib.rt", "fresh"),
@@ -17,6 +17,8 @@ const CALLS: [(&str, &str, &str); 24] = [
     ("editions", "lib.rt", "to_old"),
     ("screening", "lib.rt", "screen"),
     ("screening", "lib.rt", "screen_joined"),
+    ("engine", "lib.rt", "start"),
+    ("engine", "lib.rt", "step"),
     ("files", "lib.rt", "run"),
     ("files", "lib.rt", "run_both"),
     ("judge", "main.rt", "judge_file"),
@@ -31,6 +33,8 @@ const CALLS: [(&str, &str, &str); 24] = [
     ("abi", "hov_editions.rt", "hov_to_old"),
     ("abi", "hov_screening.rt", "hov_screen"),
     ("abi", "hov_screening.rt", "hov_screen_joined"),
+    ("abi", "hov_engine.rt", "hov_start"),
+    ("abi", "hov_engine.rt", "hov_step"),
 ];
 
 /// The paths in a directory, or none where there is no such directory.

@@ -1,6 +1,7 @@
 //! The cases of `tests/data`, on which two other implementations agree: every case is
 //! run on both sides and compared, the answer and what is left in lent memory. The file
-//! is the one with the newest request in force, which has all calls.
+//! is the one with the newest request in force, which has all calls. Those of the carried
+//! engine are in `vectors_engine.rs`.
 
 use differential::files::{BLOCK, MAX_BLOCKS, MAX_BUNDLE_SIZE};
 use differential::judging::judge;
@@ -12,21 +13,24 @@ use differential::vectors::{
     line, rows_line, screened_line, table_line, written_line, Case, Cases,
 };
 
-const FILE: &str = include_str!("data/09.txt");
+const FILE: &str = include_str!("data/10.txt");
 
-/// The calls of the file, with how many cases each has. Each has a test below.
-const COUNTS: [(&str, usize); 11] = [
+/// The calls of the file, with how many cases each has. Each has a test.
+const COUNTS: [(&str, usize); 14] = [
+    ("carry", 29),
     ("judge", 120),
-    ("judge_lent", 237),
+    ("judge_lent", 244),
     ("log", 40),
-    ("prune", 32),
-    ("prune_lent", 27),
+    ("prune", 36),
+    ("prune_lent", 32),
     ("screen", 80),
-    ("screen_joined", 139),
-    ("to_new", 42),
-    ("to_new_lent", 80),
+    ("screen_joined", 155),
+    ("start_lent", 42),
+    ("step_lent", 143),
+    ("to_new", 38),
+    ("to_new_lent", 44),
     ("to_old", 42),
-    ("to_old_lent", 75),
+    ("to_old_lent", 45),
 ];
 
 #[test]
@@ -56,13 +60,13 @@ fn judged() {
             .and_then(|length| judge(&mut run, &opened.output[..length]));
         assert_eq!(line(answer), case.answer, "{run}");
     }
-    let of_files = [(1, 2), (17, 2), (18, 1), (2, 1)];
-    let of_fields = [(6, 11), (7, 19)];
-    let of_nets = [(10, 19), (20, 11), (11, 5), (12, 16)];
+    let of_files = [(1, 2), (17, 2), (18, 2)];
+    let of_fields = [(6, 6), (7, 27)];
+    let of_nets = [(10, 15), (20, 8), (11, 2), (12, 20)];
     let refused = [of_files.as_slice(), &of_fields, &of_nets].concat();
-    all_of("judge", &[refused.as_slice(), &[(0, 33)]].concat());
+    all_of("judge", &[refused.as_slice(), &[(0, 36)]].concat());
     // Each file that is opened, and each bundle that is accepted.
-    run.finish(&[refused.as_slice(), &[(0, 114 + 33)]].concat());
+    run.finish(&[refused.as_slice(), &[(0, 114 + 36)]].concat());
 }
 
 /// Each file that opens is the one that sealing makes of its bundle, whatever the
@@ -94,9 +98,9 @@ fn judged_with_lent_table() {
         let answer = format!("{} {table}", line(judged.outcome));
         assert_eq!(answer, case.answer, "{run}");
     }
-    let by_length = [(0, 29), (4, 5), (5, 4)];
-    let of_fields = [(6, 17), (7, 59), (8, 6), (9, 3), (13, 3)];
-    let of_nets = [(10, 51), (20, 21), (11, 8), (12, 31)];
+    let by_length = [(0, 27), (4, 9), (5, 4)];
+    let of_fields = [(6, 20), (7, 55), (8, 7), (9, 2), (13, 3)];
+    let of_nets = [(10, 57), (20, 25), (11, 5), (12, 30)];
     let numbers = [by_length.as_slice(), &of_fields, &of_nets].concat();
     all_of("judge_lent", &numbers);
     run.finish(&numbers);
@@ -147,19 +151,19 @@ fn rewritten_with_lent_memory(run: &mut Run, call: Rewrite, name: &str) {
 fn pruned() {
     let mut run = Run::start("vectors::pruned");
     rewritten(&mut run, Rewrite::Prune, "prune");
-    all_of("prune", &[(0, 26), (7, 1), (12, 3), (13, 2)]);
-    let written = [(0, 26 * 8), (3, 26 * 4), (5, 32 * 12)];
-    let refused = [(7, 12), (12, 36), (13, 24)];
+    all_of("prune", &[(0, 30), (10, 1), (12, 3), (13, 2)]);
+    let written = [(0, 30 * 8), (3, 30 * 4), (5, 36 * 12)];
+    let refused = [(10, 12), (12, 36), (13, 24)];
     let numbers = [written.as_slice(), &refused].concat();
-    run.finish_with_classes(&numbers, &[("another length", 21)]);
+    run.finish_with_classes(&numbers, &[("another length", 23)]);
 }
 
 #[test]
 fn pruned_with_lent_memory() {
     let mut run = Run::start("vectors::pruned_with_lent_memory");
     rewritten_with_lent_memory(&mut run, Rewrite::Prune, "prune_lent");
-    let written = [(0, 7), (3, 8)];
-    let refused = [(6, 2), (7, 2), (8, 1), (11, 2), (12, 3), (13, 2)];
+    let written = [(0, 10), (3, 7), (4, 1), (5, 1)];
+    let refused = [(6, 3), (7, 3), (10, 2), (12, 3), (13, 2)];
     let numbers = [written.as_slice(), &refused].concat();
     all_of("prune_lent", &numbers);
     run.finish(&numbers);
@@ -169,20 +173,21 @@ fn pruned_with_lent_memory() {
 fn converted_to_new() {
     let mut run = Run::start("vectors::converted_to_new");
     rewritten(&mut run, Rewrite::ToNew, "to_new");
-    all_of("to_new", &[(0, 36), (10, 1), (12, 2), (13, 2), (20, 1)]);
-    let written = [(0, 36 * 8), (3, 36 * 4), (5, 42 * 12)];
-    let refused = [(10, 12), (12, 24), (13, 24), (20, 12)];
+    let refused = [(7, 1), (10, 1), (11, 1), (13, 2), (20, 1)];
+    all_of("to_new", &[&[(0, 32)], refused.as_slice()].concat());
+    let written = [(0, 32 * 8), (3, 32 * 4), (5, 38 * 12)];
+    let refused = refused.map(|(number, cases)| (number, cases * 12));
     let numbers = [written.as_slice(), &refused].concat();
-    run.finish_with_classes(&numbers, &[("another length", 16)]);
+    run.finish_with_classes(&numbers, &[("another length", 15)]);
 }
 
 #[test]
 fn converted_to_new_with_lent_memory() {
     let mut run = Run::start("vectors::converted_to_new_with_lent_memory");
     rewritten_with_lent_memory(&mut run, Rewrite::ToNew, "to_new_lent");
-    let written = [(0, 25), (3, 28), (4, 4), (5, 4)];
-    let of_fields = [(6, 5), (7, 1), (8, 2), (13, 2)];
-    let of_nets = [(10, 2), (20, 2), (11, 1), (12, 4)];
+    let written = [(0, 13), (3, 20), (4, 1)];
+    let of_fields = [(6, 2), (7, 1), (8, 2), (13, 2)];
+    let of_nets = [(10, 1), (20, 1), (11, 1)];
     let numbers = [written.as_slice(), &of_fields, &of_nets].concat();
     all_of("to_new_lent", &numbers);
     run.finish(&numbers);
@@ -192,21 +197,21 @@ fn converted_to_new_with_lent_memory() {
 fn converted_to_old() {
     let mut run = Run::start("vectors::converted_to_old");
     rewritten(&mut run, Rewrite::ToOld, "to_old");
-    let refused = [(11, 1), (12, 2), (13, 2), (20, 1), (21, 9)];
-    all_of("to_old", &[&[(0, 27)], refused.as_slice()].concat());
-    let written = [(0, 27 * 8), (3, 27 * 4), (5, 42 * 12)];
+    let refused = [(7, 1), (12, 2), (13, 2), (20, 1), (21, 12)];
+    all_of("to_old", &[&[(0, 24)], refused.as_slice()].concat());
+    let written = [(0, 24 * 8), (3, 24 * 4), (5, 42 * 12)];
     let refused = refused.map(|(number, cases)| (number, cases * 12));
     let numbers = [written.as_slice(), &refused].concat();
-    run.finish_with_classes(&numbers, &[("another length", 11)]);
+    run.finish_with_classes(&numbers, &[("another length", 8)]);
 }
 
 #[test]
 fn converted_to_old_with_lent_memory() {
     let mut run = Run::start("vectors::converted_to_old_with_lent_memory");
     rewritten_with_lent_memory(&mut run, Rewrite::ToOld, "to_old_lent");
-    let written = [(0, 22), (21, 6), (3, 22), (4, 1), (5, 4)];
-    let of_fields = [(6, 8), (7, 1), (8, 2), (13, 2)];
-    let of_nets = [(20, 1), (11, 3), (12, 3)];
+    let written = [(0, 9), (21, 10), (3, 12), (4, 1), (5, 3)];
+    let of_fields = [(6, 1), (7, 2), (13, 2)];
+    let of_nets = [(20, 1), (12, 4)];
     let numbers = [written.as_slice(), &of_fields, &of_nets].concat();
     all_of("to_old_lent", &numbers);
     run.finish(&numbers);
@@ -220,9 +225,9 @@ fn screened() {
         let answer = screen(&mut run, &bundle.bytes(), &word.bytes());
         assert_eq!(screened_line(answer), case.answer, "{run}");
     }
-    let numbers = [(0, 38), (14, 9), (4, 2), (6, 9), (7, 2), (8, 3), (15, 17)];
+    let numbers = [(0, 30), (14, 10), (4, 3), (6, 7), (7, 4), (8, 3), (15, 23)];
     all_of("screen", &numbers);
-    run.finish_with_classes(&numbers, &[("permitted", 27), ("stopped", 11)]);
+    run.finish_with_classes(&numbers, &[("permitted", 20), ("stopped", 10)]);
 }
 
 #[test]
@@ -233,11 +238,11 @@ fn screened_on_two_nets() {
         let answer = screen_joined(&mut run, &first.bytes(), &second.bytes(), &word.bytes());
         assert_eq!(screened_line(answer), case.answer, "{run}");
     }
-    let answered = [(0, 21), (19, 19), (15, 10)];
-    let refused = [(14, 11), (4, 14), (6, 27), (7, 23), (8, 14)];
+    let answered = [(0, 32), (19, 17), (15, 9)];
+    let refused = [(14, 11), (4, 20), (6, 26), (7, 25), (8, 15)];
     let numbers = [answered.as_slice(), &refused].concat();
     all_of("screen_joined", &numbers);
-    run.finish_with_classes(&numbers, &[("permitted", 9), ("stopped", 12)]);
+    run.finish_with_classes(&numbers, &[("permitted", 16), ("stopped", 16)]);
 }
 
 /// The words of a log leave these rows in a table that held anything.

@@ -258,7 +258,7 @@ fn every_number_has_a_sentence() {
         let sentence = Refusal { number, spot }.to_string();
         let start = format!("refusal {number}: ");
         assert!(sentence.starts_with(&start), "{sentence}");
-        let one_spot = [1, 4, 14, 16, 19, 22].contains(&number);
+        let one_spot = [1, 4, 14, 19, 22].contains(&number);
         assert_eq!(sentence.contains("40961"), !one_spot, "{sentence}");
         assert_eq!(
             sentence.contains("no refusal has this number"),

@@ -112,7 +112,9 @@ impl Kind {
             Kind::BlockSums => "a block's sums are wrong",
             Kind::OutputShort => "the output is shorter than the result",
             Kind::BundleLength => "the bundle's length is 0 or above 64,512, or the result's is above 64,512",
-            Kind::NumbersShort => "the table has fewer than 3,584 numbers",
+            Kind::NumbersShort => {
+                "the table has fewer than 3,584 numbers, or the tokens have fewer than there are places"
+            }
             Kind::BundleEnd => "the bundle ends before or inside a field",
             Kind::Value => "a value is outside its range, or names a row, event, place or word that is not there",
             Kind::Events => "the events would pass 1,024",
@@ -124,9 +126,12 @@ impl Kind {
                  or with a word that is not completed"
             }
             Kind::BytesFollow => "bytes follow the last certificate",
-            Kind::WordLength => "the screened word has more than 65,535 events",
-            Kind::WordEvent => "an event of the screened word is not below n",
-            Kind::StateRange => "n is not 1 to 12, the rows are not 1 to 256, or the events are above 1,024",
+            Kind::WordLength => "the events of the word would pass 65,535",
+            Kind::WordEvent => "an event of the word is not below n",
+            Kind::StateRange => {
+                "n is not 1 to 12, the rows are not 1 to 256, the events are above 1,024, \
+                 or the tokens of a place above 4,294,901,760"
+            }
             Kind::BlockNumber => "a block's number is not its position",
             Kind::BlockUse => "a block's used count is wrong, or an unused byte is not zero",
             Kind::EventCounts => "the event counts of the two bundles are not the same",
@@ -155,10 +160,10 @@ impl Kind {
             Kind::PlacePermits => "the modeller must name another place, or give weights",
             Kind::Weights => "the modeller must mend the weights",
             Kind::BytesFollow => "the modeller must end the bundle there",
-            Kind::WordLength => "screen a shorter word",
+            Kind::WordLength => "screen a shorter word, or start anew",
             Kind::WordEvent => "the word is not of this net's events",
             Kind::StateRange => {
-                "only from a program that keeps a log: the summary was not one of ours"
+                "only from a program that keeps a log or tokens: hand on what the call before left"
             }
             Kind::BlockNumber => {
                 "the blocks came in the wrong order, or one is missing: have it sent again in order"

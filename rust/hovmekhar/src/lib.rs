@@ -1,5 +1,5 @@
-//! Opens and seals files, keeps log tables, judges, prunes and converts bundles and
-//! screens words, with the proved static library.
+//! Opens and seals files, keeps log tables, judges, prunes and converts bundles, screens
+//! words and plays them event by event, with the proved static library.
 //!
 //! A *sealed file* is 1 to 128 blocks of 512 bytes, each with its number, its
 //! used count, 504 bytes of contents and two checksums. The used contents of
@@ -18,7 +18,9 @@
 //! its bundle and hands both back. [`prune`] writes an accepted bundle without the places
 //! that no certificate names, [`to_new`] and [`to_old`] write one in the other edition.
 //! [`screen`] replays a word on the net of a bundle, and says where it is stopped and how
-//! many tokens were missing; [`screen_joined`] does so with the places of two bundles.
+//! many tokens were missing; [`screen_joined`] does so with the places of two bundles. A
+//! [`Sale`] gives the same answers event by event, and keeps the tokens of the places;
+//! [`start`] and [`step`] do so with tokens that are lent.
 //!
 //! A call that cannot give a result returns a [`Refusal`] and writes nothing; only
 //! [`judge`] clears the table. [`prune`], [`to_new`] and [`to_old`] leave the table as
@@ -50,6 +52,7 @@ compile_error!("the static library is built for x86-64");
 
 mod blocks;
 mod editions;
+mod engine;
 // Public for tests that look at every number of an answer; not part of the API.
 #[allow(unsafe_code)]
 #[doc(hidden)]
@@ -64,6 +67,7 @@ mod screening;
 pub use blocks::{open, open_vec, seal, seal_vec};
 pub use blocks::{BLOCK_SIZE, CONTENTS_SIZE, MAX_BLOCKS, MAX_BUNDLE_SIZE, MAX_FILE_SIZE};
 pub use editions::{to_new, to_new_vec, to_old, to_old_vec};
+pub use engine::{start, step, Sale, Step, MAX_TOKENS};
 pub use judging::{judge, judge_file_vec, judge_vec, Judged, Tally};
 pub use judging::{MAX_PAIRS, MAX_PLACES, MAX_TERMS, NEW_EDITION};
 pub use kind::Kind;

@@ -34,7 +34,8 @@ impl Refusal {
     /// The bundle's length is 0 or above 64,512, or the result's, where a bundle is
     /// converted, is above 64,512. Spot: 0.
     pub const BUNDLE_LENGTH: u8 = Kind::BundleLength.number();
-    /// The table has fewer than 3,584 numbers. Spot: 3,584.
+    /// The table has fewer than 3,584 numbers. Spot: 3,584. Or the tokens have fewer
+    /// numbers than the bundle has places. Spot: the place count.
     pub const NUMBERS_SHORT: u8 = Kind::NumbersShort.number();
     /// The bundle ends before or inside a field. Spot: the field's offset.
     pub const BUNDLE_END: u8 = Kind::BundleEnd.number();
@@ -57,13 +58,15 @@ impl Refusal {
     pub const WEIGHTS: u8 = Kind::Weights.number();
     /// Bytes follow the last certificate. Spot: the offset of the first.
     pub const BYTES_FOLLOW: u8 = Kind::BytesFollow.number();
-    /// The screened word has more than 65,535 events. Spot: 65,535.
+    /// The screened word has more than 65,535 events, or a step comes behind 65,535 or
+    /// more. Spot: 65,535.
     pub const WORD_LENGTH: u8 = Kind::WordLength.number();
     /// An event of the screened word is not below the event count. Spot: its
-    /// position.
+    /// position. Or the event of a step is not. Spot: the events so far.
     pub const WORD_EVENT: u8 = Kind::WordEvent.number();
     /// A summary's event count is not 1 to 12, its rows are not 1 to 256, or its
-    /// events are above 1,024. Spot: 0.
+    /// events are above 1,024. Spot: 0. Or the tokens of a place are above
+    /// 4,294,901,760. Spot: the lowest such place.
     pub const STATE_RANGE: u8 = Kind::StateRange.number();
     /// The number of the lowest faulty block is not its position. Spot: the position.
     pub const BLOCK_NUMBER: u8 = Kind::BlockNumber.number();
@@ -135,7 +138,7 @@ impl fmt::Display for Sentence {
             ),
             Refusal::OUTPUT_SHORT => write!(f, "the output is too short, {spot} bytes are needed"),
             Refusal::NUMBERS_SHORT => {
-                write!(f, "the table is too short, {spot} numbers are needed")
+                write!(f, "too few numbers are lent, {spot} are needed")
             }
             Refusal::BUNDLE_END => write!(
                 f,
@@ -166,6 +169,7 @@ impl fmt::Display for Sentence {
                 f,
                 "the event at position {spot} of the word is not below the event count"
             ),
+            Refusal::STATE_RANGE => write!(f, "{} (spot {spot})", Kind::StateRange),
             Refusal::PLACE_DISOBEYS => write!(
                 f,
                 "place {spot} does not return to its initial tokens after a completed word"

@@ -3,10 +3,10 @@
 use crate::ffi::{self, Answer};
 use crate::Refusal;
 
-/// The largest number of events in a word that is screened.
+/// The largest number of events in a word that is screened, or played event by event.
 pub const MAX_WORD_EVENTS: usize = 65_535;
 
-/// What a net says to a word.
+/// What a net says to a word, or to an event behind others.
 ///
 /// The compiler warns of an answer that is not looked at, since a stopped word
 /// would pass; here the warning is an error:
@@ -144,7 +144,7 @@ impl Screened {
     /// Reads what a call of the library returned: 256 for a word that is stopped, else
     /// as for other calls.
     #[inline]
-    fn check(number: u32, answer: Answer) -> Result<Self, Refusal> {
+    pub(crate) fn check(number: u32, answer: Answer) -> Result<Self, Refusal> {
         if number == ffi::STOPPED {
             // `usize` has 64 bits here, so the conversions keep the values.
             let [position, place, shortfall, _] = answer.map(|number| number as usize);

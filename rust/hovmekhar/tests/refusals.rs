@@ -40,7 +40,7 @@ fn sentences() {
         let refusal = Refusal { number, spot: 777 };
         let sentence = refusal.sentence().to_string();
         assert_eq!(refusal.to_string(), format!("refusal {number}: {sentence}"));
-        let one_spot = [1, 4, 14, 16, 19].contains(&number);
+        let one_spot = [1, 4, 14, 19].contains(&number);
         assert_eq!(sentence == kind.text(), one_spot, "{sentence}");
         assert_eq!(sentence.contains("777"), !one_spot, "{sentence}");
     }

@@ -81,6 +81,22 @@ impl<'b> Reader<'b> {
         }
     }
 
+    /// The next `count` fields, which have two bytes, as the part of the bundle that they
+    /// occupy.
+    ///
+    /// # Errors
+    ///
+    /// 6 with the offset of the first that is missing or cut.
+    pub fn numbers(&mut self, count: usize) -> Result<&'b [u8], Refusal> {
+        let rest = &self.bundle[self.offset..];
+        let whole = count.min(rest.len() / 2);
+        self.offset += 2 * whole;
+        if whole < count {
+            return Err(self.ends());
+        }
+        Ok(&rest[..2 * count])
+    }
+
     /// The next field, which has two bytes in two's complement.
     ///
     /// # Errors

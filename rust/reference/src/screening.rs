@@ -8,7 +8,7 @@ use crate::places::Place;
 use crate::reader::Reader;
 use crate::Refusal;
 
-const MAX_WORD_EVENTS: usize = 65_535;
+pub const MAX_WORD_EVENTS: usize = 65_535;
 
 /// What the places of a bundle say to a word.
 #[derive(Clone, Copy, Debug, PartialEq, Eq)]

@@ -25,9 +25,41 @@ pub fn certificate_number(argument: Option<OsString>) -> Result<usize, Usage> {
     })
 }
 
+/// A file, and the events of a word behind it.
+pub fn file_and_word(
+    command: Command,
+    operands: Vec<OsString>,
+) -> Result<(OsString, Vec<u8>), Usage> {
+    let mut operands = operands.into_iter();
+    let file = operands.next();
+    let file = file.ok_or_else(|| command.wrong("no file".into()))?;
+    let event = |argument: OsString| {
+        let wrong = || {
+            let problem = format!("no event of 1 to 20 digits: '{}'", shown(&argument));
+            command.wrong(problem)
+        };
+        event(&argument).ok_or_else(wrong)
+    };
+    let word = operands.map(event).collect::<Result<Vec<u8>, Usage>>()?;
+    Ok((file, word))
+}
+
+/// Checks that `-` is among these files once at most.
+pub fn one_standard_input<'f>(
+    command: Command,
+    files: impl IntoIterator<Item = &'f OsString>,
+) -> Result<(), Usage> {
+    let inputs = files.into_iter().filter(|&name| name == "-");
+    if inputs.count() > 1 {
+        let problem = "standard input is read once, but '-' is there twice";
+        return Err(command.wrong(problem.into()));
+    }
+    Ok(())
+}
+
 /// The number of an event. Above 255 it is cut, which changes no answer, since no
 /// bundle has more than twelve events.
-pub fn event(argument: &OsStr) -> Option<u8> {
+fn event(argument: &OsStr) -> Option<u8> {
     let digits = digits(argument).filter(|digits| digits.len() <= 20)?;
     let number: u128 = digits.parse().ok()?;
     Some(u8::try_from(number).unwrap_or(u8::MAX))

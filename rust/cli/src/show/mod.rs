@@ -23,7 +23,7 @@ use hovmekhar::MAX_FILE_SIZE;
 use std::ffi::OsStr;
 
 pub use look::Look;
-pub(crate) use page::count;
+pub(crate) use page::{count, spaced};
 pub(crate) use reading::Reading;
 
 /// Shows a file, or one of its certificates.

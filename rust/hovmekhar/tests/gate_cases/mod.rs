@@ -46,8 +46,8 @@ const BLOCK_NUMBER: &str = "gate: a block's number is not its position";
 const BLOCK_USE: &str = "gate: a block's used count is wrong, or an unused byte is not zero";
 const BUNDLE_END: &str = "gate: the bundle ends before or inside a field";
 const FILE_LENGTH: &str = "gate: the file's length is 0, no multiple of 512, or above 65,536";
-const WORD_EVENT: &str = "gate: an event of the screened word is not below n";
-const WORD_LENGTH: &str = "gate: the screened word has more than 65,535 events";
+const WORD_EVENT: &str = "gate: an event of the word is not below n";
+const WORD_LENGTH: &str = "gate: the events of the word would pass 65,535";
 const NO_SPACE: &str = "gate: standard output: No space left on device (os error 28)";
 const CLOSED: &str = "gate: standard output: Broken pipe (os error 32)";
 
