@@ -10,7 +10,7 @@ ghost use Rattle.engine.specs.EngineLaws.{room_answer, tokens_answer};
 use bundles::net::Net;
 use bundles::read_head;
 use limits::{MAX_TOKENS, MAX_WORD_EVENTS};
-use playing::{Lack, play, write_initial};
+use playing::{play, write_initial};
 use refusals::{Cause, Refusal};
 use stops::Stop;
 

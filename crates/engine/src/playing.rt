@@ -19,8 +19,8 @@ pub fn write_initial(net: &Net, tokens: &mut [u64])
     requires { net.now.count ≤ length tokens.old }
     ensures { tokens.new ≡ front (initials (places_of net.now)) tokens.old }
 {
-    for (j, tokens) in tokens[..net.count].iter_mut().enumerate() {
-        *tokens = u64::from(net.initial(j));
+    for (j, held) in tokens[..net.count].iter_mut().enumerate() {
+        *held = u64::from(net.initial(j));
     }
 }
 
@@ -48,8 +48,8 @@ fn move_tokens(net: &Net, tokens: &mut [u64], event: usize)
     requires enough { AllEnough (places_of net.now) tokens.old event }
     ensures { tokens.new ≡ front (tokens_behind (places_of net.now) tokens.old event) tokens.old }
 {
-    for (j, tokens) in tokens[..net.count].iter_mut().enumerate() {
-        *tokens = *tokens - u64::from(net.consumed(j, event)) + u64::from(net.produced(j, event));
+    for (j, held) in tokens[..net.count].iter_mut().enumerate() {
+        *held = *held - u64::from(net.consumed(j, event)) + u64::from(net.produced(j, event));
     }
 }
 

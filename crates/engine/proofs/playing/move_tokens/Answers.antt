@@ -13,7 +13,7 @@ inside : (c : After-from) → c.loop-j.j < c.args.net.now.count
 inside c = omega (arith, c.loop-j-test.true, length-take c.args.net.now.count c.args.tokens.now)
 
 -- whose tokens are as they were, and are enough
-before : (c : After-from) → get_or c.loop-j.tokens-items c.loop-j.j 0 ≡ get_or c.args.tokens.now c.loop-j.j 0
+before : (c : After-from) → get_or c.loop-j.held-items c.loop-j.j 0 ≡ get_or c.args.tokens.now c.loop-j.j 0
 before c = c.loop-j.invariant.1 c.loop-j.j (omega arith) (inside c)
 
 taken : (c : After-from) → c.from.result ≡ taken_from (places_of c.args.net.now) c.args.tokens.now c.args.event c.loop-j.j
@@ -23,14 +23,14 @@ pub loop-j-init : goal.loop-j-init
 loop-j-init c =
     ((λ i h. absurd (omega arith)), (λ i low h. get_or-take c.args.net.now.count c.args.tokens.now i 0 h))
 
-pub overflow_sub-tokens : goal.overflow_sub-tokens
-overflow_sub-tokens c =
-    let at = (goal.at.overflow_sub-tokens c).After-from in
+pub overflow_sub-held : goal.overflow_sub-held
+overflow_sub-held c =
+    let at = (goal.at.overflow_sub-held c).After-from in
     omega (arith, taken at, before at, c.requires.enough c.loop-j.j (omega (arith, inside at, places-count c.args.net.now)))
 
-pub overflow_add-tokens : goal.overflow_add-tokens
-overflow_add-tokens c =
-    let at = (goal.at.overflow_add-tokens c).After-from in
+pub overflow_add-held : goal.overflow_add-held
+overflow_add-held c =
+    let at = (goal.at.overflow_add-held c).After-from in
     omega (arith, before at, c.requires.ready.reachable c.loop-j.j (inside at), c.from-in-loop-j.ensures, c.produced.type_inv)
 
 pub loop-j-preserved : goal.loop-j-preserved
@@ -39,7 +39,7 @@ loop-j-preserved c =
     let net = c.args.net.now in
     let ts = c.args.tokens.now in
     let j = c.loop-j.j in
-    let items = c.loop-j.tokens-items in
+    let items = c.loop-j.held-items in
     let put = c.from-in-loop-j.ensures ∙ c.produced.ensures ∙ put-there net ts c.args.event j (inside at) in
     let is =
     ap₂ (λ (t k : ℕ). t - k + c.from-in-loop-j.result) (before at) (taken at)
@@ -55,7 +55,7 @@ returns c =
     let net = c.args.net.now in
     let us = tokens_behind (places_of net) c.args.tokens.now c.args.event in
     let few = length-take-le net.count c.args.tokens.now c.requires.ready.room in
-    let size : length c.loop-j.tokens-items ≡ net.count = c.loop-j.auto.tokens-items ∙ few in
+    let size : length c.loop-j.held-items ≡ net.count = c.loop-j.auto.held-items ∙ few in
     let all = behind-count net c.args.tokens.now c.args.event in
-    let written = ext_get_or 0 c.loop-j.tokens-items us (size ∙ sym all) (λ i h. c.loop-j.invariant.0 i (omega (arith, h, size, few))) in
+    let written = ext_get_or 0 c.loop-j.held-items us (size ∙ sym all) (λ i h. c.loop-j.invariant.0 i (omega (arith, h, size, few))) in
     ap₂ (λ (l : List ℕ) (k : ℕ). l ++ drop k c.args.tokens.now) written (sym all)

@@ -19,7 +19,7 @@ loop-j-preserved c =
     let at = goal.at.loop-j-preserved c in
     let net = c.args.net.now in
     let inside : c.loop-j.j < net.count = omega (arith, c.loop-j-test.true, count at.Start) in
-    each_set 0 (λ i x. x ≡ get_or (initials (places_of net)) i 0) c.loop-j.tokens-items c.loop-j.j c.from.result (omega arith) c.loop-j.invariant
+    each_set 0 (λ i x. x ≡ get_or (initials (places_of net)) i 0) c.loop-j.held-items c.loop-j.j c.from.result (omega arith) c.loop-j.invariant
     (c.from.ensures ∙ c.initial.ensures ∙ sym (initial-there net c.loop-j.j inside))
 
 pub returns : goal.returns
@@ -28,7 +28,7 @@ returns c =
     let at = goal.at.returns c in
     let net = c.args.net.now in
     let us = initials (places_of net) in
-    let size : length c.loop-j.tokens-items ≡ net.count = c.loop-j.auto.tokens-items ∙ count at.Start in
+    let size : length c.loop-j.held-items ≡ net.count = c.loop-j.auto.held-items ∙ count at.Start in
     let all = initials-count net in
-    let written = ext_get_or 0 c.loop-j.tokens-items us (size ∙ sym all) (λ i h. c.loop-j.invariant i (omega (arith, h, size, count at.Start))) in
+    let written = ext_get_or 0 c.loop-j.held-items us (size ∙ sym all) (λ i h. c.loop-j.invariant i (omega (arith, h, size, count at.Start))) in
     ap₂ (λ (l : List ℕ) (k : ℕ). l ++ drop k c.args.tokens.now) written (sym all)

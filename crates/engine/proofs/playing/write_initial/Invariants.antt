@@ -5,4 +5,4 @@ use Rattle.engine.specs.Playing.{places_of}
 use Rattle.engine.proofs.playing.write_initial.Given as goal
 
 abbrev pub invariant-loop-j : goal.invariant-loop-j
-invariant-loop-j l = (i : ℕ) → i < l.j → get_or l.tokens-items i 0 ≡ get_or (initials (places_of l.net)) i 0
+invariant-loop-j l = (i : ℕ) → i < l.j → get_or l.held-items i 0 ≡ get_or (initials (places_of l.net)) i 0
