@@ -1,7 +1,10 @@
 pub mod Engine
 pub mod Playing
+pub mod Replaying
 pub mod EngineLaws
 pub mod NetTests
 pub mod Causes
+pub mod ReplaceTests
+pub mod ReplaceCauses
 pub mod Answers
 pub mod RefusalNumbers

@@ -1,5 +1,5 @@
 -- The tests of starting and of a step behind the bundle's head, on the places of a net: exactly when each refuses, and what passes them all.
-use Rattle.std.specs.Prelude.{◌≡◌, refl, ◌↔◌, true, false, List, [], ◌∷◌, ℕ, ◌≤◌, ◌<◌, leb, ltb, length, get_or, take}
+use Rattle.std.specs.Prelude.{◌≡◌, refl, ◌↔◌, true, false, List, [], ◌∷◌, ℕ, ◌≤◌, ◌<◌, ◌+◌, leb, ltb, length, get_or, take}
 use Rattle.std.proofs.Common.{sym, arith, lt-ltb, le-ltb, subst}
 use Rattle.std.proofs.lemmas.Bool.{ltb-true, ltb-false}
 use Rattle.std.proofs.lemmas.List.{length-take-le, get_or-take}
@@ -7,7 +7,7 @@ use Rattle.laws.specs.Booleans.{at_least, less}
 use Rattle.laws.specs.Lists.{all, any, among}
 use Rattle.laws.specs.Scans.{first_failing, all-exactly, failing-exactly}
 use Rattle.limits.specs.Limits.{max_tokens}
-use Rattle.refusals.specs.Table.{word_event_number}
+use Rattle.refusals.specs.Table.{output_short_number, word_event_number}
 use Rattle.refusals.specs.Table.{numbers_short_number, state_range_number}
 use Rattle.refusals.specs.Results.{Result, value, bind, require, Refuses, refuses-end, refuses-test}
 use Rattle.refusals.specs.Exactly.{Exactly, Gives, exactly-same, gives_same, exactly-here, exactly-later, gives_later, gives_value}
@@ -68,7 +68,7 @@ module _ (net : Net) (ts : List ℕ) where
   room-passed : (leb (length net) (length ts) ≡ true) ↔ Room
   room-passed = at_least (length net) (length ts)
 
-  room_first : {A : Type 0} (m : Result A) {others : List ℕ} → Refuses others m → among numbers_short_number others ≡ false
+  pub room_first : {A : Type 0} (m : Result A) {others : List ℕ} → Refuses others m → among numbers_short_number others ≡ false
       → Exactly (bind room_test (λ u. m)) numbers_short_number (λ spot. (spot ≡ length net) × (length ts < length net))
   room_first m only other = exactly-same (exactly-here (leb (length net) (length ts)) numbers_short_number (length net) m only other)
       (λ spot. ((λ (at, e). (at, (less (length net) (length ts)).0 e)), λ (at, h). (at, (less (length net) (length ts)).1 h)))
@@ -88,10 +88,13 @@ module _ (net : Net) (ts : List ℕ) where
   start_on-gives = gives_same (gives_later _ _ _ _ (gives_value (initials net)))
       (λ us. ((λ (e, is). (room-passed.0 e, is)), λ (h, is). (room-passed.1 h, is)))
 
-  -- a step: 5; 16; 15; then the event is played
-  module _ (n number event : ℕ) where
+  -- a step, where so many events have room: 5; 16; 15; 3; then the event is played
+  module _ (n space number event : ℕ) where
+    abbrev kept_on : Result Played
+    kept_on = bind (require (ltb number space) output_short_number (number + 1)) (λ u. value (play net ts event))
+
     abbrev event_on : Result Played
-    event_on = bind (require (ltb event n) word_event_number number) (λ u. value (play net ts event))
+    event_on = bind (require (ltb event n) word_event_number number) (λ u. kept_on)
 
     abbrev range_on : Result Played
     range_on = bind (require (all reachable numbers) state_range_number (first_failing reachable numbers)) (λ u. event_on)
@@ -99,13 +102,16 @@ module _ (net : Net) (ts : List ℕ) where
     abbrev pub step_on : Result Played
     step_on = bind room_test (λ u. range_on)
 
-    event_on-refuses : Refuses (word_event_number ∷ []) event_on
-    event_on-refuses = refuses-test _ _ _ (refuses-end (play net ts event))
+    kept_on-refuses : Refuses (output_short_number ∷ []) kept_on
+    kept_on-refuses = refuses-test _ _ _ (refuses-end (play net ts event))
 
-    range_on-refuses : Refuses (state_range_number ∷ word_event_number ∷ []) range_on
+    event_on-refuses : Refuses (word_event_number ∷ output_short_number ∷ []) event_on
+    event_on-refuses = refuses-test _ _ _ kept_on-refuses
+
+    range_on-refuses : Refuses (state_range_number ∷ word_event_number ∷ output_short_number ∷ []) range_on
     range_on-refuses = refuses-test _ _ _ event_on-refuses
 
-    pub step_on-refuses : Refuses (numbers_short_number ∷ state_range_number ∷ word_event_number ∷ []) step_on
+    pub step_on-refuses : Refuses (numbers_short_number ∷ state_range_number ∷ word_event_number ∷ output_short_number ∷ []) step_on
     step_on-refuses = refuses-test _ _ _ range_on-refuses
 
     pub step_on_5 : Exactly step_on numbers_short_number (λ spot. (spot ≡ length net) × (length ts < length net))
@@ -125,15 +131,30 @@ module _ (net : Net) (ts : List ℕ) where
     unfolding any
     step_on_15 = exactly-same (exactly-later (leb (length net) (length ts)) numbers_short_number (length net) range_on (λ e. omega (arith, e))
         (exactly-later (all reachable numbers) state_range_number (first_failing reachable numbers) event_on (λ e. omega (arith, e))
-        (exactly-here (ltb event n) word_event_number number (value (play net ts event)) (refuses-end (play net ts event)) refl)))
+        (exactly-here (ltb event n) word_event_number number kept_on kept_on-refuses refl)))
         (λ spot. (
           (λ (e, (passed, (at, over))). let room = room-passed.0 e in (room, (range-passed room).0 passed, at, ltb-false event n over)),
           λ (room, each, at, over). (room-passed.1 room, ((range-passed room).1 each, (at, le-ltb event n over))),
         ))
 
-    pub step_on-gives : Gives step_on (λ x. Room × Reachable × (event < n) × (x ≡ play net ts event))
-    step_on-gives = gives_same (gives_later _ _ _ _ (gives_later _ _ _ _ (gives_later _ _ _ _ (gives_value (play net ts event)))))
+    pub step_on_3 : Exactly step_on output_short_number (λ spot. Room × Reachable × (event < n) × (spot ≡ number + 1) × (space ≤ number))
+    unfolding any
+    step_on_3 = exactly-same (exactly-later (leb (length net) (length ts)) numbers_short_number (length net) range_on (λ e. omega (arith, e))
+        (exactly-later (all reachable numbers) state_range_number (first_failing reachable numbers) event_on (λ e. omega (arith, e))
+        (exactly-later (ltb event n) word_event_number number kept_on (λ e. omega (arith, e))
+        (exactly-here (ltb number space) output_short_number (number + 1) (value (play net ts event)) (refuses-end (play net ts event)) refl))))
+        (λ spot. (
+          (λ (e, (passed, (below, (at, full)))).
+              let room = room-passed.0 e in (room, (range-passed room).0 passed, ltb-true event n below, at, ltb-false number space full)),
+          λ (room, each, below, at, full).
+              (room-passed.1 room, ((range-passed room).1 each, (lt-ltb event n below, (at, le-ltb number space full)))),
+        ))
+
+    pub step_on-gives : Gives step_on (λ x. Room × Reachable × (event < n) × (number < space) × (x ≡ play net ts event))
+    step_on-gives = gives_same (gives_later _ _ _ _ (gives_later _ _ _ _ (gives_later _ _ _ _ (gives_later _ _ _ _ (gives_value (play net ts event))))))
         (λ x. (
-          (λ (e, (passed, (below, is))). let room = room-passed.0 e in (room, (range-passed room).0 passed, ltb-true event n below, is)),
-          λ (room, each, below, is). (room-passed.1 room, ((range-passed room).1 each, (lt-ltb event n below, is))),
+          (λ (e, (passed, (below, (there, is)))).
+              let room = room-passed.0 e in (room, (range-passed room).0 passed, ltb-true event n below, ltb-true number space there, is)),
+          λ (room, each, below, there, is).
+              (room-passed.1 room, ((range-passed room).1 each, (lt-ltb event n below, (lt-ltb number space there, is)))),
         ))

@@ -2,9 +2,11 @@
 #![tactic(auto)]
 
 pub mod playing; // one event, over a head that was read
+pub mod replaying; // the events of a run, on another net
 
 ghost use Rattle.std.specs.Prelude.{◌≡◌, ◌≤◌, length};
-ghost use Rattle.engine.specs.Engine.{starting, started, tokens_started, stepping, stepped, tokens_stepped};
+ghost use Rattle.refusals.specs.Answers.{output_of};
+ghost use Rattle.engine.specs.Engine.{starting, started, stepping, stepped, tokens_stepped, kept_stepped, replacing, replaced};
 ghost use Rattle.engine.specs.EngineLaws.{room_answer, tokens_answer};
 
 use bundles::net::Net;
@@ -12,6 +14,7 @@ use bundles::read_head;
 use limits::{MAX_TOKENS, MAX_WORD_EVENTS};
 use playing::{play, write_initial};
 use refusals::{Cause, Refusal};
+use replaying::replay;
 use stops::Stop;
 
 // What a step does: it is permitted, and there are so many events with it; or a place refuses it.
@@ -52,7 +55,7 @@ fn test_tokens(net: &Net, tokens: &[u64]) -> Result<(), Refusal>
 // the number of events so far. Refuses with 4, then in the bundle's order with 6, 7 and 8, then with 5; the numbers are then as they were.
 pub fn start(bundle: &[u8], tokens: &mut [u64]) -> Result<usize, Refusal>
     ensures value { result ≡ started (starting bundle.now tokens.old) }
-    ensures tokens_after { tokens.new ≡ tokens_started (starting bundle.now tokens.old) tokens.old }
+    ensures tokens_after { tokens.new ≡ output_of (starting bundle.now tokens.old) tokens.old }
 {
     let net = read_head(bundle)?;
     test_room(&net, tokens)?;
@@ -60,11 +63,19 @@ pub fn start(bundle: &[u8], tokens: &mut [u64]) -> Result<usize, Refusal>
     Ok(0)
 }
 
-// One event of a run, which had so many before it: moves the tokens of the places, or stops at the lowest place that refuses it and moves none.
-// Refuses with 14, then with the bundle's 4, 6, 7 and 8, then with 5, 16 and 15; the numbers are then as they were.
-pub fn step(bundle: &[u8], tokens: &mut [u64], number: usize, event: usize) -> Stepped
-    ensures value { result ≡ stepped number (stepping bundle.now tokens.old number event) }
-    ensures tokens_after { tokens.new ≡ tokens_stepped (stepping bundle.now tokens.old number event) tokens.old }
+// One event of a run, which had so many before it: moves the tokens of the places and keeps the event behind those so far, or stops at the lowest
+// place that refuses it and writes nothing. Refuses with 14, then with the bundle's 4, 6, 7 and 8, then with 5, 16, 15 and 3; all that is lent is
+// then as it was.
+pub fn step(
+    bundle: &[u8],
+    tokens: &mut [u64],
+    kept: &mut [u8],
+    number: usize,
+    event: usize,
+) -> Stepped
+    ensures value { result ≡ stepped number (stepping bundle.now tokens.old kept.old number event) }
+    ensures tokens_after { tokens.new ≡ tokens_stepped (stepping bundle.now tokens.old kept.old number event) tokens.old }
+    ensures kept_after { kept.new ≡ kept_stepped (stepping bundle.now tokens.old kept.old number event) kept.old number event }
 {
     if MAX_WORD_EVENTS <= number {
         return Err(Cause::WordLength.at(MAX_WORD_EVENTS));
@@ -75,12 +86,43 @@ pub fn step(bundle: &[u8], tokens: &mut [u64], number: usize, event: usize) -> S
     if usize::from(net.n) <= event {
         return Err(Cause::WordEvent.at(number));
     }
-    Ok(match play(&net, tokens, event) {
-        None => Outcome::Moved(number + 1),
-        Some(lack) => Outcome::Stopped(Stop {
+    if kept.len() <= number {
+        return Err(Cause::OutputShort.at(number + 1));
+    }
+    if let Some(lack) = play(&net, tokens, event) {
+        return Ok(Outcome::Stopped(Stop {
             position: number,
             place: lack.place,
             shortfall: lack.shortfall,
-        }),
-    })
+        }));
+    }
+    kept[number] = event as u8;
+    Ok(Outcome::Moved(number + 1))
+}
+
+// Puts a net in the place of another, behind so many events of a run: writes its tokens behind these events to the front of the numbers. Refuses with
+// 14, then with 3, then with the old bundle's 4, 6, 7 and 8, then with the new one's, then with 22, 5, 15 and 23; the numbers are then as they were.
+pub fn replace(
+    old: &[u8],
+    new: &[u8],
+    tokens: &mut [u64],
+    kept: &[u8],
+    number: usize,
+) -> Result<(), Refusal>
+    ensures value { result ≡ replaced (replacing old.now new.now tokens.old kept.now number) }
+    ensures tokens_after { tokens.new ≡ output_of (replacing old.now new.now tokens.old kept.now number) tokens.old }
+{
+    if MAX_WORD_EVENTS < number {
+        return Err(Cause::WordLength.at(MAX_WORD_EVENTS));
+    }
+    if kept.len() < number {
+        return Err(Cause::OutputShort.at(number));
+    }
+    let one = read_head(old)?;
+    let two = read_head(new)?;
+    if one.n != two.n {
+        return Err(Cause::ReplacedEvents.at(0));
+    }
+    test_room(&two, tokens)?;
+    replay(&two, tokens, &kept[..number])
 }

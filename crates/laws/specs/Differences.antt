@@ -3,6 +3,7 @@
 use Rattle.std.specs.Prelude.{◌≡◌, refl, Bool, true, false, not, cond, ◌↔◌, ℕ, zero, suc, ◌+◌, ◌-◌, ◌*◌, ◌≤◌, ◌<◌, T, eqb, leb, ltb, ℤ, pos, negsuc, neg_ℤ, ◌+ℤ◌, ◌-ℤ◌, ◌*ℤ◌, ◌≤ℤ◌}
 use Rattle.std.proofs.Common.{sym, ap, ap₂, ◌∙◌, subst, zero-le, add-zero, zero-mul, suc-mul, mul_comm, arith, eqb→eq, le→leb, leb→le, ltb-true, ltb-false, le-ltb, le-leb, ne_eqb}
 use Rattle.std.proofs.Math.IntN.{pos-ne-negsuc, sub_ℕ, +ℤ_assoc, +ℤ_comm, +ℤ_idl, +ℤ_idr, neg_ℤ-+ℤ, *ℤ_comm, zero-*ℤ, suc_ℤ-*ℤ}
+use lib.IntN.{nat_abs}
 use Rattle.std.specs.Int.Signed.{mag, non_neg, le_z, le_z_yes, ≤ℤ_refl, yes_non_neg}
 use Rattle.laws.specs.Booleans.{same_test}
 use Rattle.laws.specs.Sums.{sum}
@@ -251,3 +252,9 @@ sumℤ_neg (suc n) f = ap (λ (z : ℤ). z +ℤ neg_ℤ (pos (f n))) (sumℤ_neg
 pub neg_mul : (a b : ℕ) → neg_ℤ (pos a) *ℤ pos b ≡ neg_ℤ (pos (a * b))
 neg_mul zero b = ap pos (zero-mul b) ∙ ap (λ (k : ℕ). neg_ℤ (pos k)) (sym (zero-mul b))
 neg_mul (suc a) b = refl
+
+-- a number that is not negative is its positive part
+pub natural-part : (z : ℤ) → T (non_neg z) → nat_abs z ≡ positive_part z
+unfolding positive_part
+natural-part (pos k) t = refl
+natural-part (negsuc k) t = elim t [ ]

@@ -1,13 +1,14 @@
 -- Parts of lists: a new front, a new middle, a part of a part.
 use Rattle.std.specs.Prelude.{◌≡◌, refl, ℕ, zero, suc, ◌+◌, ◌-◌, ◌≤◌, ◌<◌, min, get_or, set, replicate}
-use Rattle.std.proofs.Common.{sym, ◌∙◌, add-zero, add_assoc, arith, take-append-drop, take_at, take-take, take-add}
+use Rattle.std.proofs.Common.{sym, ⊎_elim, ◌∙◌, add-zero, add_assoc, arith, take-append-drop, take_at, take-take, take-add}
 use Rattle.std.proofs.Math.Path.{ap}
 use mathlib.Core.List.{List, [], ◌∷◌, ◌++◌, append_assoc, append-nil}
 use Rattle.std.proofs.Math.Nat.{zero-add, zero-min, min-zero, suc-min-suc}
 use Rattle.std.proofs.Math.ListN.{length, take, drop, length-append, length-drop, drop_of_length-le}
 use Rattle.std.proofs.lemmas.List.{length-replicate, replicate-append-replicate}
-use Rattle.std.proofs.Math.Seq.{drop_at, length-take-le, drop-append_seam, take_all, take-length, sets-eq, take-append_seam, drop-append-add, drop-drop}
+use Rattle.std.proofs.Math.Seq.{ext_get_or, get_or-drop, drop_at, length-take-le, drop-append_seam, take_all, take-length, sets-eq, take-append_seam, drop-append-add, drop-drop}
 use Rattle.std.proofs.lemmas.List.Edits.{sets}
+use Rattle.laws.specs.Booleans.{lt_or_le}
 
 module _ {A : Type 0} where
   -- `new` in front of a list, over as many of its elements
@@ -123,3 +124,18 @@ pub drop_more : (m n : ℕ) (a b : List ℕ) → m ≤ n → drop m a ≡ drop m
 drop_more m n a b h e =
     let split : n ≡ m + (n - m) = omega arith in
     rw (split, ← drop-drop (n - m) m a, ← drop-drop (n - m) m b, e)
+
+-- two lists of numbers that agree in front and behind
+pub same_parts : (k : ℕ) (l m : List ℕ) → length l ≡ length m → ((j : ℕ) → j < k → get_or l j 0 ≡ get_or m j 0) → drop k l ≡ drop k m → l ≡ m
+same_parts k l m size front rest = ext_get_or 0 l m size (λ j h. ⊎_elim
+    (front j)
+    (λ past.
+    let at : k + (j - k) ≡ j = omega (arith, past) in
+    ap (λ (i : ℕ). get_or l i 0) (sym at) ∙ sym (get_or-drop k l (j - k) 0) ∙ ap (λ (x : List ℕ). get_or x (j - k) 0) rest
+    ∙ get_or-drop k m (j - k) 0 ∙ ap (λ (i : ℕ). get_or m i 0) at)
+    (lt_or_le j k))
+
+pub same_halves : {A : Type 0} (k : ℕ) (l m : List A) → take k l ≡ take k m → drop k l ≡ drop k m → l ≡ m
+same_halves {A} k l m front rest =
+    sym (take-append-drop k l) ∙ ap (λ (x : List A). x ++ drop k l) front
+    ∙ ap (λ (x : List A). take k m ++ x) rest ∙ take-append-drop k m

@@ -1,17 +1,19 @@
 -- A net played event by event gives the answers of screening, and its list has the marking (001, equation 1).
-use Rattle.std.specs.Prelude.{◌≡◌, refl, true, false, List, [], ◌∷◌, ◌++◌, ℕ, suc, ◌+◌, ◌-◌, ◌≤◌, ◌<◌, length, get_or, pos, ℤ}
-use Rattle.std.proofs.Common.{sym, ap, ap₂, ◌∙◌, arith, lt-ltb, le-ltb, ⊎_elim, length-append}
-use mathlib.Core.List.{Memᴰ}
-use Rattle.laws.specs.Booleans.{lt_or_le}
-use Rattle.laws.specs.Differences.{covers-exactly, missing-is}
+use Rattle.std.specs.Prelude.{◌≡◌, refl, true, false, List, [], ◌∷◌, ◌++◌, ℕ, suc, ◌+◌, ◌-◌, ◌≤◌, ◌<◌, length, get_or, pos, ℤ, T}
+use Rattle.std.proofs.Common.{sym, ap, ap₂, ◌∙◌, arith, lt-ltb, le-ltb, le_of_eq, ⊎_elim, length-append}
+use Rattle.std.proofs.Math.Seq.{append_snoc}
+use Rattle.std.specs.Float.Ieee.Fits.{and_l, and_r}
+use mathlib.Core.List.{Memᴰ, append-nil}
+use Rattle.laws.specs.Booleans.{lt_or_le, yes_true}
+use Rattle.laws.specs.Differences.{covers-exactly, missing-is, positive_part}
 use Rattle.laws.specs.Lists.{get_d_map, get_d_tabulate}
-use Rattle.laws.specs.Scans.{first_false-same, failing-numbered, failing-all, failing-some}
+use Rattle.laws.specs.Scans.{first_false-same, failing-numbered, failing-all, failing-some, all-failing}
 use Rattle.nets.specs.Nets.{Word, Net, Place, no_place, stopped, step_after, place_permits, net_permits}
-use Rattle.nets.specs.Nets.{first_refusing, shortfall_of, stopped_at, screen_after, screen}
+use Rattle.nets.specs.Nets.{counts, tokens, first_refusing, shortfall_of, stopped_at, permits_after, permits, screen_after, screen}
 use Rattle.nets.specs.Fits.{Below}
 use Rattle.nets.specs.Markings.{covered, missing, moved as moved_on, permits-is, shortfall-is, moved-amount, tokens_none, tokens_snoc}
 use Rattle.nets.proofs.Plays.{none-enough}
-use Rattle.nets.specs.Carrying.{initials, taken_from, put_into, has_enough, first_short, tokens_behind, play, go_on, carry, Carried}
+use Rattle.nets.specs.Carrying.{initials, taken_from, put_into, has_enough, first_short, tokens_behind, play, go_on, carry, Carried, marking_after}
 
 -- at first the list has the initial marking
 pub carried-start : (n : ℕ) (net : Net) → Carried n net [] (initials net)
@@ -41,6 +43,11 @@ module _ (n : ℕ) (net : Net) (u : Word) (ts : List ℕ) (is : Carried n net u 
 
   abbrev lowest : ℕ
   lowest = first_short net ts e
+
+  -- so a step that the net permits finds enough in every place
+  pub permits-enough : net_permits n net (step_after n u e) ≡ true → length net ≤ lowest
+  unfolding net_permits first_refusing
+  permits-enough permits = rw short-refuses (le_of_eq (sym (all-failing _ net permits)))
 
   -- where a place has too few, it is stopped as screening stops there
   stopped-so : lowest < length net
@@ -87,3 +94,29 @@ module _ (n : ℕ) (net : Net) where
   pub carry-screen : (w : Word) → Below n w → carry net 0 (initials net) w ≡ screen n net w
   unfolding screen
   carry-screen w below = carry-screens w [] (initials net) (carried-start n net) below
+
+-- ---- the marking after a word, from its counts
+
+module _ (n : ℕ) (net : Net) where
+  -- behind a permitted word some list has the marking: the one that is carried
+  carried-after : (w u : Word) (ts : List ℕ) → Carried n net u ts → Below n w → T (permits_after n net u w) → (us : List ℕ) × Carried n net (u ++ w) us
+  unfolding permits_after
+  carried-after [] u ts is below t = (ts, rw (append-nil u) is)
+  carried-after (e ∷ w) u ts is below t =
+      let first = and_l (net_permits n net (step_after n u e)) (permits_after n net (u ++ e ∷ []) w) t in
+      let enough = permits-enough n net u ts is e (yes_true _ first) in
+      let next = carried-moved n net u ts is e (below e (Memᴰ.head refl)) enough in
+      let (us, after) =
+      carried-after w (u ++ e ∷ []) (tokens_behind net ts e) next (λ x m. below x (Memᴰ.tail m))
+      (and_r (net_permits n net (step_after n u e)) (permits_after n net (u ++ e ∷ []) w) t) in
+      (us, rw (← append_snoc u e w) after)
+
+  -- so have the positive parts of the tokens
+  pub carried-counted : (w : Word) → Below n w → T (permits n net w) → Carried n net w (marking_after n net w)
+  unfolding permits marking_after positive_part
+  carried-counted w below t j h =
+      let (us, after) = carried-after w [] (initials net) (carried-start n net) below t in
+      let p = get_or net j no_place in
+      let z : pos (get_or us j 0) ≡ tokens n p (counts n w) = after j h in
+      ap pos (get_d_map (λ (q : Place). positive_part (tokens n q (counts n w))) net j no_place 0 h)
+      ∙ ap (λ (y : ℤ). pos (positive_part y)) (sym z) ∙ z

@@ -1,8 +1,9 @@
 -- A net played event by event: a list has the tokens of each place, in place order, and each event moves them. Its laws are in proofs/Carrying.antt.
 use Rattle.std.specs.Prelude.{Bool, cond, List, [], ◌∷◌, map, ℕ, suc, ◌+◌, ◌-◌, ◌≤◌, ◌<◌, ◌≡◌, leb, ltb, length, get_or, pos}
+use Rattle.laws.specs.Differences.{positive_part}
 use Rattle.laws.specs.Lists.{tabulate}
 use Rattle.laws.specs.Scans.{first_false}
-use Rattle.nets.specs.Nets.{Word, Net, no_place, Answer, permitted, stopped, counts, tokens}
+use Rattle.nets.specs.Nets.{Word, Net, Counts, no_place, Answer, permitted, stopped, counts, tokens}
 
 -- the tokens at first: M₀
 abbrev pub initials : Net → List ℕ
@@ -61,3 +62,10 @@ carry net i ts (e ∷ w) = go_on i (play net ts e) (λ us. carry net (suc i) us 
 -- the list has the marking after the events of u (001, equation 1)
 abbrev pub Carried : ℕ → Net → Word → List ℕ → Type 0
 Carried n net u ts = (j : ℕ) → j < length net → pos (get_or ts j 0) ≡ tokens n (get_or net j no_place) (counts n u)
+
+-- the marking by the counts of a permitted word: m + sum of v(i) × (in(i) − out(i)) for each place
+abbrev pub marking_by : ℕ → Net → Counts → List ℕ
+marking_by n net v = map (λ p. positive_part (tokens n p v)) net
+
+unfoldable pub marking_after : ℕ → Net → Word → List ℕ
+marking_after n net w = marking_by n net (counts n w)

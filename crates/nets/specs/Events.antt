@@ -30,9 +30,12 @@ below-exactly n w =
     let law = all-exactly (λ e. ltb e n) 0 w in
     ((λ e k h. ltb-true _ _ (law.0 e k h)), (λ below. law.1 (λ k h. lt-ltb _ _ (below k h))))
 
+-- position k has the first event that is not below n
+abbrev pub FirstBad : ℕ → Word → ℕ → Type 0
+FirstBad n w k = (k < length w) × (n ≤ get_or w k 0) × ((i : ℕ) → i < k → get_or w i 0 < n)
+
 -- and the first bad one, exactly
-pub bad_exactly : (n : ℕ) (w : Word) (k : ℕ) → ((k ≡ first_bad n w) × (all (λ e. ltb e n) w ≡ false))
-    ↔ ((k < length w) × (n ≤ get_or w k 0) × ((i : ℕ) → i < k → get_or w i 0 < n))
+pub bad_exactly : (n : ℕ) (w : Word) (k : ℕ) → ((k ≡ first_bad n w) × (all (λ e. ltb e n) w ≡ false)) ↔ FirstBad n w k
 unfolding first_bad
 bad_exactly n w k =
     let law = failing-exactly (λ e. ltb e n) 0 w k in (

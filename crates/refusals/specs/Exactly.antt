@@ -12,7 +12,7 @@ use Rattle.laws.specs.Booleans.{impossible}
 use Rattle.laws.specs.Lists.{among}
 use Rattle.refusals.specs.Table.{output_short_number}
 use Rattle.refusals.specs.Results.{Result, value, refused, bind, require, bind-refused, Refuses}
-use Rattle.refusals.specs.Answers.{refusal, fitted, answer_of, answer, Written}
+use Rattle.refusals.specs.Answers.{Answer, refusal, fitted, answer_of, answer, Written}
 use Rattle.refusals.specs.declared.Refusal.{Refusal}
 
 -- m refuses with this number, at a spot, exactly when the cause is there
@@ -181,3 +181,27 @@ module _ (m : Result (List ℕ)) (room : ℕ) where
 
       from : (new : List ℕ) × (m ≡ value new) × (n ≡ length new) × (length new ≤ room) → answer m room ≡ Ok n
       from (new, is, size, long) = rw (is, le-leb (length new) room long, size)
+
+-- ---- an answer that is made of a chain
+
+-- it is a refusal exactly where the chain refuses, and the same one
+pub record RefusesAs {A B : Type 0} (f : Result A → Answer B) : Type 0 where
+  pub granted : (x : A) (r : Refusal) → f (value x) ≡ Err r → ⊥
+  pub same : (number spot : ℕ) → f (refused number spot) ≡ Err (refusal number spot)
+
+module _ {A B : Type 0} {f : Result A → Answer B} (law : RefusesAs f) where
+  pub refused-as : (m : Result A) (r : Refusal) → f m ≡ Err r → m ≡ refused r.number r.spot
+  refused-as (value x) r e = absurd (law.granted x r e)
+  refused-as (refused n s) r e =
+      let same : ◌≡◌ {A = Answer B} (Err (refusal n s)) (Err r) = sym (law.same n s) ∙ e in
+      let r_is : refusal n s ≡ r = cc in
+      ap (λ (x : Refusal). refused x.number x.spot) r_is
+
+  pub answers-exactly : {m : Result A} {number : ℕ} {C : ℕ → Type 0} → Exactly m number C → (spot : ℕ) → (f m ≡ Err (refusal number spot)) ↔ C spot
+  answers-exactly {m} {number} line spot = (
+    (λ e. (line.line spot).0 (refused-as m (refusal number spot) e)),
+    (λ c. ap f ((line.line spot).1 c) ∙ law.same number spot),
+  )
+
+  pub answers-among : {m : Result A} {numbers : List ℕ} → Refuses numbers m → (r : Refusal) → f m ≡ Err r → among r.number numbers ≡ true
+  answers-among {m} only r e = only.only r.number r.spot (refused-as m r e)

@@ -2,6 +2,7 @@
 use Rattle.std.specs.Prelude.{ℕ}
 use Rattle.refusals.specs.declared.Cause.{Cause}
 use Rattle.refusals.specs.declared.Cause.TheVariants.{FileLength, BlockSums, OutputShort, BundleLength, NumbersShort, BundleEnd, Value, Events, Rows, PlaceMisfit, PlacePermits, Weights, BytesFollow, WordLength, WordEvent, StateRange, BlockNumber, BlockUse, EventCounts, PlaceDisobeys, WordCompleted}
+use Rattle.refusals.specs.declared.Cause.TheVariants.{ReplacedEvents, RunStopped}
 
 abbrev pub file_length_number : ℕ
 file_length_number = 1
@@ -66,6 +67,12 @@ place_disobeys_number = 20
 abbrev pub word_completed_number : ℕ
 word_completed_number = 21
 
+abbrev pub replaced_events_number : ℕ
+replaced_events_number = 22
+
+abbrev pub run_stopped_number : ℕ
+run_stopped_number = 23
+
 -- the number of a cause
 abbrev pub number : Cause → ℕ
 number FileLength = file_length_number
@@ -89,3 +96,5 @@ number BlockUse = block_use_number
 number EventCounts = event_counts_number
 number PlaceDisobeys = place_disobeys_number
 number WordCompleted = word_completed_number
+number ReplacedEvents = replaced_events_number
+number RunStopped = run_stopped_number

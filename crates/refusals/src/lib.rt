@@ -61,6 +61,10 @@ pub enum Cause {
     PlaceDisobeys = 20,
     // A word is completed, and the old edition has no mark for it.
     WordCompleted = 21,
+    // The event counts of a bundle and of the one that replaces it are not the same.
+    ReplacedEvents = 22,
+    // The net that replaces another stops on the events so far.
+    RunStopped = 23,
 }
 
 impl Cause {

@@ -11,7 +11,7 @@ use Rattle.limits.specs.Limits.{max_word_events, right_size}
 use Rattle.refusals.specs.Table.{bundle_length_number, bundle_end_number, value_number, events_number, word_length_number, word_event_number}
 use Rattle.refusals.specs.Results.{Result, value, refused, bind, Refuses, refuses-end, refuses-test, refuses-then, refuses-wider}
 use Rattle.refusals.specs.Answers.{refusal}
-use Rattle.refusals.specs.Exactly.{Exactly, exactly-same, exactly-here, exactly-later, exactly-first, exactly-behind}
+use Rattle.refusals.specs.Exactly.{RefusesAs, answers-exactly, Exactly, exactly-same, exactly-here, exactly-later, exactly-first, exactly-behind}
 use Rattle.refusals.specs.declared.Refusal.{Refusal}
 use Rattle.nets.specs.Nets as nets
 use Rattle.nets.specs.Nets.{Word, Net, permitted, stopped, screen}
@@ -22,18 +22,17 @@ use Rattle.bundles.specs.HeadReading.{head-refuses, head_4, head-field, read→f
 use Rattle.screening.specs.Screening.{word_on, screening, replayed, screened_of, screened, Screened}
 
 -- the answer refuses where the chain does
+pub refuses-as : RefusesAs screened_of
+unfolding screened_of replayed
+refuses-as = record { granted = granted; same = λ number spot. refl }
+  where
+    granted : (a : nets.Answer) (r : Refusal) → screened_of (value a) ≡ Err r → ⊥
+    granted permitted r e = impossible cc
+    granted (stopped i j k) r e = impossible cc
+
 pub refused-exactly : {m : Result nets.Answer} {number : ℕ} {C : ℕ → Type 0} → Exactly m number C
     → (spot : ℕ) → (screened_of m ≡ Err (refusal number spot)) ↔ C spot
-unfolding screened_of replayed
-refused-exactly {m} {number} e spot = ((λ h. (e.line spot).0 (to m h)), (λ c. ap screened_of ((e.line spot).1 c)))
-  where
-    same : (n s : ℕ) → ◌≡◌ {A = Screened} (Err (refusal n s)) (Err (refusal number spot)) → ◌≡◌ {A = Result nets.Answer} (refused n s) (refused number spot)
-    same n s e = let r : refusal n s ≡ refusal number spot = cc in ap (λ (r : Refusal). refused r.number r.spot) r
-
-    to : (m : Result nets.Answer) → screened_of m ≡ Err (refusal number spot) → m ≡ refused number spot
-    to (value permitted) h = impossible cc
-    to (value (stopped i j k)) h = impossible cc
-    to (refused n s) h = same n s h
+refused-exactly e spot = answers-exactly refuses-as e spot
 
 module _ (w : Word) (n : ℕ) (net : Net) where
   pub word-refuses : Refuses (word_event_number ∷ []) (word_on w n net)

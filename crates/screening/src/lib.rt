@@ -25,8 +25,8 @@ fn test_length(word: &[u8]) -> Result<(), Refusal>
     Ok(())
 }
 
-// Refuses an event of a word that is not below n with 15: the whole word is tested before any step is replayed.
-fn test_events(word: &[u8], n: u8) -> Result<(), Refusal>
+// Refuses an event of a word that is not below n with 15: the whole word is tested before any step is replayed. (Inner function.)
+pub fn test_events(word: &[u8], n: u8) -> Result<(), Refusal>
     ensures { result ≡ events_test word.now n }
 {
     match first_bad(word, usize::from(n)) {

@@ -4,7 +4,7 @@ use Rattle.std.proofs.lemmas.Result.{err_from_is_err_and}
 use Rattle.bundles.specs.HeadReading.{kept-refused}
 use Rattle.bundles.specs.NetReading.{NetOf, net-of}
 use Rattle.refusals.specs.Tests.{test-passed}
-use Rattle.engine.specs.EngineLaws.{start_unread, start_short, start_room, start-refused, start-ends}
+use Rattle.engine.specs.EngineLaws.{start_unread, start_short, start_room, call-refused, call-ends}
 use Rattle.engine.proofs.start.Goals as goal
 use Rattle.engine.proofs.start.Goals.{In_ok-net}
 
@@ -15,7 +15,7 @@ pub returns-in_err-net : goal.returns-in_err-net
 returns-in_err-net c =
     let q = err_from_is_err_and c.from_residual.result c.from_residual.ensures.1 in
     let unread = start_unread c.args.bundle.now c.args.tokens.now _ (kept-refused _ _ (sym c.in_err-net.ensures)) in
-    let ends = start-refused c.args.tokens.now c.in_err-net.field-0.0 unread in
+    let ends = call-refused c.args.tokens.now 0 c.in_err-net.field-0.0 unread in
     record { value = rw (q.1, q.2) ends.0; tokens_after = ends.1 }
 
 pub returns-in_err-test_room : goal.returns-in_err-test_room
@@ -23,7 +23,7 @@ returns-in_err-test_room c =
     let at = goal.at.returns-in_err-test_room c in
     let q = err_from_is_err_and c.from_residual-in_err-test_room.result c.from_residual-in_err-test_room.ensures.1 in
     let short = start_short c.args.bundle.now c.args.tokens.now _ (net at.In_ok-net) c.in_err-test_room.ensures in
-    let ends = start-refused c.args.tokens.now c.in_err-test_room.field-0.0 short in
+    let ends = call-refused c.args.tokens.now 0 c.in_err-test_room.field-0.0 short in
     record { value = rw (q.1, q.2) ends.0; tokens_after = ends.1 }
 
 pub write_initial-requires : goal.write_initial-requires
@@ -32,5 +32,5 @@ write_initial-requires c = leb-true _ _ (test-passed _ _ _ c.in_ok-test_room.ens
 pub returns : goal.returns
 returns c =
     let at = goal.at.returns c in
-    let ends = start-ends c.args.tokens.now _ (start_room c.args.bundle.now c.args.tokens.now _ (net at.In_ok-net) c.in_ok-test_room.ensures) in
+    let ends = call-ends c.args.tokens.now 0 _ (start_room c.args.bundle.now c.args.tokens.now _ (net at.In_ok-net) c.in_ok-test_room.ensures) in
     record { value = ends.0; tokens_after = c.write_initial.ensures ∙ ends.1 }
