@@ -22,7 +22,8 @@ use Rattle.pruning.specs.Pruning.{pruning}
 use Rattle.engine.specs.declared.Outcome.{Outcome}
 use Rattle.engine.specs.declared.Outcome.TheVariants.{Moved, Stopped}
 use Rattle.demands.specs.Carrying.{start_answer, step_answer}
-use Rattle.numbers.specs.Numbers.{with_value, with_taken, with_verdict, with_screened, stepped_number, with_stepped}
+use Rattle.demands.specs.Replacing.{replace_answer}
+use Rattle.numbers.specs.Numbers.{with_value, with_taken, with_verdict, with_screened, stepped_number, with_stepped, done_number, with_done}
 
 -- In each line `old` is what `answer` held before, `new` what it holds afterwards, and `result` what is returned.
 
@@ -72,6 +73,12 @@ pub record SteppedOut (a : Answer Outcome) (result : ℕ) (old new : List ℕ) :
   pub stopped : (s : Stop) → a ≡ Ok (Stopped s) → Numbers new s.position s.place s.shortfall (get_or old 3 0)
   pub refused : (r : Refusal) → a ≡ Err r → RefusedOut r result old new
 
+-- replacing: 0 exactly where it is done, and `answer` is as it was
+pub record DoneOut (a : Answer (Unit {0})) (result : ℕ) (old new : List ℕ) : Type 0 where
+  pub ok : (result ≡ 0) ↔ (a ≡ Ok tt)
+  pub done : a ≡ Ok tt → new ≡ old
+  pub refused : (r : Refusal) → a ≡ Err r → RefusedOut r result old new
+
 -- ---- The calls: `result` and `new` are those of their contracts, and `answer` has four numbers
 
 abbrev pub Writes : Written → Type 0
@@ -89,6 +96,9 @@ Screens s = (old : List ℕ) → length old ≡ 4 → ScreenedOut s (screened_nu
 abbrev pub Steps : Answer Outcome → Type 0
 Steps a = (old : List ℕ) → length old ≡ 4 → SteppedOut a (stepped_number a) old (with_stepped old a)
 
+abbrev pub Does : Answer (Unit {0}) → Type 0
+Does a = (old : List ℕ) → length old ≡ 4 → DoneOut a (done_number a) old (with_done old a)
+
 pub record Boundary : Type 0 where
   pub hov_open : (file output : List ℕ) → Writes (answer (opened file) (length output))
   pub hov_seal : (b output : List ℕ) → Writes (answer (sealed b) (length output))
@@ -102,4 +112,5 @@ pub record Boundary : Type 0 where
   pub hov_to_old : (b output table : List ℕ) → Writes (answer (converting_to_old (length table) b) (length output))
   -- a start call: 0, and the number of events so far, which is 0
   pub hov_start : (b ts : List ℕ) → Writes (start_answer b ts)
-  pub hov_step : (b ts : List ℕ) (number event : ℕ) → Steps (step_answer b ts number event)
+  pub hov_step : (b ts kept : List ℕ) (number event : ℕ) → Steps (step_answer b ts kept number event)
+  pub hov_replace : (old new ts kept : List ℕ) (number : ℕ) → Does (replace_answer old new ts kept number)

@@ -27,12 +27,13 @@ use Rattle.screening.specs.RefusalNumbers.{screening-refuses, joining-refuses}
 use Rattle.screening.specs.Screening.{Screened}
 use Rattle.editions.specs.RefusalNumbers.{to_new-refuses, to_old-refuses}
 use Rattle.pruning.specs.RefusalNumbers.{pruning-refuses}
-use Rattle.engine.specs.RefusalNumbers.{start_numbers, start_numbers_lem, step_numbers, step_numbers_lem}
+use Rattle.engine.specs.RefusalNumbers.{start_numbers, start_numbers_lem, step_numbers, step_numbers_lem, replace_numbers, replace_numbers_lem}
 use Rattle.engine.specs.declared.Outcome.{Outcome}
 use Rattle.engine.specs.declared.Outcome.TheVariants.{Moved, Stopped}
 use Rattle.demands.specs.Carrying.{start_answer, step_answer}
-use Rattle.numbers.specs.Numbers.{with_value, with_taken, with_verdict, with_stop, with_screened, stepped_number, with_stepped}
-use Rattle.demands.specs.Boundary.{Numbers, RefusedOut, Writes, Takes, Judges, Screens, Steps, Boundary}
+use Rattle.numbers.specs.Numbers.{with_value, with_taken, with_verdict, with_stop, with_screened, stepped_number, with_stepped, done_number, with_done}
+use Rattle.demands.specs.Replacing.{replace_answer}
+use Rattle.demands.specs.Boundary.{Numbers, RefusedOut, Writes, Takes, Judges, Screens, Steps, Does, Boundary}
 
 -- ---- Four numbers, of which some are set
 
@@ -171,6 +172,15 @@ stepped_out (Err r) never nor old size = record {
   refused = λ s e. refused_out old size r s cc;
 }
 
+done_out : (a : Answer (Unit {0})) → ((r : Refusal) → a ≡ Err r → r.number ≡ 0 → ⊥) → Does a
+unfolding done_number with_done
+done_out (Ok u) never old size = record { ok = ((λ z. refl), λ e. refl); done = λ e. refl; refused = λ r e. impossible cc }
+done_out (Err r) never old size = record {
+  ok = ((λ z. absurd (never r refl z)), λ e. impossible cc);
+  done = λ e. impossible cc;
+  refused = λ s e. refused_out old size r s cc;
+}
+
 -- ---- The calls, by the numbers of their chains
 
 writes : {numbers : List ℕ} {result : Result (List ℕ)} → Refuses numbers result → among 3 numbers ≡ true → among 0 numbers ≡ false → (room : ℕ)
@@ -219,7 +229,9 @@ boundary = record {
   hov_to_new = λ b output table. writes (to_new-refuses (length table) b) refl refl (length output);
   hov_to_old = λ b output table. writes (to_old-refuses (length table) b) refl refl (length output);
   hov_start = λ b ts. written_out (start_answer b ts) (λ r e is. not-among start_numbers 0 r.number refl (start_numbers_lem b ts r e) (sym is));
-  hov_step = λ b ts number event. stepped_out (step_answer b ts number event)
-      (λ r e is. not-among step_numbers 0 r.number refl (step_numbers_lem b ts number event r e) (sym is))
-      (λ r e is. not-among step_numbers 256 r.number refl (step_numbers_lem b ts number event r e) (sym is));
+  hov_step = λ b ts kept number event. stepped_out (step_answer b ts kept number event)
+      (λ r e is. not-among step_numbers 0 r.number refl (step_numbers_lem b ts kept number event r e) (sym is))
+      (λ r e is. not-among step_numbers 256 r.number refl (step_numbers_lem b ts kept number event r e) (sym is));
+  hov_replace = λ old new ts kept number. done_out (replace_answer old new ts kept number)
+      (λ r e is. not-among replace_numbers 0 r.number refl (replace_numbers_lem old new ts kept number r e) (sym is));
 }

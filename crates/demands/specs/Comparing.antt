@@ -1,5 +1,5 @@
 -- The comparison of two accepted bundles: from the definitions on nets to the bytes of two bundles.
-use Rattle.std.specs.Prelude.{◌≡◌, refl, Bool, ℕ, ◌≤◌, ◌<◌, Ok}
+use Rattle.std.specs.Prelude.{◌≡◌, refl, Bool, ℕ, ◌≤◌, ◌<◌, T, Ok}
 use Rattle.std.proofs.Common.{sym, ◌∙◌, ⊎_elim, arith, length-append}
 use Rattle.std.proofs.Math.Path.{ap, subst}
 use Rattle.std.proofs.Math.Bool.{cond}
@@ -12,7 +12,8 @@ use Rattle.limits.specs.Limits.{max_bundle_size, max_word_events}
 use Rattle.refusals.specs.Results.{value, refused}
 use Rattle.nets.specs.Bundle as bundle
 use Rattle.nets.specs.Nets.{Word, step_after, permits, permitted, stopped_at, screen}
-use Rattle.nets.specs.Words.{Prefix, prefix→}
+use Rattle.nets.specs.Acceptance.{accepted-parts}
+use Rattle.nets.specs.Words.{Prefix, prefix→, permits-prefix}
 use Rattle.nets.specs.LogLaws.{word-entry}
 use Rattle.nets.specs.Fits.{Below, below-empty, below_snoc, prefix-below}
 use Rattle.nets.specs.TokenGame.{places_of}
@@ -103,7 +104,7 @@ module _ (b : List ℕ) (bytes : Bytes b) where
         subst (LogLeft (events_in b) (log_in b) table) (sym (table-left table size))
         (log-left (events_in b) (log_in b) l.head.events.1 (log-below (head_of b) l.head) l.row_count table (omega (arith, size, long-table table_length b c yes')))
 
-    prefix-length : (u : Word) → Prefix (log_in b) u → length u ≤ 255
+    pub prefix-length : (u : Word) → Prefix (log_in b) u → length u ≤ 255
     prefix-length u m = ⊎_elim
         (λ q. omega (arith, ap length q))
         (λ r.
@@ -112,8 +113,19 @@ module _ (b : List ℕ) (bytes : Bytes b) where
         omega (arith, limits.size, ap length x.2, length-append u r.2.0, ap length r.2.1))
         (prefix→ (log_in b) u m)
 
+    pub prefix-events : (w : Word) → Prefix (log_in b) w → Below (events_in b) w
+    prefix-events w m = prefix-below (events_in b) (log_in b) (log-below (head_of b) fields.1.limits.head) w m
+
+    -- its net permits them
+    pub prefix-permitted : (w : Word) → Prefix (log_in b) w → T (permits (events_in b) (net_in b) w)
+    unfolding to_bundle
+    prefix-permitted w m =
+        let f = fields in
+        let d : Contents = record { head = head_of b; certificates = f.0 } in
+        permits-prefix (events_in b) (net_in b) (log_in b) ((accepted-parts (to_bundle d)).0 f.1.accepted).permitted w m
+
     longer-below : (w : Word) → Prefix (log_in b) w → (e : ℕ) → e < events_in b → Below (events_in b) (w ++ e ∷ [])
-    longer-below w m e h = (below_snoc (events_in b) w e).1 (prefix-below (events_in b) (log_in b) (log-below (head_of b) fields.1.limits.head) w m, h)
+    longer-below w m e h = (below_snoc (events_in b) w e).1 (prefix-events w m, h)
 
     -- a word of its events is readable
     pub word-readable : (w : Word) → length w ≤ max_word_events → Below (events_in b) w → Readable b w

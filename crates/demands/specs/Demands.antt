@@ -4,9 +4,10 @@
 -- Rust return and put in `answer`. Here they are gathered by name. A page for
 -- each change request says what it promised beyond that: BlockOrder.antt (request 1), Shortfalls.antt (2), Sealing.antt (3), Alterations.antt (4),
 -- Traffic.antt (5), Joining.antt (6), Pruning.antt (7; the refusals of prune stand there, too), Completed.antt (8), Converting.antt
--- (9: the refusals of to_new and to_old), Converted.antt (9: what they write), Carrying.antt (10: the refusals of start and step, what they leave)
--- and Carried.antt (10: a run of the carried engine). The demands are stated with the requests' changes in them; demands 2 and 3 as they were before
--- request 8, for bundles of the old edition, are at the end.
+-- (9: the refusals of to_new and to_old), Converted.antt (9: what they write), Carrying.antt (10: the refusals of start and step, what they leave),
+-- Carried.antt (10: a run of the carried engine), Replacing.antt (11: the refusals of replacing, what it leaves) and Sales.antt (11: a sale with
+-- replacements, and two files that meet the premise of demand 3). The demands are stated with the requests' changes in them; demands 2 and 3 as they
+-- were before request 8, for bundles of the old edition, are at the end.
 -- A file, a bundle, an output, a table and a word are lists of numbers; `Bytes` says that each number is below 256.
 use Rattle.std.specs.Prelude.{◌≡◌, true, false, not, ◌↔◌, ℕ, ◌*◌, ◌≤◌, ◌<◌, T, length, take, drop, get_or, Err, None, Ok, Some}
 use mathlib.Core.List.{List, [], ◌∷◌, ◌++◌, Memᴰ}
@@ -57,6 +58,7 @@ use Rattle.demands.specs.Screening.{ScreenExactly, JoinExactly}
 use Rattle.demands.specs.Pruning.{PruneExactly}
 use Rattle.demands.specs.Converting.{ToNewExactly, ToOldExactly}
 use Rattle.demands.specs.Carrying.{CallsOfEngine}
+use Rattle.demands.specs.Replacing.{CallOfReplacing}
 use Rattle.demands.specs.Boundary.{Boundary}
 use Rattle.demands.specs.Completed.{entries_in}
 
@@ -79,8 +81,9 @@ pub record Demand1 : Type 0 where
   pub to_new-exactly : (table_length : ℕ) (b : List ℕ) (room : ℕ) → Bytes b → ToNewExactly table_length b room
   pub to_old-exactly : (table_length : ℕ) (b : List ℕ) (room : ℕ) → Bytes b → ToOldExactly table_length b room
   pub fields-exactly : (b : List ℕ) (at : ℕ) → FieldsExactly b at
-  -- start and step of the carried engine: that too, their refusal numbers, and what each of their answers leaves of the slice
+  -- start and step of the carried engine, and replacing: that too, their refusal numbers, and what each of their answers leaves of what is lent
   pub engine : CallsOfEngine
+  pub replacing : CallOfReplacing
   -- what the calls for C and Rust return, 0 for a result alone and 256 for a stop alone, and which number stands where in `answer`
   pub boundary : Boundary
   -- the limits that no other line says by a numeral: 64 places, 64 terms, 64 pairs

@@ -15,8 +15,10 @@ pub mod Pruning
 pub mod Sealing
 pub mod Carrying
 pub mod Carried
+pub mod Replacing
 pub mod Boundary
 pub mod Demands
+pub mod Sales
 pub mod OpeningProved
 pub mod BlockOrderProved
 pub mod AlterationsProved
@@ -37,10 +39,14 @@ pub mod ConvertedProved
 pub mod PruningProved
 pub mod TrafficProved
 pub mod CarryingProved
+pub mod Permitting
 pub mod CarriedProved
 pub mod CarriedWhole
+pub mod ReplacingProved
 pub mod BoundaryProved
 pub mod Proved
+pub mod SalesProved
+pub mod SalesWhole
 pub mod OldJudgeProved
 pub mod OldProved
 pub mod Samples
@@ -50,6 +56,7 @@ pub mod CompletedSamples
 pub mod ConvertingSamples
 pub mod CarryingSamples
 pub mod Met
+pub mod ReplacingSamples
 pub mod CompletedBytes
 pub mod CompletedPairs
 pub mod CompletedProved

@@ -34,6 +34,7 @@ use Rattle.demands.specs.ScreeningProved.{screen-exactly, join-exactly}
 use Rattle.demands.specs.PruningProved.{prune-exactly}
 use Rattle.demands.specs.ConvertingProved.{to_new-exactly, to_old-exactly}
 use Rattle.demands.specs.CarryingProved.{calls-of-engine}
+use Rattle.demands.specs.ReplacingProved.{call-of-replacing}
 use Rattle.demands.specs.BoundaryProved.{boundary}
 use Rattle.demands.specs.Accepting.{acceptance-asks, counts_are, regions-exactly}
 use Rattle.demands.specs.Comparing.{accepted-head, net-complete, net-suboptimal, table-left, numbers-left, compared}
@@ -53,6 +54,7 @@ demand_1 = record {
   to_old-exactly = λ table_length b room bytes. to_old-exactly table_length b bytes room;
   fields-exactly = fields-exactly;
   engine = calls-of-engine;
+  replacing = call-of-replacing;
   boundary = boundary;
   refusals_of_open = open_numbers_lem;
   refusals_of_seal = seal_numbers_lem;
@@ -106,7 +108,7 @@ demand_2 = record {
 }
 
 -- the bundle of a file that opens and is accepted
-accepted-bundle : {file output table b : List ℕ} {c : Tally} → FileAccepted file output table b c → opened file ≡ value b
+pub accepted-bundle : {file output table b : List ℕ} {c : Tally} → FileAccepted file output table b c → opened file ≡ value b
 accepted-bundle {file} {output} f = answer-taken (opened file) output f.size f.opens ∙ ap value f.bundle
 
 pub demand_3 : Demand3

@@ -45,6 +45,16 @@ with_stepped numbers (Ok (Moved number)) = set numbers 0 number
 with_stepped numbers (Ok (Stopped stop)) = with_stop numbers stop
 with_stepped numbers (Err r) = set numbers 0 r.spot
 
+-- the number of an answer without a value: 0, or the refusal's
+unfoldable pub done_number : Answer (Unit {0}) → ℕ
+done_number (Ok u) = 0
+done_number (Err r) = r.number
+
+-- a refusal's spot in the first; else all stay
+unfoldable pub with_done : List ℕ → Answer (Unit {0}) → List ℕ
+with_done numbers (Ok u) = numbers
+with_done numbers (Err r) = set numbers 0 r.spot
+
 -- ---- A refusal is handed out alike by each: its number, and its spot in the first
 
 -- of the number that an answer gets, and of what the numbers hold afterwards
@@ -71,3 +81,7 @@ screened_refused = record { numbered = λ r. refl; spotted = λ numbers r. refl 
 pub stepped_refused : RefusedAlike stepped_number with_stepped
 unfolding stepped_number with_stepped
 stepped_refused = record { numbered = λ r. refl; spotted = λ numbers r. refl }
+
+pub done_refused : RefusedAlike done_number with_done
+unfolding done_number with_done
+done_refused = record { numbered = λ r. refl; spotted = λ numbers r. refl }

@@ -8,8 +8,9 @@ ghost use Rattle.refusals.specs.Answers.{Answer, number_of};
 ghost use Rattle.logs.specs.Answers.{taken_number};
 ghost use Rattle.verdicts.specs.Judging.{verdict_number};
 ghost use Rattle.screening.specs.Screening.{screened_number, stopped_number};
-ghost use Rattle.numbers.specs.Numbers.{with_value, with_taken, with_verdict, with_stop, with_screened, stepped_number, with_stepped, RefusedAlike};
-ghost use Rattle.numbers.specs.Numbers.{value_refused, taken_refused, verdict_refused, screened_refused, stepped_refused};
+ghost use Rattle.numbers.specs.Numbers.{with_value, with_taken, with_verdict, with_stop, with_screened, stepped_number, with_stepped};
+ghost use Rattle.numbers.specs.Numbers.{done_number, with_done, RefusedAlike};
+ghost use Rattle.numbers.specs.Numbers.{value_refused, taken_refused, verdict_refused, screened_refused, stepped_refused, done_refused};
 
 use engine::Outcome;
 use logs::Summary;
@@ -130,6 +131,20 @@ impl Numbers for Outcome {
             }
             Outcome::Stopped(stop) => write_stop(stop, answer),
         }
+    }
+}
+
+// Nothing but that it is done.
+#[tactic(auto, unfolding(crate::specs::Numbers::done_number, crate::specs::Numbers::with_done))]
+impl Numbers for () {
+    ghost number = { done_number };
+
+    ghost shown = { with_done };
+
+    ghost refused = { done_refused };
+
+    fn write(self, answer: &mut [u64; 4]) -> u32 {
+        0
     }
 }
 
