@@ -1,7 +1,7 @@
 /*
  * Hovmekhar: opening and sealing of files, the log table, judging, the pruning of
  * nets, conversion between the editions, the screening of words, and the engine that
- * plays them event by event. C11 and C++.
+ * plays them event by event, with another net from some event on. C11 and C++.
  * The library, libhovmekhar.a, is compiled for x86-64 Linux.
  *
  * A sealed file is 1 to 128 blocks of 512 bytes. Numbers of two bytes have the
@@ -73,12 +73,15 @@
  * that have the same n: those of the first, then those of the second, numbered on.
  *
  * The carried engine plays a word event by event; the caller keeps the tokens of the
- * places and the number of the events so far. hov_start gives the initial tokens, and
- * hov_step tests an event on every place before it moves their tokens. An event that a
- * place refuses is stopped: it moves no token and is not counted. Where all calls get
- * the same bundle, nothing else writes to the tokens and each number is handed on, the
- * answers are those of screening, and each place has m + the sum of
- * v(i) * (in(i) - out(i)) tokens after the counts v of the permitted events.
+ * places, the events so far in a buffer, and their number. hov_start gives the initial
+ * tokens, and hov_step tests an event on every place before it moves their tokens and
+ * keeps the event. One that a place refuses is stopped: it moves no token, and is
+ * neither kept nor counted. Where all calls get the same bundle, nothing else writes to
+ * tokens or buffer and each number is handed on, the answers are those of screening, and
+ * each place has m + the sum of v(i) * (in(i) - out(i)) tokens after the counts v of the
+ * permitted events. hov_replace puts another net in place of this one between two events,
+ * unless that stops on the events so far: the run then goes on just as if all its events
+ * had been played on the new net from the start.
  *
  * Every call returns HOV_OK for a result, else the number of a refusal (see
  * enum hov_refusal); screening and hov_step have a second result, HOV_STOPPED. A
@@ -88,10 +91,11 @@
  * The caller's duties, for every call:
  *   - No pointer is NULL, not even one with length 0.
  *   - Each pointer is valid for its length: inputs for reads; outputs, the
- *     table, the tokens and the four numbers of answer for reads and writes.
- *     The numbers of table, tokens and answer are aligned.
+ *     table, the tokens, the events that hov_step keeps and the four numbers
+ *     of answer for reads and writes. The numbers of table, tokens and answer
+ *     are aligned.
  *   - The buffers of one call do not overlap, except that the inputs of
- *     hov_screen and of hov_screen_joined may.
+ *     hov_screen, of hov_screen_joined and of hov_replace may.
  *   - Nothing else writes to these buffers during the call, and nothing else
  *     reads those that the call may write to.
  *
@@ -109,9 +113,9 @@ extern "C" {
 #endif
 
 /** The version, as text and in its three numbers. */
-#define HOV_VERSION "0.12.0"
+#define HOV_VERSION "0.13.0"
 #define HOV_VERSION_MAJOR 0
-#define HOV_VERSION_MINOR 12
+#define HOV_VERSION_MINOR 13
 #define HOV_VERSION_PATCH 0
 
 /** Bytes of a block. */
@@ -179,8 +183,8 @@ extern "C" {
  * The numbers of the refusals.
  *
  * Each comment gives the cause, the spot that answer[0] then holds, and what
- * stays as it was. No refusal writes to an input, to an output or to tokens.
- * hov_prune, hov_to_new and hov_to_old leave the table as judge does.
+ * stays as it was. No refusal writes to an input, to an output, to tokens or to
+ * kept events. hov_prune, hov_to_new and hov_to_old leave the table as judge does.
  *
  * This is the whole table, so that a number keeps its meaning when calls are
  * added.
@@ -203,12 +207,17 @@ enum hov_refusal {
      * open, seal, prune, to_new, to_old: the output is shorter than the result.
      * Spot: the length needed. As it was: the output. From prune, to_new and to_old
      * the bundle is accepted, and the rows of its log are in the table.
+     * step: the buffer has no room for the event behind those so far.
+     * Spot: the length needed, 1 more than their number. As it was: the tokens, the
+     * buffer.
+     * replace: the buffer is shorter than the events so far.
+     * Spot: the length needed, their number. As it was: the tokens.
      */
     HOV_OUTPUT_SHORT = 3,
 
     /**
-     * seal, judge, prune, to_new, to_old, screen, screen_joined, start, step: a
-     * bundle's length is 0 or above 64,512.
+     * seal, judge, prune, to_new, to_old, screen, screen_joined, start, step,
+     * replace: a bundle's length is 0 or above 64,512.
      * Spot: 0. As it was: the output, the table, the tokens.
      * to_new: the result's length is above 64,512; the bundle is accepted.
      * Spot: 0. As it was: the output. The rows of the log are in the table.
@@ -219,25 +228,27 @@ enum hov_refusal {
      * fresh, take, judge, prune, to_new, to_old: the table has fewer than 3,584
      * numbers.
      * Spot: 3,584. As it was: the table; from prune, to_new and to_old the output.
-     * start, step: there are fewer tokens than places.
+     * start, step: there are fewer tokens than places; replace: fewer than the new
+     * net has.
      * Spot: the number of places. As it was: the tokens.
      */
     HOV_NUMBERS_SHORT = 5,
 
     /**
-     * judge, prune, to_new, to_old, screen, screen_joined, start, step: a bundle ends
-     * before or inside a field.
+     * judge, prune, to_new, to_old, screen, screen_joined, start, step, replace: a
+     * bundle ends before or inside a field.
      * Spot: the offset of the field. As it was: the bundle, the tokens; from prune,
      * to_new and to_old the output. See HOV_VALUE for the table.
      */
     HOV_BUNDLE_END = 6,
 
     /**
-     * take, judge, prune, to_new, to_old, screen, screen_joined, start, step: a value
-     * is outside its range, or names a row, event, place or word that is not there.
+     * take, judge, prune, to_new, to_old, screen, screen_joined, start, step, replace:
+     * a value is outside its range, or names a row, event, place or word that is not
+     * there.
      * Spot: the offset of the field; in a lent word, the position in the word.
      * As it was: from take, the table; from prune, to_new and to_old, the output; from
-     * start and step, the tokens.
+     * start, step and replace, the tokens.
      * The judge, refusing with any number but 4 and 5, leaves the table's numbers 0
      * to 3,583 zero and the rest as it was; so do prune, to_new and to_old where the
      * refusal is the judge's.
@@ -245,8 +256,8 @@ enum hov_refusal {
     HOV_VALUE = 7,
 
     /**
-     * take, judge, prune, to_new, to_old, screen, screen_joined, start, step: the
-     * events would pass 1,024.
+     * take, judge, prune, to_new, to_old, screen, screen_joined, start, step, replace:
+     * the events would pass 1,024.
      * Spot: the offset of the word's length byte; from take 0.
      * As it was: as for HOV_VALUE.
      */
@@ -289,6 +300,7 @@ enum hov_refusal {
      * screen, screen_joined: the word has more than 65,535 events.
      * Spot: 65,535. As it was: the inputs.
      * step: there were 65,535 events or more before this one.
+     * replace: there were more than 65,535 events so far.
      * Spot: 65,535. As it was: the tokens.
      */
     HOV_WORD_LENGTH = 14,
@@ -298,6 +310,8 @@ enum hov_refusal {
      * Spot: its position. As it was: the inputs.
      * step: the event is not below the event count.
      * Spot: the number of events before it. As it was: the tokens.
+     * replace: a kept event is not below the event count of both nets.
+     * Spot: its position. As it was: the tokens.
      */
     HOV_WORD_EVENT = 15,
 
@@ -342,7 +356,20 @@ enum hov_refusal {
      * Spot: the number of the first such word, from 0. As it was: the output. The
      * rows of the log are in the table.
      */
-    HOV_WORD_COMPLETED = 21
+    HOV_WORD_COMPLETED = 21,
+
+    /**
+     * replace: the event counts of the two bundles are not the same.
+     * Spot: 0. As it was: the tokens.
+     */
+    HOV_REPLACED_EVENTS = 22,
+
+    /**
+     * replace: a place of the new net refuses one of the events so far. The run can
+     * go on with the old net.
+     * Spot: the position of the first such event. As it was: the tokens.
+     */
+    HOV_RUN_STOPPED = 23
 };
 
 /**
@@ -603,29 +630,67 @@ uint32_t hov_start(const uint8_t *bundle, size_t bundle_len,
 
 /**
  * Plays an event of a run behind so many others: number is that of the events so far,
- * which the call before put in answer[0]. tokens_len counts numbers, not bytes.
+ * which the call before put in answer[0], and kept has these events in front. tokens_len
+ * counts numbers, not bytes.
  *
  * Every place is tested first: it permits the event when it has out(event) tokens or
- * more. When all do, each gets out(event) tokens fewer and in(event) more. Tokens and
- * number may be others than a run leaves, and are then taken as they are. The numbers
- * behind the last place are neither looked at nor changed.
+ * more. When all do, each gets out(event) tokens fewer and in(event) more, and
+ * kept[number] becomes the event. Tokens and number may be others than a run leaves, and
+ * are then taken as they are. The numbers behind the last place and the other bytes of
+ * kept are neither looked at nor changed.
  *
  * Returns HOV_OK, with number + 1 in answer[0], to be handed to the next call;
  * answer[1] to answer[3] stay as they were. Returns HOV_STOPPED when a place refuses
  * the event, with number in answer[0], in answer[1] the lowest such place, and in
- * answer[2] its shortfall, at least 1 and at most 65,535; answer[3] and the tokens stay
- * as they were, and the run can go on with another event.
+ * answer[2] its shortfall, at least 1 and at most 65,535; answer[3], the tokens and kept
+ * stay as they were, and the run can go on with another event.
  *
  * Or returns the first refusal that applies, with its spot in answer[0]:
  * HOV_WORD_LENGTH; then HOV_BUNDLE_LENGTH, HOV_BUNDLE_END, HOV_VALUE, HOV_EVENTS and
  * HOV_NUMBERS_SHORT as in hov_start; then HOV_STATE_RANGE, where a place has more than
- * HOV_MAX_TOKENS tokens; then HOV_WORD_EVENT. All leave the tokens and answer[1] to
- * answer[3] as they were.
+ * HOV_MAX_TOKENS tokens; then HOV_WORD_EVENT; then HOV_OUTPUT_SHORT, where kept has not
+ * more than number bytes. All leave the tokens, kept and answer[1] to answer[3] as they
+ * were.
+ *
+ * HOV_MAX_WORD_EVENTS bytes of kept are enough for every run.
  */
 uint32_t hov_step(const uint8_t *bundle, size_t bundle_len,
                   uint64_t *tokens, size_t tokens_len,
+                  uint8_t *kept, size_t kept_len,
                   size_t number, size_t event,
                   uint64_t answer[4]);
+
+/**
+ * Puts the net of a new bundle in place of that of an old one, between two events of a
+ * run: writes the tokens of the new net's places behind the events so far, which are the
+ * first number bytes of kept, to the front of the tokens and leaves the rest as it was.
+ * tokens_len counts numbers, not bytes. What they held does not matter. Each bundle is
+ * read as hov_screen reads one, and need not be one that hov_judge accepts; of the old
+ * one only the event count is used.
+ *
+ * Where only these calls wrote to tokens and kept since hov_start, and each number was
+ * handed on, the run goes on just as if all its events had been played on the new net
+ * from the start. HOV_REPLACED_EVENTS, HOV_WORD_EVENT and HOV_RUN_STOPPED never come
+ * where hov_judge accepts both bundles, which have the same event count, the events so
+ * far are a prefix of the old log, each prefix of the old log is one of the new log, and
+ * each completed word of the old one is completed in the new one.
+ *
+ * Returns HOV_OK; answer stays as it was. The next step gets the new bundle and the same
+ * number. Or returns the first refusal that applies, with its spot in answer[0]:
+ * HOV_WORD_LENGTH; then HOV_OUTPUT_SHORT, where kept has fewer than number bytes; then
+ * HOV_BUNDLE_LENGTH, HOV_BUNDLE_END, HOV_VALUE and HOV_EVENTS as in hov_start, first
+ * those of the old bundle and then those of the new one, each with its spot in its own
+ * bundle; then HOV_REPLACED_EVENTS; then HOV_NUMBERS_SHORT, where there are fewer tokens
+ * than places of the new net; then HOV_WORD_EVENT, for the first of the events so far
+ * that is not below n; then HOV_RUN_STOPPED. All leave the tokens and answer[1] to
+ * answer[3] as they were, and the run can go on with the old bundle.
+ */
+uint32_t hov_replace(const uint8_t *old_bundle, size_t old_len,
+                     const uint8_t *new_bundle, size_t new_len,
+                     uint64_t *tokens, size_t tokens_len,
+                     const uint8_t *kept, size_t kept_len,
+                     size_t number,
+                     uint64_t answer[4]);
 
 /**
  * What a refusal means, in words for a message: the number is what a call
@@ -639,7 +704,8 @@ static inline const char *hov_refusal_text(uint32_t number)
     case HOV_BLOCK_SUMS:
         return "a block's sums are wrong";
     case HOV_OUTPUT_SHORT:
-        return "the output is shorter than the result";
+        return "the output is shorter than the result, or the buffer than "
+               "the events of the run";
     case HOV_BUNDLE_LENGTH:
         return "the bundle's length is 0 or above 64,512, or the result's is "
                "above 64,512";
@@ -685,6 +751,11 @@ static inline const char *hov_refusal_text(uint32_t number)
                "completed word";
     case HOV_WORD_COMPLETED:
         return "a word is completed, and the old edition has no mark for it";
+    case HOV_REPLACED_EVENTS:
+        return "the event counts of the bundle and of the one that replaces "
+               "it are not the same";
+    case HOV_RUN_STOPPED:
+        return "the net that replaces another stops on the events so far";
     default:
         return "no refusal has this number";
     }

@@ -1,12 +1,14 @@
 //! The arguments.
 
+mod options;
 mod values;
 
 use crate::editions::Edition;
 use crate::names::shown;
+use options::split;
 use std::ffi::OsString;
 use std::fmt;
-use values::{certificate_number, file_and_word, one_standard_input, wanted_edition};
+use values::{file_and_word, one_standard_input};
 
 /// What the arguments ask for.
 #[derive(Debug, PartialEq, Eq)]
@@ -29,12 +31,10 @@ pub enum Request {
         /// The events of the word; 255 stands for every higher number.
         word: Vec<u8>,
     },
-    /// The tokens of a net, event by event.
+    /// The tokens of a net, event by event, and of those that take its place.
     Replay {
-        /// The file of the net.
-        file: OsString,
-        /// The events of the word; 255 stands for every higher number.
-        word: Vec<u8>,
+        /// The nets in turn, at least one; `-` for one of them at most.
+        parts: Vec<Part>,
     },
     /// A sealed file of a bundle.
     Seal {
@@ -73,6 +73,15 @@ pub enum Request {
         /// The only certificate to be shown.
         certificate: Option<usize>,
     },
+}
+
+/// A net, and events to play on it.
+#[derive(Clone, Debug, PartialEq, Eq)]
+pub struct Part {
+    /// The file of the net.
+    pub file: OsString,
+    /// The events; 255 stands for every higher number.
+    pub word: Vec<u8>,
 }
 
 /// What `--help` prints.
@@ -124,7 +133,7 @@ impl Command {
         match self {
             Self::Judge => "hov judge FILE...",
             Self::Screen => "hov screen FILE [--with FILE2] EVENT...",
-            Self::Replay => "hov replay FILE EVENT...",
+            Self::Replay => "hov replay FILE EVENT... [--then FILE2 EVENT...]...",
             Self::Seal => "hov seal IN OUT",
             Self::Unseal => "hov unseal IN OUT",
             Self::Prune => "hov prune IN OUT",
@@ -163,34 +172,18 @@ pub fn parse(mut arguments: impl Iterator<Item = OsString>) -> Result<Request, U
     }
 }
 
-/// The arguments of a command, with its options apart.
-struct Split {
-    operands: Vec<OsString>,
-    certificate: Option<usize>,
-    with: Option<OsString>,
-    edition: Option<Edition>,
-}
-
 fn parse_command(
     command: Command,
     arguments: impl Iterator<Item = OsString>,
 ) -> Result<Request, Usage> {
-    let Some(Split {
-        operands,
-        certificate,
-        with,
-        edition,
-    }) = split(command, arguments)?
-    else {
+    let Some(split) = split(command, arguments)? else {
         return Ok(Request::Help);
     };
+    let operands = split.operands;
     match command {
         Command::Judge => judge(operands),
-        Command::Screen => screen(operands, with),
-        Command::Replay => {
-            let (file, word) = file_and_word(command, operands)?;
-            Ok(Request::Replay { file, word })
-        }
+        Command::Screen => screen(operands, split.with),
+        Command::Replay => replay(split.before, operands),
         Command::Seal => {
             exactly(command, operands).map(|[input, output]| Request::Seal { input, output })
         }
@@ -202,7 +195,7 @@ fn parse_command(
         }
         Command::Convert => {
             let missing = || command.wrong("no edition: '--to new' or '--to old'".into());
-            let edition = edition.ok_or_else(missing)?;
+            let edition = split.edition.ok_or_else(missing)?;
             let [input, output] = exactly(command, operands)?;
             Ok(Request::Convert {
                 edition,
@@ -212,49 +205,10 @@ fn parse_command(
         }
         Command::Show => {
             let [file] = exactly(command, operands)?;
+            let certificate = split.certificate;
             Ok(Request::Show { file, certificate })
         }
     }
-}
-
-/// Takes the options out, up to `--`. Nothing when they ask for help.
-fn split(
-    command: Command,
-    mut arguments: impl Iterator<Item = OsString>,
-) -> Result<Option<Split>, Usage> {
-    let mut operands = Vec::new();
-    let mut certificate = None;
-    let mut with = None;
-    let mut edition = None;
-    while let Some(argument) = arguments.next() {
-        let is_option = argument.as_encoded_bytes().starts_with(b"-") && argument != "-";
-        match (argument.to_str(), command) {
-            _ if !is_option => operands.push(argument),
-            (Some("--"), _) => operands.extend(arguments.by_ref()),
-            (Some("--help" | "-h"), _) => return Ok(None),
-            (Some("--certificate"), Command::Show) if certificate.is_none() => {
-                certificate = Some(certificate_number(arguments.next())?);
-            }
-            (Some("--with"), Command::Screen) if with.is_none() => {
-                let file = arguments.next();
-                let missing = || command.wrong("no file behind '--with'".into());
-                with = Some(file.ok_or_else(missing)?);
-            }
-            (Some("--to"), Command::Convert) if edition.is_none() => {
-                edition = Some(wanted_edition(arguments.next())?);
-            }
-            _ => {
-                let problem = format!("no such option here: '{}'", shown(&argument));
-                return Err(command.wrong(problem));
-            }
-        }
-    }
-    Ok(Some(Split {
-        operands,
-        certificate,
-        with,
-        edition,
-    }))
 }
 
 fn judge(files: Vec<OsString>) -> Result<Request, Usage> {
@@ -270,8 +224,20 @@ fn screen(operands: Vec<OsString>, with: Option<OsString>) -> Result<Request, Us
     if let Some(file) = operands.first() {
         one_standard_input(Command::Screen, [file].into_iter().chain(&with))?;
     }
-    let (file, word) = file_and_word(Command::Screen, operands)?;
+    let Part { file, word } = file_and_word(Command::Screen, operands)?;
     Ok(Request::Screen { file, with, word })
+}
+
+/// The operands before each `--then`, and those behind the last.
+fn replay(before: Vec<Vec<OsString>>, last: Vec<OsString>) -> Result<Request, Usage> {
+    let mut all = before;
+    all.push(last);
+    // As in screening, an input that is there twice is told first.
+    let files = all.iter().filter_map(|operands| operands.first());
+    one_standard_input(Command::Replay, files)?;
+    let part = |operands| file_and_word(Command::Replay, operands);
+    let parts = all.into_iter().map(part).collect::<Result<_, Usage>>()?;
+    Ok(Request::Replay { parts })
 }
 
 /// As many arguments as the command takes.

@@ -54,7 +54,7 @@ fn answer(request: Request) -> Result<Status, Trouble> {
             None => screen::screen(&file, &word),
             Some(with) => screen::screen_joined(&file, &with, &word),
         },
-        Request::Replay { file, word } => replay::replay(&file, &word),
+        Request::Replay { parts } => replay::replay(&parts),
         Request::Seal { input, output } => sealing::seal(&input, &output),
         Request::Unseal { input, output } => sealing::unseal(&input, &output),
         Request::Prune { input, output } => pruning::prune(&input, &output),

@@ -1,17 +1,17 @@
 //! `hov replay`.
 
+#[path = "support/replaying.rs"]
+mod replaying;
 mod support;
 
-use differential::bundles::SAMPLE_H;
-use differential::engine::marking;
+use differential::bundles::{Bundle, SAMPLE_H};
 use differential::faults::BlockFault;
 use differential::files::build;
-use differential::places::Place;
 use differential::run::Run;
 use differential::screening::{any_net, Kind, MAX_WORD_EVENTS};
-use reference::Screened;
+use replaying::{idleness, played, tokens_line};
 use std::fs::{self, File};
-use support::{command, directory, hov, hov_unread, hov_with, refused, stopped, Done};
+use support::{command, directory, hov, hov_unread, hov_with, refused, Done};
 
 const A: &str = "samples/a.sealed";
 const SALES: &str = "samples/sales.sealed";
@@ -147,43 +147,14 @@ fn longest_words() {
 }
 
 /// What `hov replay` owes for a word of events that are there, by the sums of counts.
-fn owed(bundle: &differential::bundles::Bundle, word: &[u8]) -> Done {
-    let places: Vec<Place> = bundle.places.iter().map(Place::from).collect();
-    let shown = |word: &[u8]| {
-        let tokens = marking(bundle.n, &places, word);
-        let tokens: Vec<String> = tokens.iter().map(u64::to_string).collect();
-        match tokens.as_slice() {
-            [] => "no places".to_string(),
-            _ => tokens.join(" "),
-        }
-    };
-    let (status, end, line) = match reference::screen(&bundle.bytes(), word) {
-        Ok(Screened::Permitted) => (0, word.len(), "permitted\n".to_string()),
-        Ok(Screened::Stopped {
-            position,
-            place,
-            shortfall,
-        }) => {
-            let line = stopped(word, [position, place, shortfall], "");
-            (1, position, line)
-        }
-        Err(refused) => panic!("{refused:?}"),
-    };
-    let mut text = format!("at first: {}\n", shown(&[]));
-    for length in 1..=end {
-        let event = word[length - 1];
-        text += &format!("after event {event}: {}\n", shown(&word[..length]));
+fn owed(bundle: &Bundle, word: &[u8]) -> Done {
+    let at_first = tokens_line("at first", bundle, &[]);
+    let (lines, end, is_stopped) = played(bundle, word, 0, "");
+    let idleness = idleness(bundle, &word[..end]);
+    match is_stopped {
+        true => Done::new(1, &format!("{at_first}{lines}{idleness}"), ""),
+        false => Done::new(0, &format!("{at_first}{lines}permitted\n{idleness}"), ""),
     }
-    let initial = marking(bundle.n, &places, &[]);
-    let left = marking(bundle.n, &places, &word[..end]);
-    let idleness = match (0..left.len()).find(|&place| left[place] != initial[place]) {
-        None => "idle: each place has its initial tokens\n".to_string(),
-        Some(place) => format!(
-            "not idle: place {place} has {}, at first {}\n",
-            left[place], initial[place]
-        ),
-    };
-    Done::new(status, &format!("{text}{line}{idleness}"), "")
 }
 
 /// Words of every kind on any nets.

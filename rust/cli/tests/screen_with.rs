@@ -7,9 +7,10 @@ use differential::files::build;
 use differential::run::Run;
 use differential::screening::{two_nets, Kind, MAX_WORD_EVENTS, ONE_FOLLOWS};
 use reference::Screened;
-use std::fs::{self, File};
-use std::path::Path;
-use support::{command, directory, hov, hov_in, hov_unread, hov_with, refused, stopped, Done};
+use std::fs::File;
+use support::{
+    command, directory, hov, hov_in, hov_unread, hov_with, refused, sealed, stopped, Done,
+};
 
 const A: &str = "samples/a.sealed";
 
@@ -18,13 +19,6 @@ fn screen(file: &str, with: &str, word: &[u8]) -> Done {
     let mut arguments = ["screen", file, "--with", with].map(String::from).to_vec();
     arguments.extend(word.iter().map(u8::to_string));
     hov(&arguments)
-}
-
-/// Writes the sealed file of a bundle, and returns its name.
-fn sealed(directory: &Path, name: &str, bundle: &[u8]) -> String {
-    let path = directory.join(name);
-    fs::write(&path, build(bundle)).expect("the file is written");
-    path.to_str().expect("a name in text").into()
 }
 
 /// What is told of a place, by its number in the net of a file.

@@ -6,7 +6,9 @@ use crate::files::MAX_BUNDLE_SIZE;
 use std::ops::Range;
 
 pub use known::{five_long_words, one_for_each_answer, unbalanced};
-pub use known::{SAMPLE_A, SAMPLE_A_NEW, SAMPLE_E, SAMPLE_F, SAMPLE_G, SAMPLE_H, SAMPLE_NEW};
+pub use known::{
+    SAMPLE_A, SAMPLE_A_NEW, SAMPLE_E, SAMPLE_F, SAMPLE_G, SAMPLE_H, SAMPLE_LONGER, SAMPLE_NEW,
+};
 
 /// The largest number of words.
 pub const MAX_WORDS: usize = 255;

@@ -31,6 +31,25 @@ pub fn has_compiler(compiler: &str) -> bool {
     version.is_ok_and(|done| done.status.success())
 }
 
+/// Compiles a program of `tests/c` with the C compiler that also links Rust programs into a
+/// directory, runs it, and returns what it printed.
+///
+/// # Panics
+///
+/// When it does not compile, or ends with another status than 0.
+pub fn run_test(name: &str, directory: &Path) -> String {
+    let source = Path::new(env!("CARGO_MANIFEST_DIR"))
+        .join("tests/c")
+        .join(name)
+        .with_extension("c");
+    let program = directory.join(name);
+    compile(&c_compiler(), "c11", &source, &program);
+
+    let done = Command::new(program).output().expect("the program runs");
+    assert_eq!(done.status.code(), Some(0), "{name}");
+    String::from_utf8(done.stdout).expect("the program prints text")
+}
+
 /// Compiles a program with this compiler as this language, `c11` or `c++17`, say.
 ///
 /// # Panics

@@ -22,7 +22,7 @@ pub struct File {
     /// The places.
     pub net: Vec<Place>,
     /// As it was opened.
-    bundle: Vec<u8>,
+    pub bundle: Vec<u8>,
     /// As they were answered.
     pub counts: Tally,
 }

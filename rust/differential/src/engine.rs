@@ -1,11 +1,14 @@
 //! A further reading of the rules for the carried engine besides the reference, kept as
-//! close to their wording as possible and without regard to speed; and tokens to lend.
+//! close to their wording as possible and without regard to speed.
 
-use crate::places::Place;
-use crate::rng::Rng;
-use crate::run::{refusal, Carried, Outcome, Run};
+mod lending;
+
+use crate::places::{first_refused, Place};
+use crate::run::{refusal, Carried, Outcome, Played, Run};
 use crate::screening::{read_net, MAX_WORD_EVENTS};
 use reference::{Screened, Step};
+
+pub use lending::{any_event, any_kept, any_number, any_tokens, lengths, room};
 
 /// The most tokens that a place has after as many events as a word can have: 65,535 initial
 /// ones and as many for each event.
@@ -36,18 +39,27 @@ fn start_into(bundle: &[u8], tokens: &mut [u64]) -> Outcome {
 pub fn step_by_definitions(
     bundle: &[u8],
     tokens: &[u64],
+    kept: &[u8],
     number: usize,
     event: usize,
-) -> Carried<Step> {
-    let mut left = tokens.to_vec();
-    let outcome = step_into(bundle, &mut left, number, event);
-    Carried {
+) -> Played {
+    let mut tokens = tokens.to_vec();
+    let mut kept = kept.to_vec();
+    let outcome = step_into(bundle, &mut tokens, &mut kept, number, event);
+    Played {
         outcome,
-        tokens: left,
+        tokens,
+        kept,
     }
 }
 
-fn step_into(bundle: &[u8], tokens: &mut [u64], number: usize, event: usize) -> Outcome<Step> {
+fn step_into(
+    bundle: &[u8],
+    tokens: &mut [u64],
+    kept: &mut [u8],
+    number: usize,
+    event: usize,
+) -> Outcome<Step> {
     if number >= MAX_WORD_EVENTS {
         return refusal(14, MAX_WORD_EVENTS);
     }
@@ -63,21 +75,72 @@ fn step_into(bundle: &[u8], tokens: &mut [u64], number: usize, event: usize) -> 
     if event >= n {
         return refusal(15, number);
     }
-    for (j, place) in places.iter().enumerate() {
-        let missing = place.outs[event] - i128::from(tokens[j]);
-        if missing > 0 {
-            return Ok(Step::Stopped {
-                position: number,
-                place: j,
-                shortfall: missing as usize,
-            });
-        }
+    if kept.len() <= number {
+        return refusal(3, number + 1);
+    }
+    if let Some((place, shortfall)) = lacking(&places, tokens, event) {
+        return Ok(Step::Stopped {
+            position: number,
+            place,
+            shortfall,
+        });
     }
     for (j, place) in places.iter().enumerate() {
         let moved = i128::from(tokens[j]) - place.outs[event] + place.ins[event];
         tokens[j] = u64::try_from(moved).expect("no overflow");
     }
+    kept[number] = event as u8;
     Ok(Step::Moved(number + 1))
+}
+
+/// The lowest place that has too few tokens for an event, and how many it lacks.
+fn lacking(places: &[Place], tokens: &[u64], event: usize) -> Option<(usize, usize)> {
+    let missing = |j: usize| places[j].outs[event] - i128::from(tokens[j]);
+    let place = (0..places.len()).find(|&j| missing(j) > 0)?;
+    Some((place, missing(place) as usize))
+}
+
+/// Replaces a net by the definitions: the old one, then the new one.
+pub fn replace_by_definitions(
+    nets: [&[u8]; 2],
+    tokens: &[u64],
+    kept: &[u8],
+    number: usize,
+) -> Carried<()> {
+    let mut tokens = tokens.to_vec();
+    let outcome = replace_into(nets, &mut tokens, kept, number);
+    Carried { outcome, tokens }
+}
+
+fn replace_into(
+    [old, new]: [&[u8]; 2],
+    tokens: &mut [u64],
+    kept: &[u8],
+    number: usize,
+) -> Outcome<()> {
+    if number > MAX_WORD_EVENTS {
+        return refusal(14, MAX_WORD_EVENTS);
+    }
+    if kept.len() < number {
+        return refusal(3, number);
+    }
+    let (old_n, _) = read_net(old)?;
+    let (n, places) = read_net(new)?;
+    if old_n != n {
+        return refusal(22, 0);
+    }
+    if tokens.len() < places.len() {
+        return refusal(5, places.len());
+    }
+    let events = &kept[..number];
+    if let Some(position) = events.iter().position(|&event| usize::from(event) >= n) {
+        return refusal(15, position);
+    }
+    if let Some(refused) = first_refused(n, &places, events) {
+        return refusal(23, refused.position);
+    }
+    tokens[..places.len()].copy_from_slice(&marking(n, &places, events));
+    Ok(())
 }
 
 /// Starts a run on both sides, and checks the answer and the tokens by the definitions.
@@ -88,25 +151,58 @@ pub fn start(run: &mut Run, bundle: &[u8], tokens: &[u64]) -> Carried<usize> {
     started
 }
 
-/// Plays an event on both sides, and checks the answer and the tokens by the definitions.
+/// Plays an event on both sides, and checks the answer, the tokens and the buffer by the
+/// definitions.
 pub fn step(
+    run: &mut Run,
+    bundle: &[u8],
+    tokens: &[u64],
+    kept: &[u8],
+    number: usize,
+    event: usize,
+) -> Played {
+    let played = run.step_tokens(bundle, tokens, kept, number, event);
+    let expected = step_by_definitions(bundle, tokens, kept, number, event);
+    assert_eq!(played, expected, "{bundle:?}, {tokens:?}, {event}, {run}");
+    played
+}
+
+/// Plays an event as [`step`] does, with a buffer of any bytes that has room for it.
+pub fn step_with_room(
     run: &mut Run,
     bundle: &[u8],
     tokens: &[u64],
     number: usize,
     event: usize,
-) -> Carried<Step> {
-    let played = run.step_tokens(bundle, tokens, number, event);
-    let expected = step_by_definitions(bundle, tokens, number, event);
-    assert_eq!(played, expected, "{bundle:?}, {tokens:?}, {event}, {run}");
-    played
+) -> Played {
+    let kept = room(&mut run.rng, number);
+    step(run, bundle, tokens, &kept, number, event)
+}
+
+/// Replaces a net on both sides, the old one by the new one, and checks the answer and the
+/// tokens by the definitions.
+pub fn replace(
+    run: &mut Run,
+    nets: [&[u8]; 2],
+    tokens: &[u64],
+    kept: &[u8],
+    number: usize,
+) -> Carried<()> {
+    let replaced = run.replace_tokens(nets, tokens, kept, number);
+    let expected = replace_by_definitions(nets, tokens, kept, number);
+    assert_eq!(replaced, expected, "{nets:?}, {tokens:?}, {number}, {run}");
+    replaced
 }
 
 /// Plays a word: a start, and then a step for each event, up to the first that is stopped or
-/// refused. The answer in screening's terms, and the tokens that are left.
+/// refused, with a buffer that has room for them. The answer in screening's terms, and the
+/// tokens that are left. All events that are permitted are kept, in order, and the rest of
+/// the buffer stays.
 pub fn play(run: &mut Run, bundle: &[u8], tokens: &[u64], word: &[u8]) -> Carried<Screened> {
     let started = start(run, bundle, tokens);
     let mut tokens = started.tokens;
+    let noise = room(&mut run.rng, word.len());
+    let mut kept = noise.clone();
     let mut number = match started.outcome {
         Ok(number) => number,
         Err(refused) => {
@@ -117,8 +213,13 @@ pub fn play(run: &mut Run, bundle: &[u8], tokens: &[u64], word: &[u8]) -> Carrie
         }
     };
     for &event in word {
-        let played = step(run, bundle, &tokens, number, event.into());
-        tokens = played.tokens;
+        let played = step(run, bundle, &tokens, &kept, number, event.into());
+        (tokens, kept) = (played.tokens, played.kept);
+        let before = number + usize::from(matches!(played.outcome, Ok(Step::Moved(_))));
+        assert_eq!(
+            (&kept[..before], &kept[before..]),
+            (&word[..before], &noise[before..])
+        );
         match screened(played.outcome) {
             (outcome, None) => return Carried { outcome, tokens },
             (_, Some(next)) => number = next,
@@ -155,45 +256,4 @@ pub fn marking(n: usize, places: &[Place], word: &[u8]) -> Vec<u64> {
     let counts = crate::logs::counts_below(n, word);
     let tokens = |place: &Place| u64::try_from(place.tokens(&counts)).expect("permitted");
     places.iter().map(tokens).collect()
-}
-
-/// How many numbers to lend for so many places: none, too few by one, exactly, and more.
-pub fn lengths(rng: &mut Rng, places: usize) -> [usize; 5] {
-    [
-        0,
-        places.saturating_sub(1),
-        places,
-        places + 1,
-        places + rng.within(2..=70),
-    ]
-}
-
-/// So many numbers of any kind: few tokens, as many as a place can have at most and about so
-/// many, and any others.
-pub fn any_tokens(rng: &mut Rng, length: usize) -> Vec<u64> {
-    let most = rng.choose(&[3, 65_535, 200_000, MAX_TOKENS]);
-    let mut number = || match rng.below(200) {
-        0 => rng.choose(&[MAX_TOKENS + 1, 1 << 32, 1 << 63, u64::MAX]),
-        1 => rng.number(),
-        2..=20 => MAX_TOKENS - rng.below(3) as u64,
-        _ => rng.number() % (most + 1),
-    };
-    (0..length).map(|_| number()).collect()
-}
-
-/// Numbers of events worth trying.
-pub fn any_number(rng: &mut Rng) -> usize {
-    match rng.below(3) {
-        0 => rng.choose(&[65_535, 65_536, 1 << 32, usize::MAX]),
-        1 => rng.choose(&[0, 1, 65_533, 65_534]),
-        _ => rng.below(65_535),
-    }
-}
-
-/// Events worth trying on a net of `n`: mostly one that is there.
-pub fn any_event(rng: &mut Rng, n: usize) -> usize {
-    match rng.below(5) {
-        0 => rng.choose(&[n, n + 1, 12, 255, 256, 65_536, 1 << 32, usize::MAX]),
-        _ => rng.below(n),
-    }
 }

@@ -1,5 +1,6 @@
 //! Lent buffers with guards on both sides.
 
+pub mod carried;
 pub mod rewritten;
 
 use crate::run::Run;
@@ -39,11 +40,16 @@ impl<T: Copy + PartialEq> Guarded<T> {
     /// Whether both guards and all of the buffer but its first `written` items
     /// are as they were.
     pub fn kept_beyond(&self, written: usize) -> bool {
+        self.kept_but(0..written)
+    }
+
+    /// Whether both guards and all of the buffer but these items are as they were.
+    pub fn kept_but(&self, written: Range<usize>) -> bool {
         // The compiler may not conclude anything from what was lent how.
         let now = black_box(self.now.as_slice());
-        let written_end = self.lent.start + written;
-        now[..self.lent.start] == self.before[..self.lent.start]
-            && now[written_end..] == self.before[written_end..]
+        let start = self.lent.start + written.start;
+        let end = self.lent.start + written.end;
+        now[..start] == self.before[..start] && now[end..] == self.before[end..]
     }
 }
 
@@ -106,6 +112,7 @@ mod tests {
             buffer.now[changed] += 1;
             assert_eq!(buffer.kept_beyond(1), changed == 2, "item {changed}");
             assert!(!buffer.kept_beyond(0), "item {changed}");
+            assert_eq!(buffer.kept_but(1..2), changed == 3, "item {changed}");
         }
     }
 }

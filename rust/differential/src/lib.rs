@@ -9,13 +9,13 @@
 //! - [`bundles`]: bundles and their fields.
 //! - [`nets`]: nets and certificates for logs, with the method of [`simplex`].
 //! - [`limits`], [`sales`]: bundles up to the limits, in the old edition and the new.
-//! - [`bundle_faults`], [`ordered_faults`]: bundles that have to be refused, for one fault or
-//!   for the first of several.
+//! - [`bundle_faults`], [`ordered_faults`], [`head_faults`]: bundles that have to be refused,
+//!   for one fault or for the first of several, by the judge or up to their last place.
 //! - [`fields`], [`places`]: reading a bundle, and its places, by the definitions.
 //! - [`judging`], [`pruning`], [`editions`], [`screening`], [`engine`]: judging, pruning,
 //!   conversion, screening and the carried engine, by the definitions.
 //! - [`rewriting`]: the calls that judge a bundle and write it anew.
-//! - [`comparing`]: two accepted files compared.
+//! - [`comparing`], [`log_pairs`]: two accepted files compared, and pairs to compare.
 //! - [`long_words`]: long words, and places that have no token to spare on them.
 //! - [`samples`]: the files in `samples/`.
 //! - [`vectors`]: cases with their answers, from a file.
@@ -45,8 +45,10 @@ pub mod faults;
 pub mod fields;
 pub mod files;
 pub mod guarded;
+pub mod head_faults;
 pub mod judging;
 pub mod limits;
+pub mod log_pairs;
 pub mod logs;
 pub mod long_words;
 pub mod nets;

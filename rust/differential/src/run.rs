@@ -12,7 +12,7 @@ use std::collections::BTreeMap;
 use std::time::{SystemTime, UNIX_EPOCH};
 use std::{env, fmt};
 
-pub use carried::Carried;
+pub use carried::{Carried, Played};
 pub use with_table::WithTable;
 
 /// What a call answers: a result or a refusal. The result is a length, except

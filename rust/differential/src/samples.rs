@@ -2,7 +2,7 @@
 //!
 //! `cargo run -p differential --example write_samples` writes them.
 
-use crate::bundles::{unbalanced, SAMPLE_A, SAMPLE_E, SAMPLE_F, SAMPLE_NEW};
+use crate::bundles::{unbalanced, SAMPLE_A, SAMPLE_E, SAMPLE_F, SAMPLE_LONGER, SAMPLE_NEW};
 use crate::files::{build, BLOCK};
 use crate::limits::MIDDLE;
 use crate::rng::Rng;
@@ -30,6 +30,7 @@ pub fn all() -> Vec<Sample> {
         ("a.sealed", build(&SAMPLE_A), "accepted 5 4 5 1"),
         ("e.sealed", build(&SAMPLE_E), "accepted 1 0 1 0"),
         ("f.sealed", build(&SAMPLE_F), "refused 6 3"),
+        ("longer.sealed", build(&SAMPLE_LONGER), "accepted 7 6 7 1"),
         ("several.sealed", build(&several), "accepted 43 42 177 39"),
         ("sales.sealed", build(&SAMPLE_NEW), "accepted 4 3 7 2"),
         ("unbalanced.sealed", build(&unbalanced()), "refused 20 1"),

@@ -190,6 +190,12 @@ pub fn any_net(rng: &mut Rng) -> (Bundle, Vec<u8>) {
 /// a word.
 pub fn two_nets(rng: &mut Rng) -> (Bundle, Bundle, Vec<u8>) {
     let (first, word) = any_net(rng);
+    let second = another_net(rng, &first, &word);
+    (first, second, word)
+}
+
+/// A further bundle over the same events, whose places are such for the same word.
+pub fn another_net(rng: &mut Rng, first: &Bundle, word: &[u8]) -> Bundle {
     let n = first.n;
     let words = match rng.below(3) {
         0 => Vec::new(),
@@ -197,13 +203,12 @@ pub fn two_nets(rng: &mut Rng) -> (Bundle, Bundle, Vec<u8>) {
         1 => first.words.clone(),
         _ => vec![random_word(rng, n, 0..=20)],
     };
-    let places = any_places(rng, n, &word);
-    let second = Bundle {
+    let places = any_places(rng, n, word);
+    Bundle {
         marks: any_edition(rng, &words),
         words,
         ..net(n, places)
-    };
-    (first, second, word)
+    }
 }
 
 fn any_places(rng: &mut Rng, n: usize, word: &[u8]) -> Vec<Place> {

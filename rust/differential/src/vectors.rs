@@ -253,6 +253,22 @@ pub fn tokens_line(tokens: &[u64], between: &str) -> String {
     }
 }
 
+/// The answer of replacing a net in words.
+pub fn replaced_line(answer: Outcome<()>) -> String {
+    match answer {
+        Ok(()) => "replaced".to_string(),
+        Err(refused) => refused_line(refused),
+    }
+}
+
+/// A buffer of kept events as it is listed.
+pub fn kept_line(kept: &[u8]) -> String {
+    match kept {
+        [] => "kept -".to_string(),
+        _ => format!("kept {}", digits(kept)),
+    }
+}
+
 fn refused_line(Refusal { number, spot }: Refusal) -> String {
     format!("refused {number} {spot}")
 }

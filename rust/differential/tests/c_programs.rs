@@ -1,24 +1,13 @@
 //! The header and the static library, from C.
 
-use differential::c_programs::{c_compiler, compile, include_directory};
+use differential::c_programs::{include_directory, run_test};
 use hovmekhar::{Kind, Refusal};
 use std::fs;
 use std::path::Path;
-use std::process::Command;
 
-/// Compiles a program of `tests/c` with the C compiler that also links Rust
-/// programs, runs it, and returns what it printed.
+/// What a program of `tests/c` prints.
 fn run(name: &str) -> String {
-    let source = Path::new(env!("CARGO_MANIFEST_DIR"))
-        .join("tests/c")
-        .join(name)
-        .with_extension("c");
-    let program = Path::new(env!("CARGO_TARGET_TMPDIR")).join(name);
-    compile(&c_compiler(), "c11", &source, &program);
-
-    let done = Command::new(program).output().expect("the program runs");
-    assert_eq!(done.status.code(), Some(0), "{name}");
-    String::from_utf8(done.stdout).expect("the program prints text")
+    run_test(name, Path::new(env!("CARGO_TARGET_TMPDIR")))
 }
 
 #[test]
@@ -183,30 +172,6 @@ fn screening() {
 }
 
 #[test]
-fn carrying() {
-    assert_eq!(
-        run("carry"),
-        "empty: refused 4, 0 9 9 9, tokens 7 7 7\n\
-         cut: refused 6, 27 9 9 9, tokens 7 7 7\n\
-         n = 0: refused 7, 0 9 9 9, tokens 7 7 7\n\
-         too many events: refused 8, 1026 9 9 9, tokens 7 7 7\n\
-         few tokens: refused 5, 2 9 9 9, tokens 7 7 7\n\
-         start: result 0, 0 9 9 9, tokens 1 2 7\n\
-         0: result 0, 1 9 9 9, tokens 1 1 7\n\
-         0: result 0, 2 9 9 9, tokens 1 0 7\n\
-         0: stopped 256, 2 1 1 9, tokens 1 0 7\n\
-         2: refused 15, 2 9 9 9, tokens 1 0 7\n\
-         few tokens: refused 5, 2 9 9 9, tokens 1 0 7\n\
-         1: result 0, 3 9 9 9, tokens 0 0 7\n\
-         last number: stopped 256, 65534 0 1 9, tokens 0 0 7\n\
-         number: refused 14, 65535 9 9 9, tokens 0 0 7\n\
-         cut: refused 6, 27 9 9 9, tokens 0 0 7\n\
-         most tokens: result 0, 6 9 9 9, tokens 4294901759 0 7\n\
-         too many tokens: refused 16, 0 9 9 9, tokens 4294901761 0 7\n"
-    );
-}
-
-#[test]
 fn pages_around_the_buffers_are_not_touched() {
     assert_eq!(
         run("pages"),
@@ -218,7 +183,6 @@ fn pages_around_the_buffers_are_not_touched() {
     assert_eq!(run("joined_pages"), "6240 screened on two nets\n");
     assert_eq!(run("long_pages"), "15360 long words screened\n");
     assert_eq!(run("rewrite_pages"), "17920 pruned\n37016 converted\n");
-    assert_eq!(run("carry_pages"), "9200 starts and steps\n");
 }
 
 /// The texts of the refusals are those of the Rust crate, and so is the version.
@@ -263,6 +227,8 @@ fn header_and_crate_agree() {
         ("HOV_BLOCK_USE", Refusal::BLOCK_USE),
         ("HOV_EVENT_COUNTS", Refusal::EVENT_COUNTS),
         ("HOV_PLACE_DISOBEYS", Refusal::PLACE_DISOBEYS),
+        ("HOV_WORD_COMPLETED", Refusal::WORD_COMPLETED),
+        ("HOV_REPLACED_EVENTS", Refusal::REPLACED_EVENTS),
     ] {
         assert!(
             has(&[name, "=", &format!("{number},")]),
@@ -271,9 +237,9 @@ fn header_and_crate_agree() {
     }
     // The last one of the enum, without a comma.
     assert!(has(&[
-        "HOV_WORD_COMPLETED",
+        "HOV_RUN_STOPPED",
         "=",
-        &Refusal::WORD_COMPLETED.to_string()
+        &Refusal::RUN_STOPPED.to_string()
     ]));
 
     for (name, size) in [

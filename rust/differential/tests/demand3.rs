@@ -1,65 +1,12 @@
 //! Demand 3: two sealed files that open and are accepted, compared as `comparing` has it,
 //! in both editions.
 
-use differential::bundles::MAX_WORDS;
 use differential::comparing::{compare, File};
 use differential::limits::{LARGEST, MIDDLE, MOST_WORDS};
-use differential::nets::{certified_marked, marked_log, small_log};
+use differential::log_pairs::{pair, part_of, rewritten, Words};
 use differential::run::Run;
 
-/// Words, each with its mark: whether it is completed.
-type Words = Vec<(Vec<u8>, bool)>;
-
-/// A small log: in the new edition with completed words.
-fn any_log(run: &mut Run, is_new: bool) -> (usize, Words) {
-    if is_new {
-        let (n, words, marks) = marked_log(&mut run.rng);
-        return (n, words.into_iter().zip(marks).collect());
-    }
-    let (n, words) = small_log(&mut run.rng);
-    (n, words.into_iter().map(|word| (word, false)).collect())
-}
-
-/// A beginning of a word, often all of it. One that is whole can keep its mark.
-fn beginning_of(run: &mut Run, (word, mark): &(Vec<u8>, bool)) -> (Vec<u8>, bool) {
-    let end = run.rng.within(0..=word.len());
-    let end = run.rng.choose(&[end, word.len()]);
-    let keeps = *mark && end == word.len() && run.rng.below(4) > 0;
-    (word[..end].to_vec(), keeps)
-}
-
-/// Words whose prefixes are all prefixes of these words: some of them, cut. Where they are
-/// completed, they are so there.
-fn part_of(run: &mut Run, words: &Words) -> Words {
-    let rarity = run.rng.within(1..=4);
-    let mut part = Vec::new();
-    for word in words {
-        if run.rng.below(rarity) == 0 {
-            part.push(beginning_of(run, word));
-        }
-    }
-    run.rng.shuffled(&part)
-}
-
-/// Words with the same prefixes as these and the same completed words: without partial ones
-/// that begin another one, with some twice and some beginnings, in another order.
-fn rewritten(run: &mut Run, words: &Words) -> Words {
-    let begins_another =
-        |word: &Vec<u8>| words.iter().any(|(w, _)| w != word && w.starts_with(word));
-    let mut others = words.clone();
-    others.sort();
-    others.dedup();
-    others.retain(|(word, mark)| *mark || !begins_another(word));
-    for word in words {
-        if run.rng.below(3) == 0 && others.len() < MAX_WORDS {
-            others.push(beginning_of(run, word));
-        }
-    }
-    run.rng.shuffled(&others)
-}
-
-/// Small logs in pairs, as this makes the first of the second, until there are so
-/// many of them. A log without completed words can have either edition.
+/// Compares so many pairs of small bundles, as this makes the first log of the second one.
 fn compare_pairs(
     run: &mut Run,
     pairs: usize,
@@ -68,15 +15,7 @@ fn compare_pairs(
 ) {
     let mut compared = 0;
     while compared < pairs {
-        let (n, words) = any_log(run, is_new);
-        let first = make_first(run, &words);
-        // Some logs need more places than there can be.
-        let files = [first, words].map(|words| {
-            let (words, marks): (Vec<_>, Vec<bool>) = words.into_iter().unzip();
-            let is_old = !marks.contains(&true) && (!is_new || run.rng.below(2) == 0);
-            certified_marked(&mut run.rng, n, words, (!is_old).then_some(marks))
-        });
-        if let [Some(first), Some(second)] = files {
+        if let Some([first, second]) = pair(run, is_new, make_first) {
             if first.bundle.is_new() != second.bundle.is_new() {
                 run.note("an old and a new one");
             }

@@ -6,7 +6,7 @@ use std::fs;
 use std::path::{Path, PathBuf};
 
 /// The public calls: the crate, the file in its `src`, and the function.
-const CALLS: [(&str, &str, &str); 28] = [
+const CALLS: [(&str, &str, &str); 30] = [
     ("block", "lib.rt", "open"),
     ("sealing", "lib.rt", "seal"),
     ("logs", "lib.rt", "fresh"),
@@ -19,6 +19,7 @@ const CALLS: [(&str, &str, &str); 28] = [
     ("screening", "lib.rt", "screen_joined"),
     ("engine", "lib.rt", "start"),
     ("engine", "lib.rt", "step"),
+    ("engine", "lib.rt", "replace"),
     ("files", "lib.rt", "run"),
     ("files", "lib.rt", "run_both"),
     ("judge", "main.rt", "judge_file"),
@@ -35,6 +36,7 @@ const CALLS: [(&str, &str, &str); 28] = [
     ("abi", "hov_screening.rt", "hov_screen_joined"),
     ("abi", "hov_engine.rt", "hov_start"),
     ("abi", "hov_engine.rt", "hov_step"),
+    ("abi", "hov_engine.rt", "hov_replace"),
 ];
 
 /// The paths in a directory, or none where there is no such directory.

@@ -5,7 +5,10 @@ use differential::bundle_faults::altered;
 use differential::bundles::{
     one_for_each_answer, Bundle, SAMPLE_A, SAMPLE_E, SAMPLE_F, SAMPLE_NEW,
 };
-use differential::engine::{any_event, any_number, any_tokens, lengths, start, step, MAX_TOKENS};
+use differential::engine::{
+    any_event, any_kept, any_number, any_tokens, lengths, room, start, step, step_with_room,
+    MAX_TOKENS,
+};
 use differential::nets::small_certified;
 use differential::run::{refusal, Outcome, Run};
 use differential::screening::any_net;
@@ -38,18 +41,18 @@ fn by_hand() {
         ([1, 2, 7], 65_534, 1, Ok(Step::Moved(65_535)), [0, 2, 7]),
         ([1, 2, 7], 65_535, 0, refusal(14, 65_535), [1, 2, 7]),
     ] {
-        let played = step(&mut run, &SAMPLE_A, &tokens, number, event);
+        let played = step_with_room(&mut run, &SAMPLE_A, &tokens, number, event);
         assert_eq!((played.outcome, played.tokens), (outcome, left.to_vec()));
     }
     // Without a place every event that is there is permitted, and no number is needed.
     let none: &[u64] = &[];
     for tokens in [none, &[u64::MAX, 1]] {
         assert_eq!(start(&mut run, &SAMPLE_F, tokens).outcome, Ok(0));
-        let played = step(&mut run, &SAMPLE_F, tokens, 9, 0);
+        let played = step_with_room(&mut run, &SAMPLE_F, tokens, 9, 0);
         assert_eq!(played.outcome, Ok(Step::Moved(10)));
     }
     assert_eq!(
-        step(&mut run, &SAMPLE_E, &[0], 0, 0).outcome,
+        step_with_room(&mut run, &SAMPLE_E, &[0], 0, 0).outcome,
         stopped(0, 0, 1)
     );
     run.finish_with_classes(
@@ -66,9 +69,9 @@ fn produced_tokens_come_later() {
         let [low, high] = takes.to_le_bytes();
         let bundle = [1, 0, 1, 0, 0, 255, 255, low, high];
         let tokens = u64::from(takes);
-        let played = step(&mut run, &bundle, &[tokens - 1], 3, 0);
+        let played = step_with_room(&mut run, &bundle, &[tokens - 1], 3, 0);
         assert_eq!(played.outcome, stopped(3, 0, 1), "{run}");
-        let played = step(&mut run, &bundle, &[tokens], 3, 0);
+        let played = step_with_room(&mut run, &bundle, &[tokens], 3, 0);
         assert_eq!(played.tokens, [65_535], "{run}");
     }
     run.finish_with_classes(&[(0, 8)], &[("permitted", 4), ("stopped", 4)]);
@@ -82,8 +85,17 @@ fn any_bundle(run: &mut Run) -> Bundle {
     }
 }
 
-/// A start leaves the initial tokens, and a step takes what tokens, number and event are
-/// lent. With too few numbers there is 5.
+/// A step with so many tokens, and with any buffer, number and event.
+fn any_step(run: &mut Run, bytes: &[u8], length: usize, n: usize) {
+    let tokens = any_tokens(&mut run.rng, length);
+    let number = any_number(&mut run.rng);
+    let kept = any_kept(&mut run.rng, number);
+    let event = any_event(&mut run.rng, n);
+    step(run, bytes, &tokens, &kept, number, event);
+}
+
+/// A start leaves the initial tokens, and a step takes what tokens, buffer, number and event
+/// are lent. With too few numbers there is 5.
 #[test]
 fn any_bundles() {
     let mut run = Run::start("engine::any_bundles");
@@ -103,16 +115,20 @@ fn any_bundles() {
                 assert_eq!((front, rest), (&*initial, &tokens[initial.len()..]));
             }
             for _ in 0..3 {
-                let tokens = any_tokens(&mut run.rng, length);
-                let number = any_number(&mut run.rng);
-                let event = any_event(&mut run.rng, bundle.n);
-                step(&mut run, &bytes, &tokens, number, event);
+                any_step(&mut run, &bytes, length, bundle.n);
             }
         }
         run.note(if bundle.is_new() { "new" } else { "old" });
     }
     run.finish_with_classes(
-        &[(0, 1_500), (5, 1_000), (14, 1_000), (15, 300), (16, 100)],
+        &[
+            (0, 1_500),
+            (3, 300),
+            (5, 1_000),
+            (14, 1_000),
+            (15, 300),
+            (16, 100),
+        ],
         &[
             ("permitted", 500),
             ("stopped", 200),
@@ -132,11 +148,11 @@ fn numbers_behind_the_last_place() {
         let bytes = bundle.bytes();
         let mut tokens: Vec<u64> = (0..places).map(|_| run.rng.below(300) as u64).collect();
         let event = run.rng.below(bundle.n);
-        let alone = step(&mut run, &bytes, &tokens, 5, event);
+        let alone = step_with_room(&mut run, &bytes, &tokens, 5, event);
         for behind in [0, MAX_TOKENS, MAX_TOKENS + 1, u64::MAX] {
             tokens.truncate(places);
             tokens.resize(places + 1 + run.rng.below(64), behind);
-            let played = step(&mut run, &bytes, &tokens, 5, event);
+            let played = step_with_room(&mut run, &bytes, &tokens, 5, event);
             assert_eq!(played.outcome, alone.outcome, "{run}");
             assert_eq!(played.tokens[..places], alone.tokens, "{run}");
             assert_eq!(played.tokens[places..], tokens[places..], "{run}");
@@ -152,7 +168,7 @@ fn refused_bundles() {
     let mut run = Run::start("engine::refused_bundles");
     for (bundle, judged) in one_for_each_answer() {
         let started = start(&mut run, &bundle, &[7; 64]);
-        let played = step(&mut run, &bundle, &[70_000; 64], 3, 0);
+        let played = step_with_room(&mut run, &bundle, &[70_000; 64], 3, 0);
         match judged {
             Err(refused) if [4, 6, 8].contains(&refused.number) && bundle.len() != 3 => {
                 assert_eq!(started.outcome, Err(refused), "{run}");
@@ -185,13 +201,12 @@ fn several_faults() {
         };
         let tokens = any_tokens(&mut run.rng, length);
         start(&mut run, &bytes, &tokens);
-        let number = any_number(&mut run.rng);
-        let event = any_event(&mut run.rng, certified.bundle.n);
-        step(&mut run, &bytes, &tokens, number, event);
+        any_step(&mut run, &bytes, length, certified.bundle.n);
     }
     run.finish_with_classes(
         &[
             (0, 1_000),
+            (3, 50),
             (5, 300),
             (6, 200),
             (7, 300),
@@ -223,12 +238,13 @@ fn editions() {
         let started = start(&mut run, &old, &tokens);
         assert_eq!(start(&mut run, &new, &tokens), started, "{run}");
         for event in 0..=n {
-            let played = step(&mut run, &old, &started.tokens, 0, event);
-            let other = step(&mut run, &new, &started.tokens, 0, event);
+            let kept = room(&mut run.rng, 0);
+            let played = step(&mut run, &old, &started.tokens, &kept, 0, event);
+            let other = step(&mut run, &new, &started.tokens, &kept, 0, event);
             assert_eq!(other, played, "{run}");
         }
     }
-    let played = step(&mut run, &SAMPLE_NEW, &[1, 0], 0, 3);
+    let played = step_with_room(&mut run, &SAMPLE_NEW, &[1, 0], 0, 3);
     assert_eq!(played.outcome, refusal(15, 0), "128 + 3 is three events");
     run.finish_with_classes(&[(15, 601)], &[("permitted", 300), ("stopped", 300)]);
 }

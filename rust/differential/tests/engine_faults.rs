@@ -2,7 +2,7 @@
 
 use differential::bundle_faults::{refusal_of_cut, BundleFault};
 use differential::bundles::{Bundle, Field, SAMPLE_A, SAMPLE_E, SAMPLE_NEW};
-use differential::engine::{any_event, any_tokens, start, step};
+use differential::engine::{any_event, any_kept, any_tokens, start, step, step_with_room};
 use differential::nets::small_certified;
 use differential::run::{refusal, Run};
 use differential::screening::any_net;
@@ -28,10 +28,11 @@ fn both_refused(run: &mut Run, bytes: &[u8], expected: Refusal) {
     assert_eq!(started.outcome, Err(expected), "{bytes:?}, {run}");
     assert_eq!(started.tokens, tokens, "{run}");
     let number = run.rng.below(65_535);
+    let kept = any_kept(&mut run.rng, number);
     let event = any_event(&mut run.rng, 12);
-    let played = step(run, bytes, &tokens, number, event);
+    let played = step(run, bytes, &tokens, &kept, number, event);
     assert_eq!(played.outcome, Err(expected), "{bytes:?}, {run}");
-    assert_eq!(played.tokens, tokens, "{run}");
+    assert_eq!((played.tokens, played.kept), (tokens, kept), "{run}");
 }
 
 /// As long as a byte of the last place is missing a bundle ends before or inside a field, and
@@ -46,14 +47,15 @@ fn every_beginning() {
         let tokens = vec![300; 66];
         let event = run.rng.below(bundle.n);
         let started = start(&mut run, &bytes, &tokens);
-        let played = step(&mut run, &bytes, &tokens, 0, event);
+        let kept = any_kept(&mut run.rng, 3);
+        let played = step(&mut run, &bytes, &tokens, &kept, 3, event);
         for length in 0..bytes.len() {
             let beginning = &bytes[..length];
             if length >= layout.places_end {
                 run.note("cut behind the last place");
                 assert_eq!(start(&mut run, beginning, &tokens), started, "{run}");
                 assert_eq!(
-                    step(&mut run, beginning, &tokens, 0, event),
+                    step(&mut run, beginning, &tokens, &kept, 3, event),
                     played,
                     "{run}"
                 );
@@ -83,7 +85,7 @@ fn every_byte() {
                 bytes[position] = value;
                 let started = start(&mut run, &bytes, &[7; 3]);
                 for event in 0..3 {
-                    step(&mut run, &bytes, &started.tokens, 5, event);
+                    step_with_room(&mut run, &bytes, &started.tokens, 5, event);
                 }
             }
         }
@@ -131,7 +133,7 @@ fn random_bytes() {
         if [0, 13, 128, 141].contains(&bytes[0]) {
             assert_eq!(started, refusal(7, 0), "{run}");
         }
-        step(&mut run, &bytes, &tokens, 1, 0);
+        step_with_room(&mut run, &bytes, &tokens, 1, 0);
     }
     run.finish(&[(7, 1_000)]);
 }

@@ -1,13 +1,13 @@
-//! The safe calls of the carried engine, and the sale that keeps its tokens itself: results
-//! and errors, against the reference.
+//! The safe calls of the carried engine: results and errors, against the reference.
 
 use differential::bundle_faults::altered;
-use differential::bundles::{five_long_words, SAMPLE_A, SAMPLE_NEW};
-use differential::engine::{any_event, any_number, any_tokens, lengths};
+use differential::bundles::{five_long_words, Bundle, SAMPLE_A};
+use differential::engine::{any_event, any_kept, any_number, any_tokens, lengths};
+use differential::logs::random_word;
 use differential::nets::small_certified;
 use differential::run::{Outcome, Run};
-use differential::screening::any_net;
-use hovmekhar::{Refusal, Sale, Screened, Step, MAX_TOKENS, MAX_WORD_EVENTS};
+use differential::screening::{any_net, two_nets, ONE_FOLLOWS};
+use hovmekhar::{Refusal, Sale, Step, MAX_TOKENS, MAX_WORD_EVENTS};
 use std::error::Error;
 
 fn refused<R>(result: Result<R, Refusal>) -> Outcome<R> {
@@ -30,6 +30,14 @@ fn stepped(result: Result<Step, Refusal>) -> Outcome<reference::Step> {
     })
 }
 
+/// The bytes of a bundle, sometimes with faults.
+fn any_bytes(run: &mut Run, bundle: &Bundle) -> Vec<u8> {
+    match run.rng.below(3) {
+        0 => altered(&mut run.rng, bundle),
+        _ => bundle.bytes(),
+    }
+}
+
 #[test]
 fn calls_agree() {
     let mut run = Run::start("engine_wrapper::calls_agree");
@@ -38,106 +46,66 @@ fn calls_agree() {
             0 => small_certified(&mut run.rng).bundle,
             _ => any_net(&mut run.rng).0,
         };
-        let bytes = match run.rng.below(3) {
-            0 => altered(&mut run.rng, &bundle),
-            _ => bundle.bytes(),
-        };
+        let bytes = any_bytes(&mut run, &bundle);
         let length = lengths(&mut run.rng, bundle.places.len())[run.rng.below(5)];
         let mut tokens = any_tokens(&mut run.rng, length);
         let started = run.start_tokens(&bytes, &tokens);
         let result = hovmekhar::start(&bytes, &mut tokens);
-        assert_eq!(
-            (refused(result), &tokens),
-            (started.outcome, &started.tokens)
-        );
+        assert_eq!(refused(result), started.outcome, "{run}");
+        assert_eq!(tokens, started.tokens, "{run}");
 
         if run.rng.below(2) == 0 {
             tokens = any_tokens(&mut run.rng, length);
         }
         let number = any_number(&mut run.rng);
         let event = any_event(&mut run.rng, bundle.n);
-        let played = run.step_tokens(&bytes, &tokens, number, event);
-        let result = hovmekhar::step(&bytes, &mut tokens, number, event);
-        assert_eq!((stepped(result), &tokens), (played.outcome, &played.tokens));
+        let mut kept = any_kept(&mut run.rng, number);
+        let played = run.step_tokens(&bytes, &tokens, &kept, number, event);
+        let result = hovmekhar::step(&bytes, &mut tokens, &mut kept, number, event);
+        assert_eq!(stepped(result), played.outcome, "{run}");
+        assert!((tokens, kept) == (played.tokens, played.kept), "{run}");
     }
     run.finish_with_classes(
-        &[(5, 300), (6, 30), (7, 50), (14, 200), (15, 40), (16, 3)],
-        &[("permitted", 100), ("stopped", 50)],
+        &[
+            (3, 60),
+            (5, 300),
+            (6, 30),
+            (7, 50),
+            (14, 200),
+            (15, 40),
+            (16, 3),
+        ],
+        &[("permitted", 80), ("stopped", 25)],
     );
 }
 
-/// A sale has screening's answers, the initial tokens when it is idle, and goes on behind an
-/// event that is stopped or refused.
 #[test]
-fn sales() {
-    let mut run = Run::start("engine_wrapper::sales");
-    for _ in 0..run.cases(200) {
-        let (bundle, _) = any_net(&mut run.rng);
-        let bytes = bundle.bytes();
-        let mut sale = Sale::start(bytes.as_slice()).expect("a sound head");
-        let initial: Vec<u64> = bundle.places.iter().map(|place| place.m.into()).collect();
-        assert_eq!((sale.bundle(), sale.tokens()), (&*bytes, &*initial));
-        assert!(sale.is_idle() && sale.events() == 0, "{run}");
-        let mut word = Vec::new();
-        for _ in 0..40 {
-            let event = any_event(&mut run.rng, bundle.n);
-            let byte = u8::try_from(event).unwrap_or(255);
-            let longer = [word.as_slice(), &[byte]].concat();
-            let before = sale.clone();
-            let answer = sale.step(event);
-            assert_eq!(answer, hovmekhar::screen(&bytes, &longer), "{run}");
-            match answer {
-                Ok(Screened::Permitted) => word = longer,
-                _ => assert_eq!(sale, before, "{run}"),
+fn replacements_agree() {
+    let mut run = Run::start("engine_wrapper::replacements_agree");
+    for _ in 0..run.cases(1_500) {
+        let (old, new, word) = two_nets(&mut run.rng);
+        let places = new.places.len();
+        let nets = [old, new].map(|bundle| any_bytes(&mut run, &bundle));
+        let [old, new] = nets.each_ref().map(Vec::as_slice);
+        let length = lengths(&mut run.rng, places)[run.rng.below(5)];
+        let mut tokens = any_tokens(&mut run.rng, length);
+        let (kept, number) = match run.rng.below(3) {
+            0 => {
+                let number = any_number(&mut run.rng);
+                let length = any_kept(&mut run.rng, number).len();
+                (random_word(&mut run.rng, 12, length..=length), number)
             }
-            assert_eq!(sale.events(), word.len(), "{run}");
-            assert_eq!(sale.is_idle(), sale.tokens() == initial, "{run}");
-            run.note(if sale.is_idle() { "idle" } else { "busy" });
-        }
-        run.count(0);
-    }
-    run.finish_with_classes(&[], &[("idle", 500), ("busy", 1_000)]);
-}
-
-/// A completed sale leaves the terminal idle, and closing does not.
-#[test]
-fn idle_again() -> Result<(), Refusal> {
-    let mut sale = Sale::start(SAMPLE_NEW)?;
-    for (event, tokens, is_idle) in [
-        (0, [0, 1], false),
-        (1, [1, 0], true),
-        (0, [0, 1], false),
-        (1, [1, 0], true),
-        (2, [0, 0], false),
-    ] {
-        assert_eq!(sale.step(event)?, Screened::Permitted);
-        assert_eq!((sale.tokens(), sale.is_idle()), (&tokens[..], is_idle));
-    }
-    let stopped = Screened::Stopped {
-        position: 5,
-        place: 0,
-        shortfall: 1,
-    };
-    assert_eq!(sale.step(0)?, stopped);
-    Ok(())
-}
-
-/// As many events as a word can have, and none more, whatever it is.
-#[test]
-fn longest_sale() -> Result<(), Refusal> {
-    let mut sale = Sale::start([1, 0, 0])?;
-    for _ in 0..MAX_WORD_EVENTS {
-        assert_eq!(sale.step(0)?, Screened::Permitted);
-    }
-    for event in [0, 1, usize::MAX] {
-        let expected = Refusal {
-            number: Refusal::WORD_LENGTH,
-            spot: MAX_WORD_EVENTS,
+            _ => (word.clone(), run.rng.within(0..=word.len())),
         };
-        assert_eq!(sale.step(event), Err(expected));
+        let replaced = run.replace_tokens([old, new], &tokens, &kept, number);
+        let result = hovmekhar::replace(old, new, &mut tokens, &kept, number);
+        assert_eq!(refused(result), replaced.outcome, "{run}");
+        assert_eq!(tokens, replaced.tokens, "{run}");
     }
-    assert_eq!((sale.events(), sale.is_idle()), (MAX_WORD_EVENTS, true));
-    Ok(())
+    run.finish_with_classes(
+        &[(3, 50), (5, 150), (6, 80), (7, 100), (14, 60), (23, 60)],
+        &[("replaced", 200)],
+    );
 }
 
 /// Each refusal is an error with its number, its spot and a sentence with both.
@@ -152,12 +120,27 @@ fn refusals_are_errors() {
         (&five_words, Refusal::EVENTS, 2 + 4 * 256),
     ] {
         let expected = Refusal { number, spot };
-        expect_error(hovmekhar::start(bundle, &mut [0; 64]), expected);
-        expect_error(hovmekhar::step(bundle, &mut [0; 64], 0, 0), expected);
+        let (mut tokens, mut kept) = ([0; 64], [0; 8]);
+        expect_error(hovmekhar::start(bundle, &mut tokens), expected);
+        let played = hovmekhar::step(bundle, &mut tokens, &mut kept, 0, 0);
+        expect_error(played, expected);
+        for [old, new] in [[bundle, a], [a, bundle]] {
+            let replaced = hovmekhar::replace(old, new, &mut tokens, &kept, 0);
+            expect_error(replaced, expected);
+        }
         expect_error(Sale::start(bundle), expected);
+        let mut sale = Sale::start(a).expect("sample A");
+        expect_error(sale.replace(bundle), expected);
     }
-    let step = |tokens: &mut [u64], number, event| hovmekhar::step(a, tokens, number, event);
+}
+
+/// The refusals of a start and a step that are not about the bundle.
+#[test]
+fn refused_steps_are_errors() {
+    let a = SAMPLE_A.as_slice();
     let refusal = |number, spot| Refusal { number, spot };
+    let step =
+        |tokens: &mut [u64], number, event| hovmekhar::step(a, tokens, &mut [0; 8], number, event);
     let short = refusal(Refusal::NUMBERS_SHORT, 2);
     expect_error(hovmekhar::start(a, &mut [0]), short);
     expect_error(step(&mut [0], 7, 0), short);
@@ -166,8 +149,38 @@ fn refusals_are_errors() {
     expect_error(step(&mut [1, 2], 7, 2), refusal(Refusal::WORD_EVENT, 7));
     let long = refusal(Refusal::WORD_LENGTH, MAX_WORD_EVENTS);
     expect_error(step(&mut [1, 2], MAX_WORD_EVENTS, 0), long);
+    let full = refusal(Refusal::OUTPUT_SHORT, 9);
+    expect_error(step(&mut [1, 2], 8, 0), full);
     let mut sale = Sale::start(a).expect("sample A");
     expect_error(sale.step(2), refusal(Refusal::WORD_EVENT, 0));
+    let other = refusal(Refusal::REPLACED_EVENTS, 0);
+    expect_error(sale.replace([3, 0, 0]), other);
+}
+
+/// The refusals of a replacement that are about its events and its tokens.
+#[test]
+fn refused_replacements_are_errors() {
+    let (a, one) = (SAMPLE_A.as_slice(), ONE_FOLLOWS.as_slice());
+    for (new, tokens_len, kept, number, expected) in [
+        (
+            a,
+            64,
+            [0, 1, 2].as_slice(),
+            65_536,
+            (Refusal::WORD_LENGTH, 65_535),
+        ),
+        (a, 64, &[0, 1, 2], 4, (Refusal::OUTPUT_SHORT, 4)),
+        (&[3, 0, 0], 64, &[0, 1, 2], 3, (Refusal::REPLACED_EVENTS, 0)),
+        (a, 1, &[0, 1, 2], 3, (Refusal::NUMBERS_SHORT, 2)),
+        (a, 64, &[0, 1, 2], 3, (Refusal::WORD_EVENT, 2)),
+        (one, 64, &[0, 1, 1], 3, (Refusal::RUN_STOPPED, 2)),
+    ] {
+        let mut tokens = vec![7; tokens_len];
+        let replaced = hovmekhar::replace(a, new, &mut tokens, kept, number);
+        let (number, spot) = expected;
+        expect_error(replaced, Refusal { number, spot });
+        assert_eq!(tokens, vec![7; tokens_len]);
+    }
 }
 
 fn expect_error<R>(result: Result<R, Refusal>, expected: Refusal) {
@@ -180,7 +193,11 @@ fn expect_error<R>(result: Result<R, Refusal>, expected: Refusal) {
     let sentence = error.to_string();
     let starts = sentence.starts_with(&format!("refusal {number}: "));
     assert!(starts, "{sentence}");
-    let one_spot = [Refusal::WORD_LENGTH, Refusal::BUNDLE_LENGTH];
+    let one_spot = [
+        Refusal::WORD_LENGTH,
+        Refusal::BUNDLE_LENGTH,
+        Refusal::REPLACED_EVENTS,
+    ];
     let has_spot = one_spot.contains(&number) || sentence.contains(&spot.to_string());
     assert!(has_spot, "{sentence}");
 }

@@ -33,7 +33,7 @@ fn sample_files() {
         );
         accepted += usize::from(answer);
     }
-    assert_eq!(accepted, 4);
+    assert_eq!(accepted, 5);
 }
 
 /// A file that is not there or can't be read is not accepted, nor is a name with a

@@ -13,24 +13,26 @@ use differential::vectors::{
     line, rows_line, screened_line, table_line, written_line, Case, Cases,
 };
 
-const FILE: &str = include_str!("data/10.txt");
+const FILE: &str = include_str!("data/11.txt");
 
 /// The calls of the file, with how many cases each has. Each has a test.
-const COUNTS: [(&str, usize); 14] = [
-    ("carry", 29),
+const COUNTS: [(&str, usize); 16] = [
+    ("carry", 20),
     ("judge", 120),
-    ("judge_lent", 244),
+    ("judge_lent", 231),
     ("log", 40),
-    ("prune", 36),
-    ("prune_lent", 32),
+    ("prune", 24),
+    ("prune_lent", 20),
+    ("replace", 24),
+    ("replace_lent", 195),
     ("screen", 80),
-    ("screen_joined", 155),
-    ("start_lent", 42),
-    ("step_lent", 143),
-    ("to_new", 38),
-    ("to_new_lent", 44),
-    ("to_old", 42),
-    ("to_old_lent", 45),
+    ("screen_joined", 107),
+    ("start_lent", 41),
+    ("step_lent", 169),
+    ("to_new", 23),
+    ("to_new_lent", 33),
+    ("to_old", 27),
+    ("to_old_lent", 29),
 ];
 
 #[test]
@@ -60,13 +62,13 @@ fn judged() {
             .and_then(|length| judge(&mut run, &opened.output[..length]));
         assert_eq!(line(answer), case.answer, "{run}");
     }
-    let of_files = [(1, 2), (17, 2), (18, 2)];
-    let of_fields = [(6, 6), (7, 27)];
-    let of_nets = [(10, 15), (20, 8), (11, 2), (12, 20)];
+    let of_files = [(1, 2), (18, 3), (2, 1)];
+    let of_fields = [(6, 8), (7, 23), (13, 1)];
+    let of_nets = [(10, 21), (20, 9), (11, 1), (12, 18)];
     let refused = [of_files.as_slice(), &of_fields, &of_nets].concat();
-    all_of("judge", &[refused.as_slice(), &[(0, 36)]].concat());
+    all_of("judge", &[refused.as_slice(), &[(0, 33)]].concat());
     // Each file that is opened, and each bundle that is accepted.
-    run.finish(&[refused.as_slice(), &[(0, 114 + 36)]].concat());
+    run.finish(&[refused.as_slice(), &[(0, 114 + 33)]].concat());
 }
 
 /// Each file that opens is the one that sealing makes of its bundle, whatever the
@@ -98,9 +100,9 @@ fn judged_with_lent_table() {
         let answer = format!("{} {table}", line(judged.outcome));
         assert_eq!(answer, case.answer, "{run}");
     }
-    let by_length = [(0, 27), (4, 9), (5, 4)];
-    let of_fields = [(6, 20), (7, 55), (8, 7), (9, 2), (13, 3)];
-    let of_nets = [(10, 57), (20, 25), (11, 5), (12, 30)];
+    let by_length = [(0, 30), (4, 7), (5, 4)];
+    let of_fields = [(6, 18), (7, 54), (8, 6), (9, 3), (13, 3)];
+    let of_nets = [(10, 49), (20, 24), (11, 3), (12, 30)];
     let numbers = [by_length.as_slice(), &of_fields, &of_nets].concat();
     all_of("judge_lent", &numbers);
     run.finish(&numbers);
@@ -151,19 +153,19 @@ fn rewritten_with_lent_memory(run: &mut Run, call: Rewrite, name: &str) {
 fn pruned() {
     let mut run = Run::start("vectors::pruned");
     rewritten(&mut run, Rewrite::Prune, "prune");
-    all_of("prune", &[(0, 30), (10, 1), (12, 3), (13, 2)]);
-    let written = [(0, 30 * 8), (3, 30 * 4), (5, 36 * 12)];
+    all_of("prune", &[(0, 18), (10, 1), (12, 3), (13, 2)]);
+    let written = [(0, 18 * 8), (3, 18 * 4), (5, 24 * 12)];
     let refused = [(10, 12), (12, 36), (13, 24)];
     let numbers = [written.as_slice(), &refused].concat();
-    run.finish_with_classes(&numbers, &[("another length", 23)]);
+    run.finish_with_classes(&numbers, &[("another length", 15)]);
 }
 
 #[test]
 fn pruned_with_lent_memory() {
     let mut run = Run::start("vectors::pruned_with_lent_memory");
     rewritten_with_lent_memory(&mut run, Rewrite::Prune, "prune_lent");
-    let written = [(0, 10), (3, 7), (4, 1), (5, 1)];
-    let refused = [(6, 3), (7, 3), (10, 2), (12, 3), (13, 2)];
+    let written = [(0, 5), (3, 5)];
+    let refused = [(6, 4), (10, 1), (12, 3), (13, 2)];
     let numbers = [written.as_slice(), &refused].concat();
     all_of("prune_lent", &numbers);
     run.finish(&numbers);
@@ -173,21 +175,21 @@ fn pruned_with_lent_memory() {
 fn converted_to_new() {
     let mut run = Run::start("vectors::converted_to_new");
     rewritten(&mut run, Rewrite::ToNew, "to_new");
-    let refused = [(7, 1), (10, 1), (11, 1), (13, 2), (20, 1)];
-    all_of("to_new", &[&[(0, 32)], refused.as_slice()].concat());
-    let written = [(0, 32 * 8), (3, 32 * 4), (5, 38 * 12)];
+    let refused = [(11, 1), (12, 2), (13, 2), (20, 1)];
+    all_of("to_new", &[&[(0, 17)], refused.as_slice()].concat());
+    let written = [(0, 17 * 8), (3, 17 * 4), (5, 23 * 12)];
     let refused = refused.map(|(number, cases)| (number, cases * 12));
     let numbers = [written.as_slice(), &refused].concat();
-    run.finish_with_classes(&numbers, &[("another length", 15)]);
+    run.finish_with_classes(&numbers, &[("another length", 7)]);
 }
 
 #[test]
 fn converted_to_new_with_lent_memory() {
     let mut run = Run::start("vectors::converted_to_new_with_lent_memory");
     rewritten_with_lent_memory(&mut run, Rewrite::ToNew, "to_new_lent");
-    let written = [(0, 13), (3, 20), (4, 1)];
-    let of_fields = [(6, 2), (7, 1), (8, 2), (13, 2)];
-    let of_nets = [(10, 1), (20, 1), (11, 1)];
+    let written = [(0, 9), (3, 13), (4, 3)];
+    let of_fields = [(7, 1), (8, 1), (13, 2)];
+    let of_nets = [(20, 1), (11, 1), (12, 2)];
     let numbers = [written.as_slice(), &of_fields, &of_nets].concat();
     all_of("to_new_lent", &numbers);
     run.finish(&numbers);
@@ -197,21 +199,21 @@ fn converted_to_new_with_lent_memory() {
 fn converted_to_old() {
     let mut run = Run::start("vectors::converted_to_old");
     rewritten(&mut run, Rewrite::ToOld, "to_old");
-    let refused = [(7, 1), (12, 2), (13, 2), (20, 1), (21, 12)];
-    all_of("to_old", &[&[(0, 24)], refused.as_slice()].concat());
-    let written = [(0, 24 * 8), (3, 24 * 4), (5, 42 * 12)];
+    let refused = [(10, 1), (11, 1), (12, 2), (13, 2), (21, 8)];
+    all_of("to_old", &[&[(0, 13)], refused.as_slice()].concat());
+    let written = [(0, 13 * 8), (3, 13 * 4), (5, 27 * 12)];
     let refused = refused.map(|(number, cases)| (number, cases * 12));
     let numbers = [written.as_slice(), &refused].concat();
-    run.finish_with_classes(&numbers, &[("another length", 8)]);
+    run.finish_with_classes(&numbers, &[("another length", 4)]);
 }
 
 #[test]
 fn converted_to_old_with_lent_memory() {
     let mut run = Run::start("vectors::converted_to_old_with_lent_memory");
     rewritten_with_lent_memory(&mut run, Rewrite::ToOld, "to_old_lent");
-    let written = [(0, 9), (21, 10), (3, 12), (4, 1), (5, 3)];
-    let of_fields = [(6, 1), (7, 2), (13, 2)];
-    let of_nets = [(20, 1), (12, 4)];
+    let written = [(0, 7), (21, 8), (3, 5), (5, 1)];
+    let of_fields = [(8, 1), (13, 2)];
+    let of_nets = [(10, 1), (11, 1), (12, 3)];
     let numbers = [written.as_slice(), &of_fields, &of_nets].concat();
     all_of("to_old_lent", &numbers);
     run.finish(&numbers);
@@ -225,9 +227,9 @@ fn screened() {
         let answer = screen(&mut run, &bundle.bytes(), &word.bytes());
         assert_eq!(screened_line(answer), case.answer, "{run}");
     }
-    let numbers = [(0, 30), (14, 10), (4, 3), (6, 7), (7, 4), (8, 3), (15, 23)];
+    let numbers = [(0, 39), (14, 9), (4, 3), (6, 8), (7, 4), (8, 2), (15, 15)];
     all_of("screen", &numbers);
-    run.finish_with_classes(&numbers, &[("permitted", 20), ("stopped", 10)]);
+    run.finish_with_classes(&numbers, &[("permitted", 30), ("stopped", 9)]);
 }
 
 #[test]
@@ -238,11 +240,11 @@ fn screened_on_two_nets() {
         let answer = screen_joined(&mut run, &first.bytes(), &second.bytes(), &word.bytes());
         assert_eq!(screened_line(answer), case.answer, "{run}");
     }
-    let answered = [(0, 32), (19, 17), (15, 9)];
-    let refused = [(14, 11), (4, 20), (6, 26), (7, 25), (8, 15)];
+    let answered = [(0, 17), (19, 16), (15, 5)];
+    let refused = [(14, 11), (4, 11), (6, 18), (7, 21), (8, 8)];
     let numbers = [answered.as_slice(), &refused].concat();
     all_of("screen_joined", &numbers);
-    run.finish_with_classes(&numbers, &[("permitted", 16), ("stopped", 16)]);
+    run.finish_with_classes(&numbers, &[("permitted", 6), ("stopped", 11)]);
 }
 
 /// The words of a log leave these rows in a table that held anything.

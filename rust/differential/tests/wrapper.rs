@@ -254,15 +254,15 @@ fn check_error<R: Debug>(result: Result<R, Refusal>, number: u8, spot: usize) {
 fn every_number_has_a_sentence() {
     let spot = 40_961;
     let mut sentences = HashSet::new();
-    for number in 1..=22 {
+    for number in 1..=24 {
         let sentence = Refusal { number, spot }.to_string();
         let start = format!("refusal {number}: ");
         assert!(sentence.starts_with(&start), "{sentence}");
-        let one_spot = [1, 4, 14, 19, 22].contains(&number);
+        let one_spot = [1, 4, 14, 19, 22, 24].contains(&number);
         assert_eq!(sentence.contains("40961"), !one_spot, "{sentence}");
         assert_eq!(
             sentence.contains("no refusal has this number"),
-            number == 22,
+            number == 24,
             "{sentence}"
         );
         assert!(

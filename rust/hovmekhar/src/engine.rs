@@ -1,4 +1,4 @@
-//! The carried engine: a net played event by event.
+//! The carried engine: a net played event by event, and another one in its place.
 
 use crate::ffi::{self, Answer};
 use crate::{Refusal, Screened};
@@ -12,10 +12,10 @@ pub const MAX_TOKENS: u64 = 4_294_901_760;
 #[derive(Clone, Copy, Debug, PartialEq, Eq, Hash)]
 #[must_use = "an event that is stopped must not pass"]
 pub enum Step {
-    /// Every place permits the event, and its tokens are moved: so many events were
-    /// played with it.
+    /// Every place permits the event, its tokens are moved, and the event is kept: so many
+    /// events were played with it.
     Moved(usize),
-    /// The event is refused, no token is moved, and it is not counted.
+    /// The event is refused, no token is moved, and it is neither kept nor counted.
     Stopped {
         /// How many events were played before it.
         position: usize,
@@ -32,7 +32,7 @@ pub enum Step {
 ///
 /// The bundle is read as [`screen`](crate::screen) reads one, whether or not
 /// [`judge`](crate::judge) accepts it. [`MAX_PLACES`](crate::MAX_PLACES) numbers are
-/// enough for every bundle. A [`Sale`] does this with tokens of its own.
+/// enough for every bundle. A [`Sale`](crate::Sale) does this with tokens of its own.
 ///
 /// # Errors
 ///
@@ -52,8 +52,9 @@ pub enum Step {
 /// let mut tokens = [9; 3];
 /// let number = hovmekhar::start(&bundle, &mut tokens)?;
 /// assert_eq!((number, tokens), (0, [2, 0, 9]));
-/// assert_eq!(hovmekhar::step(&bundle, &mut tokens, 0, 0)?, Step::Moved(1));
-/// assert_eq!(tokens, [1, 1, 9]);
+/// let mut kept = [9; 2];
+/// let step = hovmekhar::step(&bundle, &mut tokens, &mut kept, number, 0)?;
+/// assert_eq!((step, tokens, kept), (Step::Moved(1), [1, 1, 9], [0, 9]));
 ///
 /// let refusal = hovmekhar::start(&bundle, &mut tokens[..1]).unwrap_err();
 /// assert_eq!(refusal, Refusal { number: Refusal::NUMBERS_SHORT, spot: 2 });
@@ -68,33 +69,41 @@ pub fn start(bundle: &[u8], tokens: &mut [u64]) -> Result<usize, Refusal> {
 }
 
 /// Plays a further event of a run, which had `number` events so far: tests it on every
-/// place, then moves the tokens of all. Returns the number to hand to the next step.
+/// place, then moves the tokens of all and writes the event to `kept[number]`, behind those
+/// so far. Returns the number to hand to the next step.
 ///
-/// The bundle is the one of [`start`], and `tokens` and `number` are as the call before
-/// left them; then the answer is that of [`screen`](crate::screen) for all events so far
-/// with this one behind them. They may be anything else, too, and are then taken as they
-/// are. Numbers behind the last place are neither looked at nor changed.
+/// The bundle is the one of [`start`], or the new one of [`replace`], and `tokens`, `kept`
+/// and `number` are as the call before left them; then the answer is that of
+/// [`screen`](crate::screen) for all events so far with this one behind them. They may be
+/// anything else, too, and are then taken as they are. Numbers behind the last place and
+/// the other bytes of `kept` are neither looked at nor changed;
+/// [`MAX_WORD_EVENTS`](crate::MAX_WORD_EVENTS) bytes are enough for every run.
 ///
 /// # Errors
 ///
 /// [`Refusal::WORD_LENGTH`] at 65,535 events or more, else what [`start`] refuses, else
 /// [`Refusal::STATE_RANGE`] where a place has more than [`MAX_TOKENS`], which no run
-/// reaches, else [`Refusal::WORD_EVENT`]. `tokens` is then as it was.
+/// reaches, else [`Refusal::WORD_EVENT`], else [`Refusal::OUTPUT_SHORT`] where `kept` has
+/// no room for the event. `tokens` and `kept` are then as they were.
 ///
 /// ```
 /// use hovmekhar::{Refusal, Step, MAX_TOKENS};
 ///
-/// // One event, which takes a token out of the one place, and no word.
-/// let bundle = [1, 0, 1, 1, 0, 0, 0, 1, 0];
-/// let mut tokens = [1];
-/// assert_eq!(hovmekhar::step(&bundle, &mut tokens, 7, 0)?, Step::Moved(8));
+/// // Two events, the first of which takes a token out of the one place, and no word.
+/// let bundle = [2, 0, 1, 1, 0, 0, 0, 0, 0, 1, 0, 0, 0];
+/// let (mut tokens, mut kept) = ([1], [9; 9]);
+/// let step = hovmekhar::step(&bundle, &mut tokens, &mut kept, 7, 0)?;
+/// assert_eq!((step, tokens[0], kept[7]), (Step::Moved(8), 0, 0));
 /// let stopped = Step::Stopped { position: 8, place: 0, shortfall: 1 };
-/// assert_eq!(hovmekhar::step(&bundle, &mut tokens, 8, 0)?, stopped);
-/// assert_eq!(tokens, [0]);
+/// assert_eq!(hovmekhar::step(&bundle, &mut tokens, &mut kept, 8, 0)?, stopped);
+/// assert_eq!((tokens[0], kept[8]), (0, 9));
 ///
-/// let refusal = hovmekhar::step(&bundle, &mut tokens, 8, 1).unwrap_err();
+/// let refusal = hovmekhar::step(&bundle, &mut tokens, &mut kept, 8, 2).unwrap_err();
 /// assert_eq!(refusal, Refusal { number: Refusal::WORD_EVENT, spot: 8 });
-/// let refusal = hovmekhar::step(&bundle, &mut [MAX_TOKENS + 1], 8, 0).unwrap_err();
+/// let refusal = hovmekhar::step(&bundle, &mut tokens, &mut kept, 9, 1).unwrap_err();
+/// assert_eq!(refusal, Refusal { number: Refusal::OUTPUT_SHORT, spot: 10 });
+/// tokens = [MAX_TOKENS + 1];
+/// let refusal = hovmekhar::step(&bundle, &mut tokens, &mut kept, 8, 0).unwrap_err();
 /// assert_eq!(refusal, Refusal { number: Refusal::STATE_RANGE, spot: 0 });
 /// # Ok::<(), Refusal>(())
 /// ```
@@ -102,11 +111,12 @@ pub fn start(bundle: &[u8], tokens: &mut [u64]) -> Result<usize, Refusal> {
 pub fn step(
     bundle: &[u8],
     tokens: &mut [u64],
+    kept: &mut [u8],
     number: usize,
     event: usize,
 ) -> Result<Step, Refusal> {
     let mut answer = Answer::default();
-    let returned = ffi::step(bundle, tokens, number, event, &mut answer);
+    let returned = ffi::step(bundle, tokens, kept, number, event, &mut answer);
     Ok(match Screened::check(returned, answer)? {
         Screened::Permitted => Step::Moved(answer[0] as usize),
         Screened::Stopped {
@@ -121,119 +131,65 @@ pub fn step(
     })
 }
 
-/// A run on the net of a bundle, with the bundle, the tokens of its places and the number
-/// of its events. Only [`Sale::step`] changes them, so the answers are those of
-/// [`screen`](crate::screen).
+/// Puts the net of the bundle `new` in place of that of `old`, between two events of a run:
+/// writes the tokens of the new net's places behind the events so far, the first `number`
+/// of `kept`, to the front of `tokens`. The rest stays as it was.
+///
+/// Where only [`start`], [`step`] and this call wrote to `tokens` and `kept` since the start
+/// and each number was handed on, the run goes on just as if all its events had been played
+/// on the new net from the start. The next step gets `new` and the same number.
+///
+/// Both bundles are read as [`screen`](crate::screen) reads one, and may be the same. Of the
+/// old one only the event count is used, and what `tokens` held does not matter.
+/// [`MAX_PLACES`](crate::MAX_PLACES) numbers are enough for every bundle. A
+/// [`Sale`](crate::Sale) does this with tokens and events of its own.
+///
+/// # Errors
+///
+/// [`Refusal::WORD_LENGTH`] above 65,535 events, else [`Refusal::OUTPUT_SHORT`] where `kept`
+/// has fewer than `number` bytes, else what [`screen`](crate::screen) refuses in the old
+/// bundle, else what it refuses in the new one: [`Refusal::BUNDLE_LENGTH`],
+/// [`Refusal::BUNDLE_END`], [`Refusal::VALUE`], [`Refusal::EVENTS`], each with its spot in
+/// that bundle; else [`Refusal::REPLACED_EVENTS`], else [`Refusal::NUMBERS_SHORT`] for the
+/// new net's places, else [`Refusal::WORD_EVENT`] for the first of the events so far that is
+/// not there, else [`Refusal::RUN_STOPPED`]. `tokens` is then as it was, and the run can go
+/// on with the old bundle.
 ///
 /// ```
-/// use hovmekhar::{Refusal, Sale, Screened};
+/// use hovmekhar::{Refusal, Step};
 ///
-/// // Two events, no word, and a place with one token: event 0 takes it, 1 puts it back.
-/// let bundle = [2, 0, 1, 1, 0, 0, 0, 1, 0, 1, 0, 0, 0];
-/// let mut sale = Sale::start(bundle)?;
-/// assert_eq!(sale.step(0)?, Screened::Permitted);
-/// assert_eq!((sale.events(), sale.tokens()), (1, [0].as_slice()));
+/// // Two events, no word and one place: event 0 occurs at most once, twice or three times.
+/// let [once, twice, thrice] = [1, 2, 3].map(|m| [2, 0, 1, m, 0, 0, 0, 0, 0, 1, 0, 0, 0]);
+/// let (mut tokens, mut kept) = ([0], [0; 8]);
+/// let mut number = hovmekhar::start(&twice, &mut tokens)?;
+/// for event in [0, 0] {
+///     match hovmekhar::step(&twice, &mut tokens, &mut kept, number, event)? {
+///         Step::Moved(next) => number = next,
+///         Step::Stopped { .. } => unreachable!("both are permitted"),
+///     }
+/// }
+/// hovmekhar::replace(&twice, &thrice, &mut tokens, &kept, number)?;
+/// assert_eq!(tokens, [1]);
+/// let step = hovmekhar::step(&thrice, &mut tokens, &mut kept, number, 0)?;
+/// assert_eq!((step, tokens), (Step::Moved(3), [0]));
 ///
-/// // A refused event moves no token and is not counted.
-/// let stopped = Screened::Stopped { position: 1, place: 0, shortfall: 1 };
-/// assert_eq!(sale.step(0)?, stopped);
-/// assert_eq!(hovmekhar::screen(&bundle, &[0, 0])?, stopped);
-/// assert_eq!((sale.events(), sale.is_idle()), (1, false));
-///
-/// assert_eq!(sale.step(1)?, Screened::Permitted);
-/// assert_eq!((sale.events(), sale.is_idle()), (2, true));
-///
-/// let refusal = sale.step(2).unwrap_err();
-/// assert_eq!(refusal, Refusal { number: Refusal::WORD_EVENT, spot: 2 });
+/// // A net that stops on the events so far, and one over other events.
+/// let refusal = hovmekhar::replace(&thrice, &once, &mut tokens, &kept, 3).unwrap_err();
+/// assert_eq!(refusal, Refusal { number: Refusal::RUN_STOPPED, spot: 1 });
+/// let refusal = hovmekhar::replace(&thrice, &[3, 0, 0], &mut tokens, &kept, 3).unwrap_err();
+/// assert_eq!(refusal, Refusal { number: Refusal::REPLACED_EVENTS, spot: 0 });
+/// assert_eq!(tokens, [0]);
 /// # Ok::<(), Refusal>(())
 /// ```
-#[derive(Clone, Debug, PartialEq, Eq, Hash)]
-pub struct Sale {
-    bundle: Vec<u8>,
-    tokens: Vec<u64>,
-    initial: Vec<u64>,
+#[inline]
+pub fn replace(
+    old: &[u8],
+    new: &[u8],
+    tokens: &mut [u64],
+    kept: &[u8],
     number: usize,
-}
-
-impl Sale {
-    /// Starts a run: each place has its initial tokens.
-    ///
-    /// # Errors
-    ///
-    /// As for [`start`], without [`Refusal::NUMBERS_SHORT`].
-    ///
-    /// ```
-    /// use hovmekhar::{Refusal, Sale};
-    ///
-    /// // One event and no word. The second place is cut.
-    /// let refusal = Sale::start([1, 0, 2, 5, 0, 0, 0, 0, 0, 3, 0]).unwrap_err();
-    /// assert_eq!(refusal, Refusal { number: Refusal::BUNDLE_END, spot: 11 });
-    /// ```
-    pub fn start(bundle: impl Into<Vec<u8>>) -> Result<Self, Refusal> {
-        let bundle = bundle.into();
-        // Without any number the spot is the place count, unless there is no place.
-        let places = match start(&bundle, &mut []) {
-            Ok(_) => 0,
-            Err(refusal) if refusal.number == Refusal::NUMBERS_SHORT => refusal.spot,
-            Err(refusal) => return Err(refusal),
-        };
-        let mut tokens = vec![0; places];
-        let number = start(&bundle, &mut tokens)?;
-        Ok(Self {
-            bundle,
-            initial: tokens.clone(),
-            tokens,
-            number,
-        })
-    }
-
-    /// Plays a further event: the answer of [`screen`](crate::screen) for all events so far
-    /// with this one behind them. One that is stopped moves no token and is not counted.
-    ///
-    /// # Errors
-    ///
-    /// [`Refusal::WORD_LENGTH`] after 65,535 events, else [`Refusal::WORD_EVENT`]. The
-    /// tokens and the number of events are then as they were.
-    pub fn step(&mut self, event: usize) -> Result<Screened, Refusal> {
-        let step = step(&self.bundle, &mut self.tokens, self.number, event)?;
-        Ok(match step {
-            Step::Moved(number) => {
-                self.number = number;
-                Screened::Permitted
-            }
-            Step::Stopped {
-                position,
-                place,
-                shortfall,
-            } => Screened::Stopped {
-                position,
-                place,
-                shortfall,
-            },
-        })
-    }
-
-    /// The tokens of the places, in their order.
-    #[must_use]
-    pub fn tokens(&self) -> &[u64] {
-        &self.tokens
-    }
-
-    /// How many events were played; one that was stopped or refused is none of them.
-    #[must_use]
-    pub fn events(&self) -> usize {
-        self.number
-    }
-
-    /// Whether each place has its initial tokens: the terminal is as before the run.
-    #[must_use]
-    pub fn is_idle(&self) -> bool {
-        self.tokens == self.initial
-    }
-
-    /// The bundle.
-    #[must_use]
-    pub fn bundle(&self) -> &[u8] {
-        &self.bundle
-    }
+) -> Result<(), Refusal> {
+    let mut answer = Answer::default();
+    let returned = ffi::replace(old, new, tokens, kept, number, &mut answer);
+    Refusal::check(returned, answer)
 }

@@ -3,6 +3,10 @@
 //! This is the only module with unsafe code. Each function returns the number
 //! that the library returned and leaves `answer` as the library left it.
 
+mod carried;
+
+pub use carried::{replace, start, step};
+
 /// Where a call puts the numbers of its answer.
 pub type Answer = [u64; 4];
 
@@ -93,24 +97,6 @@ unsafe extern "C" {
         second_len: usize,
         word: *const u8,
         word_len: usize,
-        answer: *mut u64,
-    ) -> u32;
-
-    fn hov_start(
-        bundle: *const u8,
-        bundle_len: usize,
-        tokens: *mut u64,
-        tokens_len: usize,
-        answer: *mut u64,
-    ) -> u32;
-
-    fn hov_step(
-        bundle: *const u8,
-        bundle_len: usize,
-        tokens: *mut u64,
-        tokens_len: usize,
-        number: usize,
-        event: usize,
         answer: *mut u64,
     ) -> u32;
 }
@@ -270,44 +256,6 @@ pub fn screen_joined(first: &[u8], second: &[u8], word: &[u8], answer: &mut Answ
             second.len(),
             word.as_ptr(),
             word.len(),
-            answer.as_mut_ptr(),
-        )
-    }
-}
-
-/// Calls `hov_start`.
-pub fn start(bundle: &[u8], tokens: &mut [u64], answer: &mut Answer) -> u32 {
-    // SAFETY: As for `hov_open`, with the bundle in place of the file and the tokens
-    // in place of the output. Their length is in numbers, and any contents of them
-    // are allowed.
-    unsafe {
-        hov_start(
-            bundle.as_ptr(),
-            bundle.len(),
-            tokens.as_mut_ptr(),
-            tokens.len(),
-            answer.as_mut_ptr(),
-        )
-    }
-}
-
-/// Calls `hov_step`.
-pub fn step(
-    bundle: &[u8],
-    tokens: &mut [u64],
-    number: usize,
-    event: usize,
-    answer: &mut Answer,
-) -> u32 {
-    // SAFETY: As for `hov_start`. The library checks `number` and `event`.
-    unsafe {
-        hov_step(
-            bundle.as_ptr(),
-            bundle.len(),
-            tokens.as_mut_ptr(),
-            tokens.len(),
-            number,
-            event,
             answer.as_mut_ptr(),
         )
     }

@@ -63,6 +63,10 @@ pub enum Kind {
     PlaceDisobeys = 20,
     /// [`Refusal::WORD_COMPLETED`]
     WordCompleted = 21,
+    /// [`Refusal::REPLACED_EVENTS`]
+    ReplacedEvents = 22,
+    /// [`Refusal::RUN_STOPPED`]
+    RunStopped = 23,
 }
 
 impl Kind {
@@ -89,6 +93,8 @@ impl Kind {
         Kind::EventCounts,
         Kind::PlaceDisobeys,
         Kind::WordCompleted,
+        Kind::ReplacedEvents,
+        Kind::RunStopped,
     ];
 
     /// The refusal of a number, if one has it.
@@ -110,7 +116,9 @@ impl Kind {
         match self {
             Kind::FileLength => "the file's length is 0, no multiple of 512, or above 65,536",
             Kind::BlockSums => "a block's sums are wrong",
-            Kind::OutputShort => "the output is shorter than the result",
+            Kind::OutputShort => {
+                "the output is shorter than the result, or the buffer than the events of the run"
+            }
             Kind::BundleLength => "the bundle's length is 0 or above 64,512, or the result's is above 64,512",
             Kind::NumbersShort => {
                 "the table has fewer than 3,584 numbers, or the tokens have fewer than there are places"
@@ -137,6 +145,10 @@ impl Kind {
             Kind::EventCounts => "the event counts of the two bundles are not the same",
             Kind::PlaceDisobeys => "a place does not return to its initial tokens after a completed word",
             Kind::WordCompleted => "a word is completed, and the old edition has no mark for it",
+            Kind::ReplacedEvents => {
+                "the event counts of the bundle and of the one that replaces it are not the same"
+            }
+            Kind::RunStopped => "the net that replaces another stops on the events so far",
         }
     }
 
@@ -176,6 +188,10 @@ impl Kind {
             Kind::WordCompleted => {
                 "keep it in the new edition, or have the modeller mark the word as partial"
             }
+            Kind::ReplacedEvents => {
+                "the nets are not of one log: replace a net only by one over the same events"
+            }
+            Kind::RunStopped => "the sale goes on with the old net: replace it when the sale has ended",
         }
     }
 }

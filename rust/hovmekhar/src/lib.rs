@@ -19,8 +19,9 @@
 //! that no certificate names, [`to_new`] and [`to_old`] write one in the other edition.
 //! [`screen`] replays a word on the net of a bundle, and says where it is stopped and how
 //! many tokens were missing; [`screen_joined`] does so with the places of two bundles. A
-//! [`Sale`] gives the same answers event by event, and keeps the tokens of the places;
-//! [`start`] and [`step`] do so with tokens that are lent.
+//! [`Sale`] gives the same answers event by event, and keeps the tokens of the places and
+//! the events; between two of them another net can take the place of its own. [`start`],
+//! [`step`] and [`replace`] do so with tokens and events that are lent.
 //!
 //! A call that cannot give a result returns a [`Refusal`] and writes nothing; only
 //! [`judge`] clears the table. [`prune`], [`to_new`] and [`to_old`] leave the table as
@@ -62,16 +63,18 @@ mod kind;
 mod logs;
 mod pruning;
 mod refusal;
+mod sale;
 mod screening;
 
 pub use blocks::{open, open_vec, seal, seal_vec};
 pub use blocks::{BLOCK_SIZE, CONTENTS_SIZE, MAX_BLOCKS, MAX_BUNDLE_SIZE, MAX_FILE_SIZE};
 pub use editions::{to_new, to_new_vec, to_old, to_old_vec};
-pub use engine::{start, step, Sale, Step, MAX_TOKENS};
+pub use engine::{replace, start, step, Step, MAX_TOKENS};
 pub use judging::{judge, judge_file_vec, judge_vec, Judged, Tally};
 pub use judging::{MAX_PAIRS, MAX_PLACES, MAX_TERMS, NEW_EDITION};
 pub use kind::Kind;
 pub use logs::{Summary, MAX_EVENTS, MAX_LOG_EVENTS, MAX_ROWS, ROW_SIZE, TABLE_SIZE};
 pub use pruning::{prune, prune_vec};
 pub use refusal::Refusal;
+pub use sale::Sale;
 pub use screening::{screen, screen_joined, Screened, MAX_WORD_EVENTS};

@@ -17,7 +17,7 @@ use std::fmt;
 /// ```
 #[derive(Clone, Copy, Debug, PartialEq, Eq, Hash)]
 pub struct Refusal {
-    /// The number, 1 to 21.
+    /// The number, 1 to 23.
     pub number: u8,
     /// Where or how much, according to the number.
     pub spot: usize,
@@ -29,13 +29,14 @@ impl Refusal {
     /// The sums of the lowest faulty block are wrong; its number, its used count and
     /// its unused bytes are right. Spot: that block.
     pub const BLOCK_SUMS: u8 = Kind::BlockSums.number();
-    /// The output is shorter than the result. Spot: the length needed.
+    /// The output is shorter than the result, or the buffer is too short for the events of
+    /// a run. Spot: the length needed.
     pub const OUTPUT_SHORT: u8 = Kind::OutputShort.number();
     /// The bundle's length is 0 or above 64,512, or the result's, where a bundle is
     /// converted, is above 64,512. Spot: 0.
     pub const BUNDLE_LENGTH: u8 = Kind::BundleLength.number();
     /// The table has fewer than 3,584 numbers. Spot: 3,584. Or the tokens have fewer
-    /// numbers than the bundle has places. Spot: the place count.
+    /// numbers than the bundle has places, or the new one. Spot: the place count.
     pub const NUMBERS_SHORT: u8 = Kind::NumbersShort.number();
     /// The bundle ends before or inside a field. Spot: the field's offset.
     pub const BUNDLE_END: u8 = Kind::BundleEnd.number();
@@ -58,11 +59,12 @@ impl Refusal {
     pub const WEIGHTS: u8 = Kind::Weights.number();
     /// Bytes follow the last certificate. Spot: the offset of the first.
     pub const BYTES_FOLLOW: u8 = Kind::BytesFollow.number();
-    /// The screened word has more than 65,535 events, or a step comes behind 65,535 or
-    /// more. Spot: 65,535.
+    /// The screened word has more than 65,535 events, a step comes behind 65,535 or more,
+    /// or a net is replaced behind more. Spot: 65,535.
     pub const WORD_LENGTH: u8 = Kind::WordLength.number();
-    /// An event of the screened word is not below the event count. Spot: its
-    /// position. Or the event of a step is not. Spot: the events so far.
+    /// An event of the screened word, or one that is kept where a net is replaced, is not
+    /// below the event count. Spot: its position. Or the event of a step is not. Spot: the
+    /// events so far.
     pub const WORD_EVENT: u8 = Kind::WordEvent.number();
     /// A summary's event count is not 1 to 12, its rows are not 1 to 256, or its
     /// events are above 1,024. Spot: 0. Or the tokens of a place are above
@@ -81,6 +83,12 @@ impl Refusal {
     /// A word is completed, and so there is no such bundle in the old edition. Spot: the
     /// number of the first such word.
     pub const WORD_COMPLETED: u8 = Kind::WordCompleted.number();
+    /// The event counts of a bundle and of the one that replaces it are not the same.
+    /// Spot: 0.
+    pub const REPLACED_EVENTS: u8 = Kind::ReplacedEvents.number();
+    /// The net that replaces another stops on the events so far, so the run can go on only
+    /// with the old one. Spot: the position of the event that it refuses.
+    pub const RUN_STOPPED: u8 = Kind::RunStopped.number();
 
     /// Which refusal it is; nothing for a number that is not in the table, which no
     /// call gives.
@@ -109,7 +117,7 @@ impl Refusal {
             return Ok(());
         }
         Err(Refusal {
-            // The refusal table ends at 21 and `usize` has 64 bits here, so both
+            // The refusal table ends at 23 and `usize` has 64 bits here, so both
             // conversions keep the value.
             number: number as u8,
             spot: answer[0] as usize,
@@ -136,7 +144,7 @@ impl fmt::Display for Sentence {
                 f,
                 "the used count of block {spot} is wrong, or an unused byte of it is not zero"
             ),
-            Refusal::OUTPUT_SHORT => write!(f, "the output is too short, {spot} bytes are needed"),
+            Refusal::OUTPUT_SHORT => write!(f, "too few bytes are lent, {spot} are needed"),
             Refusal::NUMBERS_SHORT => {
                 write!(f, "too few numbers are lent, {spot} are needed")
             }
@@ -177,6 +185,10 @@ impl fmt::Display for Sentence {
             Refusal::WORD_COMPLETED => write!(
                 f,
                 "word {spot} is completed, and the old edition has no mark for it"
+            ),
+            Refusal::RUN_STOPPED => write!(
+                f,
+                "the net that replaces another stops at position {spot} of the events so far"
             ),
             // The others have one spot each, which tells nothing.
             _ => f.write_str(

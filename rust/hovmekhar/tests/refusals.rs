@@ -7,7 +7,7 @@ use std::collections::HashSet;
 #[test]
 fn kinds_and_numbers() {
     let numbers: Vec<u8> = Kind::ALL.iter().map(|kind| kind.number()).collect();
-    assert_eq!(numbers, (1..=21).collect::<Vec<u8>>());
+    assert_eq!(numbers, (1..=23).collect::<Vec<u8>>());
     for number in 0..=u8::MAX {
         let kind = Refusal { number, spot: 3 }.kind();
         assert_eq!(
@@ -40,7 +40,7 @@ fn sentences() {
         let refusal = Refusal { number, spot: 777 };
         let sentence = refusal.sentence().to_string();
         assert_eq!(refusal.to_string(), format!("refusal {number}: {sentence}"));
-        let one_spot = [1, 4, 14, 19].contains(&number);
+        let one_spot = [1, 4, 14, 19, 22].contains(&number);
         assert_eq!(sentence == kind.text(), one_spot, "{sentence}");
         assert_eq!(sentence.contains("777"), !one_spot, "{sentence}");
     }

@@ -64,14 +64,14 @@ pub fn screen_joined(first: &[u8], second: &[u8], word: &[u8]) -> Result<Screene
 }
 
 /// What screening needs of a bundle.
-struct Net {
-    n: u8,
-    places: Vec<Place<i64>>,
+pub struct Net {
+    pub n: u8,
+    pub places: Vec<Place<i64>>,
 }
 
 impl Net {
     /// Reads a bundle up to its last place.
-    fn read(bundle: &[u8]) -> Result<Self, Refusal> {
+    pub fn read(bundle: &[u8]) -> Result<Self, Refusal> {
         if bundle.is_empty() || bundle.len() > MAX_BUNDLE_SIZE {
             return Err(Refusal { number: 4, spot: 0 });
         }
@@ -94,7 +94,8 @@ fn check_length(word: &[u8]) -> Result<(), Refusal> {
     Ok(())
 }
 
-fn check_events(n: u8, word: &[u8]) -> Result<(), Refusal> {
+/// 15 with the first position of a word whose event is not below `n`.
+pub fn check_events(n: u8, word: &[u8]) -> Result<(), Refusal> {
     match first_not_below(n, word) {
         Some(spot) => Err(Refusal { number: 15, spot }),
         None => Ok(()),
@@ -111,7 +112,8 @@ fn first_not_below(n: u8, word: &[u8]) -> Option<usize> {
     word.iter().position(|&event| event >= n)
 }
 
-fn replay<'p>(places: impl IntoIterator<Item = &'p Place<i64>>, word: &[u8]) -> Screened {
+/// What the places say to a word, all of whose events are there.
+pub fn replay<'p>(places: impl IntoIterator<Item = &'p Place<i64>>, word: &[u8]) -> Screened {
     // What is permitted by all places so far. A further place has to refuse a step
     // of it, so the lowest place stays where several refuse the same step.
     let mut permitted = word;

@@ -1,6 +1,6 @@
 //! Arguments that stand for a value.
 
-use super::{Command, Usage};
+use super::{Command, Part, Usage};
 use crate::editions::Edition;
 use crate::names::shown;
 use std::ffi::{OsStr, OsString};
@@ -26,10 +26,7 @@ pub fn certificate_number(argument: Option<OsString>) -> Result<usize, Usage> {
 }
 
 /// A file, and the events of a word behind it.
-pub fn file_and_word(
-    command: Command,
-    operands: Vec<OsString>,
-) -> Result<(OsString, Vec<u8>), Usage> {
+pub fn file_and_word(command: Command, operands: Vec<OsString>) -> Result<Part, Usage> {
     let mut operands = operands.into_iter();
     let file = operands.next();
     let file = file.ok_or_else(|| command.wrong("no file".into()))?;
@@ -41,7 +38,16 @@ pub fn file_and_word(
         event(&argument).ok_or_else(wrong)
     };
     let word = operands.map(event).collect::<Result<Vec<u8>, Usage>>()?;
-    Ok((file, word))
+    Ok(Part { file, word })
+}
+
+/// The file that is due behind an option.
+pub fn file_behind(
+    command: Command,
+    option: &str,
+    argument: Option<OsString>,
+) -> Result<OsString, Usage> {
+    argument.ok_or_else(|| command.wrong(format!("no file behind '{option}'")))
 }
 
 /// Checks that `-` is among these files once at most.

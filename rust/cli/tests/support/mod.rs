@@ -7,6 +7,7 @@
 mod closed_pipe;
 
 use closed_pipe::closed_pipe;
+use differential::files::build;
 use differential::samples;
 use hovmekhar::Refusal;
 use std::ffi::OsStr;
@@ -105,6 +106,13 @@ pub fn directory(name: &str) -> PathBuf {
     }
     fs::create_dir_all(&directory).expect("the directory is made");
     directory
+}
+
+/// Writes the sealed file of a bundle, and returns its name.
+pub fn sealed(directory: &Path, name: &str, bundle: &[u8]) -> String {
+    let path = directory.join(name);
+    fs::write(&path, build(bundle)).expect("the file is written");
+    path.to_str().expect("a name in text").into()
 }
 
 /// The names in a directory, sorted.

@@ -32,6 +32,25 @@ pub const SAMPLE_A_NEW: [u8; 56] = [
     0, 0,
 ];
 
+/// A bundle whose log has that of sample A and the word 0 0 0 1, accepted with the counts
+/// 7 6 7 1: event 0 occurs once more.
+pub const SAMPLE_LONGER: [u8; 62] = [
+    // Two events and the words 1, 0 0 1 and 0 0 0 1.
+    2, 3, 1, 1, 3, 0, 0, 1, 4, 0, 0, 0, 1, //
+    // Two places.
+    2, 1, 0, 1, 0, 0, 0, 1, 0, 1, 0, //
+    3, 0, 0, 0, 0, 0, 1, 0, 0, 0, //
+    // Eight certificates, the third of kind 1.
+    0, 0, //
+    0, 0, //
+    1, 2, 0, 2, 0, 0, 1, 1, 0, 3, 0, 1, 1, 0, //
+    0, 0, //
+    0, 0, //
+    0, 1, //
+    0, 0, //
+    0, 0,
+];
+
 /// Sample E: no word; one place refuses the only event.
 pub const SAMPLE_E: [u8; 11] = [1, 0, 1, 0, 0, 0, 0, 1, 0, 0, 0];
 
