@@ -26,7 +26,7 @@ all: $(ARCHIVE) $(HOV)
 crates/abi/out/libabi.a: crates.txt $(wildcard crates/*/src/*.rt)
 	cd crates/abi && rt lib --cpu x86-64
 
-rust/target/release/hov: $(ARCHIVE) $(wildcard rust/Cargo.* rust/cli/src/*.rs rust/hovmekhar/src/*.rs)
+rust/target/release/hov: $(ARCHIVE) $(wildcard rust/Cargo.* $(foreach crate,cli hovmekhar,rust/$(crate)/src/*.* rust/$(crate)/src/*/*.rs))
 	cargo build --release --locked --offline --manifest-path rust/Cargo.toml -p cli
 	touch $@
 
