@@ -28,8 +28,8 @@ const BLOCK: usize = 8;
 #[derive(Drop)]
 pub struct Matrix {
     initial: [u16; WIDTH],
-    produced: [[u16; WIDTH]; MAX_EVENTS],
-    consumed: [[u16; WIDTH]; MAX_EVENTS],
+    pub produced: [[u16; WIDTH]; MAX_EVENTS],
+    pub consumed: [[u16; WIDTH]; MAX_EVENTS],
 }
 
 impl Matrix {
@@ -45,7 +45,7 @@ impl Matrix {
     }
 
     // Writes the numbers of a place into column j. An index, since two lists are written.
-    fn write_column(&mut self, j: usize, place: Place)
+    pub fn write_column(&mut self, j: usize, place: Place)
         requires { j < matrix_width }
         ensures { SamePlace (column self.new j) (place_of place) × Beside self.old self.new j }
     {

@@ -1,5 +1,5 @@
 // One event on the places of a bundle that was read. The contracts cite specs/Playing.antt. All are inner functions.
-ghost use Rattle.std.specs.Prelude.{◌≡◌, ◌≤◌, length};
+ghost use Rattle.std.specs.Prelude.{◌≡◌, ℕ, ◌≤◌, ◌<◌, length, get_or};
 ghost use Rattle.laws.specs.Parts.{front};
 ghost use Rattle.nets.specs.Carrying.{initials, AllEnough, tokens_behind, play as played};
 ghost use Rattle.engine.specs.Playing.{places_of, Ready, lack_in, left_by};
@@ -17,7 +17,8 @@ pub struct Lack {
 // Writes the initial tokens of the places to the front of the numbers.
 pub fn write_initial(net: &Net, tokens: &mut [u64])
     requires { net.now.count ≤ length tokens.old }
-    ensures { tokens.new ≡ front (initials (places_of net.now)) tokens.old }
+    ensures written { tokens.new ≡ front (initials (places_of net.now)) tokens.old }
+    ensures most { (j : ℕ) → j < net.now.count → get_or tokens.new j 0 ≤ 65535 }
 {
     for (j, held) in tokens[..net.count].iter_mut().enumerate() {
         *held = u64::from(net.initial(j));

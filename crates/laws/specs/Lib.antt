@@ -6,6 +6,7 @@ pub mod Every
 pub mod Keeping
 pub mod Distinct
 pub mod Sorting
+pub mod Firsts
 pub mod Parts
 pub mod Pieces
 pub mod Chunks

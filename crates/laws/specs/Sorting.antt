@@ -4,9 +4,9 @@ use Rattle.std.proofs.Common.{sym, ⊎_elim}
 use Rattle.std.proofs.Math.Path.{subst}
 use Rattle.std.proofs.Math.Bool.{true, false}
 use mathlib.Core.List.Memᴰ
-use mathlib.Core.List.{List, [], ◌∷◌, ◌++◌, Memᴰ}
+use mathlib.Core.List.{List, [], ◌∷◌, ◌++◌, map, flat_map, Memᴰ}
 use Prim.Native.Nat.{ℕ, zero, suc, ◌<◌, zero-le, suc-le-suc}
-use Rattle.laws.specs.Lists.{keep, keep-member, tabulate, tabulate_inverse}
+use Rattle.laws.specs.Lists.{keep, keep-member, tabulate, tabulate_inverse, flat_map-member}
 
 module _ {A : Type 0} (R : A → A → Type 0) where
   abbrev pub Sorted : List A → Type 0
@@ -35,4 +35,23 @@ module _ {A : Type 0} (R : A → A → Type 0) where
   sorted_tabulate (suc n) f h = (
     (λ y m. let r = tabulate_inverse n (λ i. f (suc i)) m in subst (R (f zero)) (sym r.2) (h zero (suc r.0) (suc-le-suc zero-le))),
     sorted_tabulate n (λ i. f (suc i)) (λ i j l. h (suc i) (suc j) (suc-le-suc l)),
+  )
+
+-- ---- lists joined, and lists of images
+
+module _ {A B : Type 0} (S : A → A → Type 0) (R : B → B → Type 0) (f : A → List B) where
+  -- the lists of sorted elements, one behind the other
+  pub sorted_flat_map : (xs : List A) → Sorted S xs → ((x : A) → Sorted R (f x))
+      → ((x y : A) → S x y → (a b : B) → Memᴰ a (f x) → Memᴰ b (f y) → R a b) → Sorted R (flat_map f xs)
+  unfolding flat_map
+  sorted_flat_map [] s each across = tt
+  sorted_flat_map (x ∷ xs) s each across = sorted_append R (f x) (flat_map f xs) (each x) (sorted_flat_map xs s.1 each across)
+      (λ a b m k. let (y, there, in_y) = flat_map-member f xs k in across x y (s.0 y there) a b m in_y)
+
+module _ {A B : Type 0} (S : A → A → Type 0) (R : B → B → Type 0) (f : A → B) where
+  pub sorted_map : (xs : List A) → Sorted S xs → ((x y : A) → S x y → R (f x) (f y)) → Sorted R (map f xs)
+  sorted_map [] s keeps = tt
+  sorted_map (x ∷ xs) s keeps = (
+    (λ b m. let (y, there, is) = Memᴰ.of_map f xs m in subst (R (f x)) is (keeps x y (s.0 y there))),
+    sorted_map xs s.1 keeps,
   )

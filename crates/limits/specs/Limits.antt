@@ -70,6 +70,10 @@ new_edition = 128
 abbrev pub max_word_events : ℕ
 max_word_events = 65535
 
+-- the events of a word that is searched for
+abbrev pub max_reach_events : ℕ
+max_reach_events = 5
+
 -- the most tokens that a run can leave in a place: 65,535 at first, and 65,535 more at each of 65,535 events
 abbrev pub max_tokens : ℕ
 max_tokens = 4294901760

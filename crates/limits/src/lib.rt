@@ -37,6 +37,9 @@ pub const NEW_EDITION: u8 = 128;
 // The events of a screened word.
 pub const MAX_WORD_EVENTS: usize = 65535;
 
+// The events of a word that is searched for.
+pub const MAX_REACH_EVENTS: usize = 5;
+
 // The most tokens that a run can leave in a place: 65,535 at first, and 65,535 more at each of 65,535 events.
 pub const MAX_TOKENS: u64 = 4294901760;
 

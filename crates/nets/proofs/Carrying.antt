@@ -63,7 +63,7 @@ module _ (n : ℕ) (net : Net) (u : Word) (ts : List ℕ) (is : Carried n net u 
 
   -- where every place has enough, the list has the marking behind the event
   module _ (below : e < n) (all_enough : length net ≤ lowest) where
-    enough-net : net_permits n net (step_after n u e) ≡ true
+    pub enough-net : net_permits n net (step_after n u e) ≡ true
     unfolding net_permits first_refusing
     enough-net = failing-all _ net (rw (← short-refuses) all_enough)
 

@@ -1,15 +1,22 @@
 -- The samples of specs/Cases.antt, computed.
 use Rattle.std.specs.Prelude.{refl}
 use mathlib.Core.List.{flat_map}
+use Rattle.laws.specs.Firsts.{first_of}
 use Rattle.laws.specs.Lists.{all, any, keep, tabulate, equal}
-use Rattle.laws.specs.Scans.{first_failing}
+use Rattle.laws.specs.Scans.{first_failing, first_false}
 use Rattle.laws.specs.Differences.{negative_part, is_zero_ℤ, sumℤ}
 use Rattle.nets.specs.Nets.{words, completed_words, place_obeys, obeys, same, occurrences, weighed, beginnings, prefixes, add_row, counts, rows, allowed, passes, traffic, row_steps, continuations, allowed_steps, wrong_continuations, tokens, surplus, place_permits, shortfall, net_permits, permits_after, permits, permits_log, refused_by, first_refusing, shortfall_of, stopped_at, screen_after, screen}
 use Rattle.nets.specs.Bundle.{names_completed, pair_counts, paired, weighs_before, weighs_after, weights_hold, solves, solves_all, accepted}
+use Rattle.nets.specs.Carrying.{first_short, tokens_behind, play}
+use Rattle.nets.specs.Reaching.{where_moved, leading, all_leading, reached}
 use Rattle.nets.specs.Cases.{Computed}
 
 pub computed : Computed
-unfolding all any keep tabulate equal first_failing negative_part is_zero_ℤ sumℤ words completed_words place_obeys obeys same occurrences weighed beginnings prefixes add_row counts rows allowed passes traffic row_steps continuations allowed_steps wrong_continuations tokens surplus place_permits shortfall net_permits permits_after permits permits_log refused_by first_refusing shortfall_of stopped_at screen_after screen names_completed pair_counts paired weighs_before weighs_after weights_hold solves solves_all accepted flat_map
+unfolding all any keep tabulate equal first_failing first_false negative_part is_zero_ℤ sumℤ words completed_words place_obeys obeys same
+    occurrences weighed beginnings prefixes add_row counts rows allowed passes traffic row_steps continuations allowed_steps wrong_continuations
+    tokens surplus place_permits shortfall net_permits permits_after permits permits_log refused_by first_refusing shortfall_of stopped_at
+    screen_after screen names_completed pair_counts paired weighs_before weighs_after weights_hold solves solves_all accepted flat_map
+    first_short tokens_behind play where_moved leading all_leading first_of reached
 computed = record {
   rows_i = refl;
   allowed_i = refl;
@@ -48,4 +55,9 @@ computed = record {
   used_refuses = refl;
   kept_permits = refl;
   kept_refuses = refl;
+  empty_leads = refl;
+  one_leads = refl;
+  first_leads = refl;
+  none_leads = refl;
+  refused_leads = refl;
 }

@@ -23,3 +23,4 @@ pub mod Completed
 pub mod CompletedCases
 pub mod Carrying
 pub mod Plays
+pub mod Reaching

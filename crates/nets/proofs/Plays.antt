@@ -22,9 +22,12 @@ module _ (net : Net) (ts : List ℕ) (e : ℕ) where
   abbrev lowest : ℕ
   lowest = first_short net ts e
 
-  enough-none : AllEnough net ts e → length net ≤ lowest
+  pub enough-all : AllEnough net ts e → first_short net ts e ≡ length net
   unfolding first_short
-  enough-none enough = le_of_eq (sym (first_false-all (has_enough net ts e) (length net) (λ j h. le-leb (out j) (get_or ts j 0) (enough j h))))
+  enough-all enough = first_false-all (has_enough net ts e) (length net) (λ j h. le-leb (out j) (get_or ts j 0) (enough j h))
+
+  pub enough-none : AllEnough net ts e → length net ≤ lowest
+  enough-none enough = le_of_eq (sym (enough-all enough))
 
   pub none-enough : length net ≤ lowest → AllEnough net ts e
   unfolding first_short
@@ -40,7 +43,7 @@ module _ (net : Net) (ts : List ℕ) (e : ℕ) where
     λ i b. leb-true (out i) (get_or ts i 0) (first_false-below (has_enough net ts e) (length net) i b),
   )
 
-  lowest-is : (j : ℕ) → LowestShort net ts e j → lowest ≡ j
+  pub lowest-is : (j : ℕ) → LowestShort net ts e j → first_short net ts e ≡ j
   unfolding first_short
   lowest-is j (there, short, below) = first_false-at (has_enough net ts e) (length net) j there
       (λ i b. le-leb (out i) (get_or ts i 0) (below i b)) (lt-leb (out j) (get_or ts j 0) short)

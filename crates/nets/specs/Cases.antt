@@ -1,8 +1,9 @@
 -- The mistakes that the requirements name, as samples for the definitions: what is computed, with what is expected.
-use Rattle.std.specs.Prelude.{◌≡◌, true, false, cond, ℕ, eqb, ℤ, pos, neg_ℤ, length}
+use Rattle.std.specs.Prelude.{◌≡◌, true, false, cond, Some, None, ℕ, eqb, ℤ, pos, neg_ℤ, length}
 use mathlib.Core.List.{List, [], ◌∷◌, map}
 use Rattle.nets.specs.Nets.{Word, Log, Entry, Place, Net, no_place, stopped, words, completed_words, step_after, rows, allowed, traffic, allowed_steps, wrong_continuations, obeys, permits, permits_log, screen}
 use Rattle.nets.specs.Bundle.{Term, Pair, Weights, Certificate, by_place, by_weights, Bundle, weights_hold, accepted}
+use Rattle.nets.specs.Reaching.{reached}
 
 -- the log of I: prefixes 0 1 and 1 0 have the same counts, so 3 is allowed after 0 1
 abbrev log_i : Log
@@ -131,6 +132,16 @@ idle entries more c = record {
 abbrev pub idle_bundle : Bundle
 idle_bundle = idle idle_log [] (by_weights (third_sale above))
 
+-- ---- Words that lead to an event
+
+-- a place without tokens, into which event e puts 7, and out of which event 3 takes 6
+abbrev fed_by : ℕ → Place
+fed_by e = record { initial = 0; produced = λ i. cond (eqb i e) 7 0; consumed = λ i. cond (eqb i 3) 6 0 }
+
+-- the same for event 1, and event 0 takes 2 there and puts 8, which is enough for event 3
+abbrev fed_late : Place
+fed_late = record { initial = 0; produced = λ i. cond (eqb i 0) 8 (cond (eqb i 1) 7 0); consumed = λ i. cond (eqb i 0) 2 (cond (eqb i 3) 6 0) }
+
 -- what computing gives
 pub record Computed : Type 0 where
   -- prefixes are compared as counts: rows, allowed steps and wrong continuations of I, and 3 after 0 1
@@ -186,3 +197,11 @@ pub record Computed : Type 0 where
   pub used_refuses : permits 2 (used ∷ []) (0 ∷ 0 ∷ 1 ∷ 0 ∷ 0 ∷ 1 ∷ 0 ∷ []) ≡ false
   pub kept_permits : permits_log 2 (kept ∷ []) (words ends_twice) ≡ true
   pub kept_refuses : permits 2 (kept ∷ []) (1 ∷ []) ≡ false
+  -- over 5 events, a shortest word of fewer than 4 that leads to event 0 or 3: the empty word; and 0, since 1 token is too few for event 3
+  pub empty_leads : reached 5 (fives ∷ []) 0 4 ≡ Some []
+  pub one_leads : reached 5 (fives ∷ []) 3 4 ≡ Some (0 ∷ [])
+  -- of 0 1 and 1 0 the first by number; none where words of fewer than 2 events are asked for
+  pub first_leads : reached 5 (fed_by 0 ∷ fed_by 1 ∷ []) 3 4 ≡ Some (0 ∷ 1 ∷ [])
+  pub none_leads : reached 5 (fed_by 0 ∷ fed_by 1 ∷ []) 3 2 ≡ None
+  -- 0 is refused at first; with the tokens behind it, 2 taken from none and 8 put, it would lead there
+  pub refused_leads : reached 5 (fed_by 0 ∷ fed_late ∷ []) 3 4 ≡ Some (1 ∷ 0 ∷ [])

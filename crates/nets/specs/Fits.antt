@@ -18,12 +18,16 @@ module _ (n : ℕ) where
   pub below-shorter : (u s : Word) → Below n (u ++ s) → Below n u
   below-shorter u s below e m = below e (Memᴰ.append_left s m)
 
-  -- one event more
+  -- one event more, behind the word or in front of it
   pub below_snoc : (u : Word) (e : ℕ) → Below n (u ++ e ∷ []) ↔ (Below n u × (e < n))
   below_snoc u e = (
     (λ below. (below-shorter u (e ∷ []) below, below e (Memᴰ.append_right u (Memᴰ.head refl)))),
     λ h x m. ⊎_elim (h.0 x) (λ k. subst (λ (y : ℕ). y < n) (sym (Memᴰ.eq_of_singleton k)) h.1) (Memᴰ.append_cases u m),
   )
+
+  pub below_cons : (e : ℕ) (w : Word) → e < n → Below n w → Below n (e ∷ w)
+  below_cons e w low below x (Memᴰ.head q) = subst (λ (y : ℕ). y < n) (sym q) low
+  below_cons e w low below x (Memᴰ.tail m) = below x m
 
 abbrev pub LogBelow : ℕ → Log → Type 0
 LogBelow n log = (w : Word) → Memᴰ w log → Below n w

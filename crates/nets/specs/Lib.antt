@@ -27,3 +27,5 @@ pub mod Completed
 pub mod Wide
 pub mod Pruning
 pub mod Carrying
+pub mod WordOrder
+pub mod Reaching

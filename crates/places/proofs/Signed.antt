@@ -1,16 +1,17 @@
 -- Signed 64-bit arithmetic on differences of natural numbers, and the signs of bits.
 use mathlib.Core.Path.{◌≡◌, refl, sym, ap₂, ◌∙◌, subst}
+use Rattle.std.specs.Prelude.{◌↔◌}
 use mathlib.Core.Bool.{Bool, true, false}
 use Prim.Native.Nat.{ℕ, suc, ◌-◌, ◌^◌, ◌≤◌, ◌<◌}
 use native.Mathlib.Omega.{arith}
 use borrow.Author.Tests.{ltb-true}
-use lib.Bits.{bit_or, or_add_and, and_le_l, and_le_r}
+use lib.Bits.{bit_or, or_add_and, or_lt, and_le_l, and_le_r}
 use lib.Dec.{T, ltb}
 use lib.IntN.{ℤ, pos, negsuc, sub_ℕ, ◌-ℤ◌}
 use lib.Signed.{non_neg}
 use mir.Syntax.{w64}
 use mir.Val.{SFits, sel, to_z, of_z}
-use mir.Facts.{to_z_pos}
+use mir.Facts.{to_z_pos, to_z-of_z}
 use Rattle.laws.specs.Booleans.{yes_true}
 use Rattle.laws.specs.Differences.{difference, mag_difference}
 use Rattle.places.specs.Machine.{Held}
@@ -48,10 +49,21 @@ or_left a b = omega (arith, or_add_and a b, and_le_r a b)
 pub or_right : (a b : ℕ) → b ≤ bit_or a b
 or_right a b = omega (arith, or_add_and a b, and_le_l a b)
 
+-- the OR of two numbers is 0 or more exactly where both are
+pub or-sign : (a : ℕ) (z : ℤ) → SFits w64 z → T (non_neg (to_z w64 (bit_or a (of_z w64 z)))) ↔ (T (non_neg (to_z w64 a)) × T (non_neg z))
+or-sign a z f = (
+  (λ t. let clear = sign_clear (bit_or a (of_z w64 z)) (yes_true _ t) in
+      (clear_is a (omega (arith, clear, or_left a (of_z w64 z))), clear_sign z f (omega (arith, clear, or_right a (of_z w64 z))))),
+  λ (s, t). clear_is (bit_or a (of_z w64 z)) (or_lt 63 a (of_z w64 z) (sign_clear a (yes_true _ s)) (low z f t)),
+)
+  where
+    clear_is : (n : ℕ) → n < 2 ^ 63 → T (non_neg (to_z w64 n))
+    clear_is n h = rw (to_z_pos w64 h) tt
+
+    low : (z : ℤ) → SFits w64 z → T (non_neg z) → of_z w64 z < 2 ^ 63
+    low (pos n) f t = f.sfits
+    low (negsuc n) f t = absurd t
+
 -- where the OR of two numbers is 0 or more, both are
 pub or-both : {x y : ℤ} → SFits w64 x → SFits w64 y → T (non_neg (to_z w64 (bit_or (of_z w64 x) (of_z w64 y)))) → T (non_neg x) × T (non_neg y)
-or-both {x} {y} fx fy t =
-    let a = of_z w64 x in
-    let b = of_z w64 y in
-    let clear = sign_clear (bit_or a b) (yes_true (non_neg (to_z w64 (bit_or a b))) t) in
-    (clear_sign x fx (omega (arith, or_left a b)), clear_sign y fy (omega (arith, or_right a b)))
+or-both {x} {y} fx fy t = let (a, b) = (or-sign (of_z w64 x) y fy).0 t in (subst (λ (z : ℤ). T (non_neg z)) (to_z-of_z fx) a, b)

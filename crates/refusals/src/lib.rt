@@ -47,7 +47,7 @@ pub enum Cause {
     BytesFollow = 13,
     // A screened word is above 65,535 events, or a run would be.
     WordLength = 14,
-    // An event of a screened word, or of a run, is not below n.
+    // An event of a screened word or of a run, or the event that a word is to lead to, is not below n.
     WordEvent = 15,
     // A state that is handed back to a call is outside its ranges: a summary, or the tokens of places.
     StateRange = 16,

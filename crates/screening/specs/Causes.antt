@@ -1,7 +1,7 @@
 -- Exactly when screening refuses with each number, and at which spot, by what the bundle and the word hold.
 use Rattle.std.specs.Prelude.{◌≡◌, true, ◌↔◌, List, [], ◌∷◌, ℕ, leb, length, Err}
 use Rattle.std.proofs.Math.Path.{refl}
-use Rattle.std.proofs.Common.{ap, arith}
+use Rattle.std.proofs.Common.{arith}
 use Rattle.std.proofs.Math.Bool.{false, not}
 use Rattle.std.proofs.Math.Dec.{ltb}
 use Rattle.laws.specs.Booleans.{impossible, no_false}
@@ -19,7 +19,7 @@ use Rattle.nets.specs.Events.{first_bad}
 use Rattle.bundles.specs.Layout.{Head, to_net, HeadInFront}
 use Rattle.bundles.specs.Readers.{any_rows, head, read_head}
 use Rattle.bundles.specs.HeadReading.{head-refuses, head_4, head-field, read→front, front→read}
-use Rattle.screening.specs.Screening.{word_on, screening, replayed, screened_of, screened, Screened}
+use Rattle.screening.specs.Screening.{word_on, screening, replayed, screened_of, screened}
 
 -- the answer refuses where the chain does
 pub refuses-as : RefusesAs screened_of

@@ -33,4 +33,4 @@ pub returns : goal.returns
 returns c =
     let at = goal.at.returns c in
     let ends = call-ends c.args.tokens.now 0 _ (start_room c.args.bundle.now c.args.tokens.now _ (net at.In_ok-net) c.in_ok-test_room.ensures) in
-    record { value = ends.0; tokens_after = c.write_initial.ensures ∙ ends.1 }
+    record { value = ends.0; tokens_after = c.write_initial.ensures.written ∙ ends.1 }

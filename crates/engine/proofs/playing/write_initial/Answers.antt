@@ -1,5 +1,5 @@
 -- `engine::playing::write_initial` meets its contract.
-use Rattle.std.proofs.Common.{◌≡◌, sym, ap₂, ◌∙◌, arith, ℕ, List, ◌++◌, drop, length, get_or, take, ◌<◌, ext_get_or, length-take-le}
+use Rattle.std.proofs.Common.{rules, ◌≤◌, ◌≡◌, sym, ap₂, ◌∙◌, arith, ℕ, List, ◌++◌, drop, length, get_or, take, ◌<◌, ext_get_or, length-take-le}
 use Rattle.laws.specs.Lists.{each_set}
 use Rattle.laws.specs.Parts.{front}
 use Rattle.nets.specs.Carrying.{initials}
@@ -19,16 +19,17 @@ loop-j-preserved c =
     let at = goal.at.loop-j-preserved c in
     let net = c.args.net.now in
     let inside : c.loop-j.j < net.count = omega (arith, c.loop-j-test.true, count at.Start) in
-    each_set 0 (λ i x. x ≡ get_or (initials (places_of net)) i 0) c.loop-j.held-items c.loop-j.j c.from.result (omega arith) c.loop-j.invariant
-    (c.from.ensures ∙ c.initial.ensures ∙ sym (initial-there net c.loop-j.j inside))
+    let small : c.from.result ≤ 65535 = search rules in
+    each_set 0 (λ i x. (x ≡ get_or (initials (places_of net)) i 0) × (x ≤ 65535)) c.loop-j.held-items c.loop-j.j c.from.result (omega arith)
+    c.loop-j.invariant (c.from.ensures ∙ c.initial.ensures ∙ sym (initial-there net c.loop-j.j inside), small)
 
-pub returns : goal.returns
+pub returns-clause-written : goal.returns-clause-written
 unfolding front
-returns c =
-    let at = goal.at.returns c in
+returns-clause-written c =
+    let at = goal.at.returns-clause-written c in
     let net = c.args.net.now in
     let us = initials (places_of net) in
     let size : length c.loop-j.held-items ≡ net.count = c.loop-j.auto.held-items ∙ count at.Start in
     let all = initials-count net in
-    let written = ext_get_or 0 c.loop-j.held-items us (size ∙ sym all) (λ i h. c.loop-j.invariant i (omega (arith, h, size, count at.Start))) in
+    let written = ext_get_or 0 c.loop-j.held-items us (size ∙ sym all) (λ i h. (c.loop-j.invariant i (omega (arith, h, size, count at.Start))).0) in
     ap₂ (λ (l : List ℕ) (k : ℕ). l ++ drop k c.args.tokens.now) written (sym all)

@@ -1,0 +1,4 @@
+pub mod Searching
+pub mod NetWords
+pub mod SearchLaws
+pub mod Causes
