@@ -1,8 +1,9 @@
 -- THE CALLS FOR C AND RUST (crates/abi): what each returns and, number by number, what stands in `answer` afterwards. What they leave in outputs and
 -- tables is on the other pages: their contracts name the same definitions as those of the calls behind them.
--- 'Every call returns HOV_OK for a result, else the number of a refusal; screening has a second result, HOV_STOPPED. A refusal's spot is in
--- answer[0]; where a result is, each call says. Numbers of answer that a call does not use stay as they were.' (include/hovmekhar.h)
-use Rattle.std.specs.Prelude.{◌≡◌, ◌↔◌, List, ℕ, length, get_or, Err, None, Ok, Some}
+-- 'Every call returns HOV_OK for a result, else the number of a refusal; screening and hov_step have a second result, HOV_STOPPED, and hov_reach
+-- another one, HOV_NONE. A refusal's spot is in answer[0]; where a result is, each call says. Numbers of answer that a call does not use stay as
+-- they were.' (include/hovmekhar.h) These two are 256 and 257.
+use Rattle.std.specs.Prelude.{◌≡◌, ◌↔◌, List, Option, ℕ, length, get_or, Err, None, Ok, Some}
 use Rattle.refusals.specs.Answers.{Answer, answer, number_of}
 use Rattle.refusals.specs.declared.Refusal.{Refusal}
 use Rattle.refusals.specs.Answers.{Written}
@@ -23,7 +24,9 @@ use Rattle.engine.specs.declared.Outcome.{Outcome}
 use Rattle.engine.specs.declared.Outcome.TheVariants.{Moved, Stopped}
 use Rattle.demands.specs.Carrying.{start_answer, step_answer}
 use Rattle.demands.specs.Replacing.{replace_answer}
-use Rattle.numbers.specs.Numbers.{with_value, with_taken, with_verdict, with_screened, stepped_number, with_stepped, done_number, with_done}
+use Rattle.demands.specs.Reaching.{reach_size}
+use Rattle.numbers.specs.Numbers.{with_value, with_taken, with_verdict, with_screened, sized_number, with_size, stepped_number, with_stepped}
+use Rattle.numbers.specs.Numbers.{done_number, with_done}
 
 -- In each line `old` is what `answer` held before, `new` what it holds afterwards, and `result` what is returned.
 
@@ -65,6 +68,14 @@ pub record ScreenedOut (s : Screened) (result : ℕ) (old new : List ℕ) : Type
   pub stopped : (t : Stop) → s ≡ Ok (Some t) → Numbers new t.position t.place t.shortfall (get_or old 3 0)
   pub refused : (r : Refusal) → s ≡ Err r → RefusedOut r result old new
 
+-- the search for a word: 0 exactly for a word, and how many events it has; 257 exactly where there is none, and `answer` is as it was
+pub record SizedOut (a : Answer (Option ℕ)) (result : ℕ) (old new : List ℕ) : Type 0 where
+  pub ok : (result ≡ 0) ↔ ((l : ℕ) × (a ≡ Ok (Some l)))
+  pub nothing : (result ≡ 257) ↔ (a ≡ Ok None)
+  pub found : (l : ℕ) → a ≡ Ok (Some l) → Numbers new l (get_or old 1 0) (get_or old 2 0) (get_or old 3 0)
+  pub none : a ≡ Ok None → new ≡ old
+  pub refused : (r : Refusal) → a ≡ Err r → RefusedOut r result old new
+
 -- a step of the carried engine: 0 exactly for a permitted event, and the next number; 256 exactly for a stop: position, place and shortfall
 pub record SteppedOut (a : Answer Outcome) (result : ℕ) (old new : List ℕ) : Type 0 where
   pub ok : (result ≡ 0) ↔ ((next : ℕ) × (a ≡ Ok (Moved next)))
@@ -93,6 +104,9 @@ Judges v = (old : List ℕ) → length old ≡ 4 → VerdictOut v (verdict_numbe
 abbrev pub Screens : Screened → Type 0
 Screens s = (old : List ℕ) → length old ≡ 4 → ScreenedOut s (screened_number s) old (with_screened old s)
 
+abbrev pub Finds : Answer (Option ℕ) → Type 0
+Finds a = (old : List ℕ) → length old ≡ 4 → SizedOut a (sized_number a) old (with_size old a)
+
 abbrev pub Steps : Answer Outcome → Type 0
 Steps a = (old : List ℕ) → length old ≡ 4 → SteppedOut a (stepped_number a) old (with_stepped old a)
 
@@ -107,6 +121,7 @@ pub record Boundary : Type 0 where
   pub hov_judge : (b table : List ℕ) → Judges (verdict (length table) b)
   pub hov_screen : (b : List ℕ) (w : Word) → Screens (screened b w)
   pub hov_screen_joined : (first second : List ℕ) (w : Word) → Screens (screened_joined first second w)
+  pub hov_reach : (b : List ℕ) (wanted : ℕ) → Finds (reach_size b wanted)
   pub hov_prune : (b output table : List ℕ) → Writes (answer (pruning (length table) b) (length output))
   pub hov_to_new : (b output table : List ℕ) → Writes (answer (converting_to_new (length table) b) (length output))
   pub hov_to_old : (b output table : List ℕ) → Writes (answer (converting_to_old (length table) b) (length output))

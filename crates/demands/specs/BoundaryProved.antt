@@ -1,5 +1,5 @@
 -- The calls for C and Rust, proved: the lines of Boundary.antt from the definitions of crates/numbers and the numbers that a call refuses with.
-use Rattle.std.specs.Prelude.{◌≡◌, refl, true, false, List, [], ◌∷◌, ℕ, length, get_or, set, Err, None, Ok, Some}
+use Rattle.std.specs.Prelude.{◌≡◌, refl, true, false, List, [], ◌∷◌, Option, ℕ, length, get_or, set, Err, None, Ok, Some}
 use Rattle.std.proofs.Common.{sym, ap, subst, arith}
 use Rattle.laws.specs.Booleans.{impossible}
 use Rattle.laws.specs.Lists.{any, among, not-among}
@@ -31,9 +31,12 @@ use Rattle.engine.specs.RefusalNumbers.{start_numbers, start_numbers_lem, step_n
 use Rattle.engine.specs.declared.Outcome.{Outcome}
 use Rattle.engine.specs.declared.Outcome.TheVariants.{Moved, Stopped}
 use Rattle.demands.specs.Carrying.{start_answer, step_answer}
-use Rattle.numbers.specs.Numbers.{with_value, with_taken, with_verdict, with_stop, with_screened, stepped_number, with_stepped, done_number, with_done}
+use Rattle.numbers.specs.Numbers.{with_value, with_taken, with_verdict, with_stop, with_screened, sized_number, with_size}
+use Rattle.numbers.specs.Numbers.{stepped_number, with_stepped, done_number, with_done}
+use Rattle.search.specs.Causes.{reach_numbers, size_numbers_lem}
+use Rattle.demands.specs.Reaching.{reach_size}
 use Rattle.demands.specs.Replacing.{replace_answer}
-use Rattle.demands.specs.Boundary.{Numbers, RefusedOut, Writes, Takes, Judges, Screens, Steps, Does, Boundary}
+use Rattle.demands.specs.Boundary.{Numbers, RefusedOut, Writes, Takes, Judges, Screens, Finds, Steps, Does, Boundary}
 
 -- ---- Four numbers, of which some are set
 
@@ -146,6 +149,32 @@ screened_out (Err r) never nor old size = record {
   refused = λ s e. refused_out old size r s cc;
 }
 
+sized_out : (a : Answer (Option ℕ)) → ((r : Refusal) → a ≡ Err r → r.number ≡ 0 → ⊥)
+    → ((r : Refusal) → a ≡ Err r → r.number ≡ 257 → ⊥) → Finds a
+unfolding sized_number with_size
+sized_out (Ok (Some l)) never nor old size = record {
+  ok = ((λ z. (l, refl)), λ h. refl);
+  nothing = ((λ z. absurd (omega (arith, z))), λ e. impossible cc);
+  found = λ k e. let same : l ≡ k = cc in
+      subst (λ (x : ℕ). Numbers (set old 0 l) x (get_or old 1 0) (get_or old 2 0) (get_or old 3 0)) same (one_set old size l);
+  none = λ e. impossible cc;
+  refused = λ r e. impossible cc;
+}
+sized_out (Ok None) never nor old size = record {
+  ok = ((λ z. absurd (omega (arith, z))), λ (l, e). impossible cc);
+  nothing = ((λ z. refl), λ e. refl);
+  found = λ l e. impossible cc;
+  none = λ e. refl;
+  refused = λ r e. impossible cc;
+}
+sized_out (Err r) never nor old size = record {
+  ok = ((λ z. absurd (never r refl z)), λ (l, e). impossible cc);
+  nothing = ((λ z. absurd (nor r refl z)), λ e. impossible cc);
+  found = λ l e. impossible cc;
+  none = λ e. impossible cc;
+  refused = λ s e. refused_out old size r s cc;
+}
+
 stepped_out : (a : Answer Outcome) → ((r : Refusal) → a ≡ Err r → r.number ≡ 0 → ⊥)
     → ((r : Refusal) → a ≡ Err r → r.number ≡ 256 → ⊥) → Steps a
 unfolding stepped_number with_stepped
@@ -225,6 +254,9 @@ boundary = record {
   hov_judge = λ b table. judges ((judged-refuses (length table)).only b 0) refl;
   hov_screen = λ b w. screens (screening-refuses b w) refl refl;
   hov_screen_joined = λ first second w. screens (joining-refuses first second w) refl refl;
+  hov_reach = λ b wanted. sized_out (reach_size b wanted)
+      (λ r e is. not-among reach_numbers 0 r.number refl (size_numbers_lem b wanted r e) (sym is))
+      (λ r e is. not-among reach_numbers 257 r.number refl (size_numbers_lem b wanted r e) (sym is));
   hov_prune = λ b output table. writes (pruning-refuses (length table) b) refl refl (length output);
   hov_to_new = λ b output table. writes (to_new-refuses (length table) b) refl refl (length output);
   hov_to_old = λ b output table. writes (to_old-refuses (length table) b) refl refl (length output);

@@ -1,13 +1,13 @@
 -- The user's three demands, as types: the summary. Proved.antt proves each of them; docs/ASSURANCE.md says how to read them.
 -- A page for each group of calls says exactly when which refusal meets a call, and at which spot, in the words of the requirements: Opening.antt
 -- (open, seal), Tables.antt (fresh, take, and what stands in a table), Judging.antt and Screening.antt; Boundary.antt says what the calls for C and
--- Rust return and put in `answer`. Here they are gathered by name. A page for
--- each change request says what it promised beyond that: BlockOrder.antt (request 1), Shortfalls.antt (2), Sealing.antt (3), Alterations.antt (4),
--- Traffic.antt (5), Joining.antt (6), Pruning.antt (7; the refusals of prune stand there, too), Completed.antt (8), Converting.antt
--- (9: the refusals of to_new and to_old), Converted.antt (9: what they write), Carrying.antt (10: the refusals of start and step, what they leave),
--- Carried.antt (10: a run of the carried engine), Replacing.antt (11: the refusals of replacing, what it leaves) and Sales.antt (11: a sale with
--- replacements, and two files that meet the premise of demand 3). The demands are stated with the requests' changes in them; demands 2 and 3 as they
--- were before request 8, for bundles of the old edition, are at the end.
+-- Rust return and put in `answer`. Here they are gathered by name. A page for each change request says what it promised beyond that: BlockOrder.antt
+-- (request 1), Shortfalls.antt (2), Sealing.antt (3), Alterations.antt (4), Traffic.antt (5), Joining.antt (6), Pruning.antt (7; the refusals of
+-- prune stand there, too), Completed.antt (8), Converting.antt (9: the refusals of to_new and to_old), Converted.antt (9: what they write),
+-- Carrying.antt (10: the refusals of start and step, what they leave), Carried.antt (10: a run of the carried engine), Replacing.antt (11: the
+-- refusals of replacing, what it leaves), Sales.antt (11: a sale with replacements, and two files that meet the premise of demand 3) and
+-- Reaching.antt (12: the search for a word). The demands are stated with the requests' changes in them; demands 2 and 3 as they were before request
+-- 8, for bundles of the old edition, are at the end.
 -- A file, a bundle, an output, a table and a word are lists of numbers; `Bytes` says that each number is below 256.
 use Rattle.std.specs.Prelude.{◌≡◌, true, false, not, ◌↔◌, ℕ, ◌*◌, ◌≤◌, ◌<◌, T, length, take, drop, get_or, Err, None, Ok, Some}
 use mathlib.Core.List.{List, [], ◌∷◌, ◌++◌, Memᴰ}
@@ -45,10 +45,9 @@ use Rattle.bundles.specs.Readers.{head_of, events_in, log_in, net_in}
 use Rattle.verdicts.specs.Judging.{verdict, verdict_number, table_after}
 use Rattle.verdicts.specs.Acceptance.{AcceptedAs}
 use Rattle.verdicts.specs.declared.Tally.{Tally}
-use Rattle.screening.specs.Screening.{screened, screened_joined, screened_number}
+use Rattle.screening.specs.Screening.{screened, screened_joined, screened_number, Screened}
 use Rattle.screening.specs.Screens.{Readable, Screenable}
 use Rattle.screening.specs.Joins.{JoinReadable}
-use Rattle.screening.specs.Screening.{Screened}
 use Rattle.editions.specs.Converting.{converting_to_new, converting_to_old}
 use Rattle.pruning.specs.Pruning.{pruning}
 use Rattle.demands.specs.Opening.{OpenExactly, SealExactly}
@@ -59,6 +58,7 @@ use Rattle.demands.specs.Pruning.{PruneExactly}
 use Rattle.demands.specs.Converting.{ToNewExactly, ToOldExactly}
 use Rattle.demands.specs.Carrying.{CallsOfEngine}
 use Rattle.demands.specs.Replacing.{CallOfReplacing}
+use Rattle.demands.specs.Reaching.{Request12}
 use Rattle.demands.specs.Boundary.{Boundary}
 use Rattle.demands.specs.Completed.{entries_in}
 
@@ -81,10 +81,11 @@ pub record Demand1 : Type 0 where
   pub to_new-exactly : (table_length : ℕ) (b : List ℕ) (room : ℕ) → Bytes b → ToNewExactly table_length b room
   pub to_old-exactly : (table_length : ℕ) (b : List ℕ) (room : ℕ) → Bytes b → ToOldExactly table_length b room
   pub fields-exactly : (b : List ℕ) (at : ℕ) → FieldsExactly b at
-  -- start and step of the carried engine, and replacing: that too, their refusal numbers, and what each of their answers leaves of what is lent
+  -- start and step of the carried engine, replacing and the search for a word: that too, their refusal numbers, and what they leave of what is lent
   pub engine : CallsOfEngine
   pub replacing : CallOfReplacing
-  -- what the calls for C and Rust return, 0 for a result alone and 256 for a stop alone, and which number stands where in `answer`
+  pub search : Request12
+  -- what the calls for C and Rust return, 0 for a result alone, 256 for a stop alone and 257 alone where there is no word, and what `answer` holds
   pub boundary : Boundary
   -- the limits that no other line says by a numeral: 64 places, 64 terms, 64 pairs
   pub counts-most : (max_places ≡ 64) × (max_terms ≡ 64) × (max_pairs ≡ 64)
@@ -108,8 +109,7 @@ pub record Demand1 : Type 0 where
       → among (number_of (answer (converting_to_old table_length b) room)) (0 ∷ 4 ∷ 5 ∷ 6 ∷ 7 ∷ 8 ∷ 9 ∷ 10 ∷ 20 ∷ 11 ∷ 12 ∷ 13 ∷ 21 ∷ 3 ∷ []) ≡ true
   -- 'No refusal writes to an output': one line for all calls that are lent one. These are open, seal, prune, to_new and to_old: each answers
   -- `answer result (length output)` and leaves `written result output`, where the result is `opened file`, `sealed b`, `pruning (length table) b`,
-  -- `converting_to_new (length table) b` or `converting_to_old (length table) b`.
-  -- (`run` and `run_both` of crates/files lend theirs to open, and hand its answer on.)
+  -- `converting_to_new (length table) b` or `converting_to_old (length table) b`. `run` and `run_both` lend theirs to open, and hand its answer on.
   pub refused_output : (result : Result (List ℕ)) (output : List ℕ) (r : Refusal) → answer result (length output) ≡ Err r
       → written result output ≡ output
   -- a result stands in front of the output, and the rest is left

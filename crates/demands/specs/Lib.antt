@@ -16,6 +16,7 @@ pub mod Sealing
 pub mod Carrying
 pub mod Carried
 pub mod Replacing
+pub mod Reaching
 pub mod Boundary
 pub mod Demands
 pub mod Sales
@@ -43,6 +44,7 @@ pub mod Permitting
 pub mod CarriedProved
 pub mod CarriedWhole
 pub mod ReplacingProved
+pub mod ReachingProved
 pub mod BoundaryProved
 pub mod Proved
 pub mod SalesProved
@@ -57,6 +59,7 @@ pub mod ConvertingSamples
 pub mod CarryingSamples
 pub mod Met
 pub mod ReplacingSamples
+pub mod ReachingSamples
 pub mod CompletedBytes
 pub mod CompletedPairs
 pub mod CompletedProved

@@ -35,6 +35,7 @@ use Rattle.demands.specs.PruningProved.{prune-exactly}
 use Rattle.demands.specs.ConvertingProved.{to_new-exactly, to_old-exactly}
 use Rattle.demands.specs.CarryingProved.{calls-of-engine}
 use Rattle.demands.specs.ReplacingProved.{call-of-replacing}
+use Rattle.demands.specs.ReachingProved.{request_12}
 use Rattle.demands.specs.BoundaryProved.{boundary}
 use Rattle.demands.specs.Accepting.{acceptance-asks, counts_are, regions-exactly}
 use Rattle.demands.specs.Comparing.{accepted-head, net-complete, net-suboptimal, table-left, numbers-left, compared}
@@ -55,6 +56,7 @@ demand_1 = record {
   fields-exactly = fields-exactly;
   engine = calls-of-engine;
   replacing = call-of-replacing;
+  search = request_12;
   boundary = boundary;
   refusals_of_open = open_numbers_lem;
   refusals_of_seal = seal_numbers_lem;

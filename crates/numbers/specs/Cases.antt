@@ -2,7 +2,7 @@
 use Rattle.std.specs.Prelude.{◌≡◌, refl, List, [], ◌∷◌, ℕ, Err, None, Ok, Some}
 use Rattle.refusals.specs.Answers.{refusal, value_of}
 use Rattle.engine.specs.declared.Outcome.TheVariants.{Moved, Stopped}
-use Rattle.numbers.specs.Numbers.{with_value, with_taken, with_verdict, with_stop, with_screened, with_stepped, with_done}
+use Rattle.numbers.specs.Numbers.{with_value, with_taken, with_verdict, with_stop, with_screened, with_stepped, with_size, with_done}
 
 abbrev before : List ℕ
 before = 10 ∷ 11 ∷ 12 ∷ 13 ∷ []
@@ -16,6 +16,8 @@ pub record Computed : Type 0 where
   pub stop : with_screened before (Ok (Some (record { position = 3; place = 1; shortfall = 2 }))) ≡ 3 ∷ 1 ∷ 2 ∷ 13 ∷ []
   pub moved : with_stepped before (Ok (Moved 4)) ≡ 4 ∷ 11 ∷ 12 ∷ 13 ∷ []
   pub stopped : with_stepped before (Ok (Stopped (record { position = 3; place = 1; shortfall = 2 }))) ≡ 3 ∷ 1 ∷ 2 ∷ 13 ∷ []
+  pub found : with_size before (Ok (Some 4)) ≡ 4 ∷ 11 ∷ 12 ∷ 13 ∷ []
+  pub none : with_size before (Ok None) ≡ 10 ∷ 11 ∷ 12 ∷ 13 ∷ []
   pub done : with_done before (Ok tt) ≡ 10 ∷ 11 ∷ 12 ∷ 13 ∷ []
   -- a refusal's spot
   pub spots : (with_value before (Err (refusal 3 53)) ≡ 53 ∷ 11 ∷ 12 ∷ 13 ∷ [])
@@ -23,10 +25,11 @@ pub record Computed : Type 0 where
       × (with_verdict before (Err (refusal 12 2)) ≡ 2 ∷ 11 ∷ 12 ∷ 13 ∷ [])
       × (with_screened before (Err (refusal 15 1)) ≡ 1 ∷ 11 ∷ 12 ∷ 13 ∷ [])
       × (with_stepped before (Err (refusal 16 9)) ≡ 9 ∷ 11 ∷ 12 ∷ 13 ∷ [])
+      × (with_size before (Err (refusal 15 8)) ≡ 8 ∷ 11 ∷ 12 ∷ 13 ∷ [])
       × (with_done before (Err (refusal 23 6)) ≡ 6 ∷ 11 ∷ 12 ∷ 13 ∷ [])
 
 pub computed : Computed
-unfolding value_of with_value with_taken with_verdict with_stop with_screened with_stepped with_done
+unfolding value_of with_value with_taken with_verdict with_stop with_screened with_stepped with_size with_done
 computed = record {
   length = refl;
   summary = refl;
@@ -35,6 +38,8 @@ computed = record {
   stop = refl;
   moved = refl;
   stopped = refl;
+  found = refl;
+  none = refl;
   done = refl;
-  spots = (refl, refl, refl, refl, refl, refl);
+  spots = (refl, refl, refl, refl, refl, refl, refl);
 }

@@ -1,5 +1,5 @@
 -- What the numbers handed out hold afterwards.
-use Rattle.std.specs.Prelude.{◌≡◌, refl, List, ℕ, set, Err, None, Ok, Some}
+use Rattle.std.specs.Prelude.{◌≡◌, refl, List, Option, ℕ, set, Err, None, Ok, Some}
 use Rattle.refusals.specs.Answers.{Answer, Written, number_of, value_of}
 use Rattle.refusals.specs.declared.Refusal.{Refusal}
 use Rattle.logs.specs.Answers.{Taken, taken_number}
@@ -55,6 +55,21 @@ unfoldable pub with_done : List ℕ → Answer (Unit {0}) → List ℕ
 with_done numbers (Ok u) = numbers
 with_done numbers (Err r) = set numbers 0 r.spot
 
+-- the number of an answer that finds a word, or none: 257 where there is none
+abbrev pub none_number : ℕ
+none_number = 257
+
+unfoldable pub sized_number : Answer (Option ℕ) → ℕ
+sized_number (Ok (Some length)) = 0
+sized_number (Ok None) = none_number
+sized_number (Err r) = r.number
+
+-- how many events the word has, or a refusal's spot, in the first; where there is no word all stay
+unfoldable pub with_size : List ℕ → Answer (Option ℕ) → List ℕ
+with_size numbers (Ok (Some length)) = set numbers 0 length
+with_size numbers (Ok None) = numbers
+with_size numbers (Err r) = set numbers 0 r.spot
+
 -- ---- A refusal is handed out alike by each: its number, and its spot in the first
 
 -- of the number that an answer gets, and of what the numbers hold afterwards
@@ -81,6 +96,10 @@ screened_refused = record { numbered = λ r. refl; spotted = λ numbers r. refl 
 pub stepped_refused : RefusedAlike stepped_number with_stepped
 unfolding stepped_number with_stepped
 stepped_refused = record { numbered = λ r. refl; spotted = λ numbers r. refl }
+
+pub sized_refused : RefusedAlike sized_number with_size
+unfolding sized_number with_size
+sized_refused = record { numbered = λ r. refl; spotted = λ numbers r. refl }
 
 pub done_refused : RefusedAlike done_number with_done
 unfolding done_number with_done

@@ -1,6 +1,6 @@
-// Answers handed out as numbers: what is returned is 0, the number of a refusal, or 256 for a word or an event that is stopped; `answer` takes the
-// result's numbers, or in answer[0] the refusal's spot. C takes them so. Numbers are cast, since std has no `From` of `usize` for `u64`.
-// The contracts cite specs/Numbers.antt. All are inner functions.
+// Answers handed out as numbers: what is returned is 0, the number of a refusal, 256 for a word or an event that is stopped, or 257 where no word is
+// found; `answer` takes the result's numbers, or in answer[0] the refusal's spot. C takes them so. Numbers are cast, since std has no `From` of
+// `usize` for `u64`. The contracts cite specs/Numbers.antt. All are inner functions.
 #![tactic(auto)]
 
 ghost use Rattle.std.specs.Prelude.{◌≡◌, ℕ, List, Ok};
@@ -9,7 +9,7 @@ ghost use Rattle.logs.specs.Answers.{taken_number};
 ghost use Rattle.verdicts.specs.Judging.{verdict_number};
 ghost use Rattle.screening.specs.Screening.{screened_number, stopped_number};
 ghost use Rattle.numbers.specs.Numbers.{with_value, with_taken, with_verdict, with_stop, with_screened, stepped_number, with_stepped};
-ghost use Rattle.numbers.specs.Numbers.{done_number, with_done, RefusedAlike};
+ghost use Rattle.numbers.specs.Numbers.{sized_number, with_size, sized_refused, done_number, with_done, RefusedAlike};
 ghost use Rattle.numbers.specs.Numbers.{value_refused, taken_refused, verdict_refused, screened_refused, stepped_refused, done_refused};
 
 use engine::Outcome;
@@ -131,6 +131,24 @@ impl Numbers for Outcome {
             }
             Outcome::Stopped(stop) => write_stop(stop, answer),
         }
+    }
+}
+
+// How many events the word has that is found, if there is one.
+#[tactic(auto, unfolding(crate::specs::Numbers::sized_number, crate::specs::Numbers::with_size))]
+impl Numbers for Option<usize> {
+    ghost number = { sized_number };
+
+    ghost shown = { with_size };
+
+    ghost refused = { sized_refused };
+
+    fn write(self, answer: &mut [u64; 4]) -> u32 {
+        let Some(length) = self else {
+            return 257;
+        };
+        answer[0] = length as u64;
+        0
     }
 }
 
