@@ -1,7 +1,8 @@
 /*
  * Hovmekhar: opening and sealing of files, the log table, judging, the pruning of
- * nets, conversion between the editions, the screening of words, and the engine that
- * plays them event by event, with another net from some event on. C11 and C++.
+ * nets, conversion between the editions, the screening of words, the search for a word
+ * that leads to an event, and the engine that plays words event by event, with another
+ * net from some event on. C11 and C++.
  * The library, libhovmekhar.a, is compiled for x86-64 Linux.
  *
  * A sealed file is 1 to 128 blocks of 512 bytes. Numbers of two bytes have the
@@ -72,6 +73,11 @@
  * not the judge accepts it. Joined screening does so with the places of two bundles
  * that have the same n: those of the first, then those of the second, numbered on.
  *
+ * A word leads to an event when the net permits the word with the event behind it.
+ * hov_reach gives a shortest word of at most five events that leads to a wanted one, and
+ * of several the first by event numbers: of two words it is the one with the lower event
+ * where they first differ.
+ *
  * The carried engine plays a word event by event; the caller keeps the tokens of the
  * places, the events so far in a buffer, and their number. hov_start gives the initial
  * tokens, and hov_step tests an event on every place before it moves their tokens and
@@ -84,16 +90,16 @@
  * had been played on the new net from the start.
  *
  * Every call returns HOV_OK for a result, else the number of a refusal (see
- * enum hov_refusal); screening and hov_step have a second result, HOV_STOPPED. A
- * refusal's spot is in answer[0]; where a result is, each call says. Numbers of
- * answer that a call does not use stay as they were.
+ * enum hov_refusal); screening and hov_step have a second result, HOV_STOPPED, and
+ * hov_reach another one, HOV_NONE. A refusal's spot is in answer[0]; where a result is,
+ * each call says. Numbers of answer that a call does not use stay as they were.
  *
  * The caller's duties, for every call:
  *   - No pointer is NULL, not even one with length 0.
  *   - Each pointer is valid for its length: inputs for reads; outputs, the
- *     table, the tokens, the events that hov_step keeps and the four numbers
- *     of answer for reads and writes. The numbers of table, tokens and answer
- *     are aligned.
+ *     table, the tokens, the events that hov_step keeps, the five bytes of
+ *     hov_reach's word and the four numbers of answer for reads and writes. The
+ *     numbers of table, tokens and answer are aligned.
  *   - The buffers of one call do not overlap, except that the inputs of
  *     hov_screen, of hov_screen_joined and of hov_replace may.
  *   - Nothing else writes to these buffers during the call, and nothing else
@@ -113,9 +119,9 @@ extern "C" {
 #endif
 
 /** The version, as text and in its three numbers. */
-#define HOV_VERSION "0.13.0"
+#define HOV_VERSION "0.14.0"
 #define HOV_VERSION_MAJOR 0
-#define HOV_VERSION_MINOR 13
+#define HOV_VERSION_MINOR 14
 #define HOV_VERSION_PATCH 0
 
 /** Bytes of a block. */
@@ -167,6 +173,9 @@ extern "C" {
 /** The largest number of events in a word that is screened or played. */
 #define HOV_MAX_WORD_EVENTS 65535
 
+/** The largest number of events in a word that hov_reach looks for. */
+#define HOV_MAX_REACH_EVENTS 5
+
 /** The most tokens of a place after so many events: 65,536 * 65,535. */
 #define HOV_MAX_TOKENS 4294901760
 
@@ -180,11 +189,17 @@ extern "C" {
 #define HOV_STOPPED 256
 
 /**
+ * What hov_reach returns where no word of HOV_MAX_REACH_EVENTS events or fewer leads to
+ * the wanted one; it is no refusal.
+ */
+#define HOV_NONE 257
+
+/**
  * The numbers of the refusals.
  *
  * Each comment gives the cause, the spot that answer[0] then holds, and what
- * stays as it was. No refusal writes to an input, to an output, to tokens or to
- * kept events. hov_prune, hov_to_new and hov_to_old leave the table as judge does.
+ * stays as it was. No refusal writes to an input, to an output, to tokens, to kept
+ * events or to a word. hov_prune, hov_to_new and hov_to_old leave the table as judge does.
  *
  * This is the whole table, so that a number keeps its meaning when calls are
  * added.
@@ -217,8 +232,8 @@ enum hov_refusal {
 
     /**
      * seal, judge, prune, to_new, to_old, screen, screen_joined, start, step,
-     * replace: a bundle's length is 0 or above 64,512.
-     * Spot: 0. As it was: the output, the table, the tokens.
+     * replace, reach: a bundle's length is 0 or above 64,512.
+     * Spot: 0. As it was: the output, the table, the tokens, the word.
      * to_new: the result's length is above 64,512; the bundle is accepted.
      * Spot: 0. As it was: the output. The rows of the log are in the table.
      */
@@ -235,20 +250,20 @@ enum hov_refusal {
     HOV_NUMBERS_SHORT = 5,
 
     /**
-     * judge, prune, to_new, to_old, screen, screen_joined, start, step, replace: a
-     * bundle ends before or inside a field.
-     * Spot: the offset of the field. As it was: the bundle, the tokens; from prune,
-     * to_new and to_old the output. See HOV_VALUE for the table.
+     * judge, prune, to_new, to_old, screen, screen_joined, start, step, replace,
+     * reach: a bundle ends before or inside a field.
+     * Spot: the offset of the field. As it was: the bundle, the tokens, the word; from
+     * prune, to_new and to_old the output. See HOV_VALUE for the table.
      */
     HOV_BUNDLE_END = 6,
 
     /**
-     * take, judge, prune, to_new, to_old, screen, screen_joined, start, step, replace:
-     * a value is outside its range, or names a row, event, place or word that is not
-     * there.
+     * take, judge, prune, to_new, to_old, screen, screen_joined, start, step, replace,
+     * reach: a value is outside its range, or names a row, event, place or word that
+     * is not there.
      * Spot: the offset of the field; in a lent word, the position in the word.
      * As it was: from take, the table; from prune, to_new and to_old, the output; from
-     * start, step and replace, the tokens.
+     * start, step and replace, the tokens; from reach, the word.
      * The judge, refusing with any number but 4 and 5, leaves the table's numbers 0
      * to 3,583 zero and the rest as it was; so do prune, to_new and to_old where the
      * refusal is the judge's.
@@ -256,8 +271,8 @@ enum hov_refusal {
     HOV_VALUE = 7,
 
     /**
-     * take, judge, prune, to_new, to_old, screen, screen_joined, start, step, replace:
-     * the events would pass 1,024.
+     * take, judge, prune, to_new, to_old, screen, screen_joined, start, step, replace,
+     * reach: the events would pass 1,024.
      * Spot: the offset of the word's length byte; from take 0.
      * As it was: as for HOV_VALUE.
      */
@@ -312,6 +327,8 @@ enum hov_refusal {
      * Spot: the number of events before it. As it was: the tokens.
      * replace: a kept event is not below the event count of both nets.
      * Spot: its position. As it was: the tokens.
+     * reach: the wanted event is not below the event count.
+     * Spot: 0. As it was: the word.
      */
     HOV_WORD_EVENT = 15,
 
@@ -611,6 +628,27 @@ uint32_t hov_screen_joined(const uint8_t *first, size_t first_len,
                            uint64_t answer[4]);
 
 /**
+ * Looks for a word that leads to a wanted event: one that the net of a bundle permits with
+ * that event behind it. The word has at most HOV_MAX_REACH_EVENTS events, without the
+ * wanted one, and may have none. wanted may be any number. The bundle is read as
+ * hov_screen reads one, and need not be one that hov_judge accepts.
+ *
+ * Returns HOV_OK with a shortest such word in front of the five bytes of word, and how many
+ * events it has, 0 to 5, in answer[0]; the bytes behind it and answer[1] to answer[3] stay
+ * as they were. Of several that are equally short it is the first by event numbers. Returns
+ * HOV_NONE when there is no such word; word and answer stay as they were.
+ *
+ * Or returns the first refusal that applies, with its spot in answer[0]: HOV_BUNDLE_LENGTH;
+ * then HOV_BUNDLE_END, HOV_VALUE and HOV_EVENTS as in hov_screen, up to the last place; then
+ * HOV_WORD_EVENT, where wanted is not below n. All leave word and answer[1] to answer[3] as
+ * they were.
+ */
+uint32_t hov_reach(const uint8_t *bundle, size_t bundle_len,
+                   size_t wanted,
+                   uint8_t word[HOV_MAX_REACH_EVENTS],
+                   uint64_t answer[4]);
+
+/**
  * Starts a run on the net of a bundle, which need not be one that hov_judge accepts:
  * writes the initial tokens of its places, in their order, to the front of the tokens
  * and leaves the rest as it was. tokens_len counts numbers, not bytes. The bundle is
@@ -734,7 +772,7 @@ static inline const char *hov_refusal_text(uint32_t number)
     case HOV_WORD_LENGTH:
         return "the events of the word would pass 65,535";
     case HOV_WORD_EVENT:
-        return "an event of the word is not below n";
+        return "an event of the word, or the wanted one, is not below n";
     case HOV_STATE_RANGE:
         return "n is not 1 to 12, the rows are not 1 to 256, the events "
                "are above 1,024, or the tokens of a place above "

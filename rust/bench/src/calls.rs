@@ -1,6 +1,6 @@
-//! The calls that are timed, but for those of [`crate::rewriting`], [`crate::words`] and
-//! [`crate::carrying`]. A further one is a further entry in [`on_files`], [`on_logs`] or
-//! [`on_bundles`].
+//! The calls that are timed, but for those of [`crate::rewriting`], [`crate::words`],
+//! [`crate::reaching`] and [`crate::carrying`]. A further one is a further entry in
+//! [`on_files`], [`on_logs`] or [`on_bundles`].
 
 use differential::bundles::{SAMPLE_A, SAMPLE_NEW};
 use differential::limits::{Size, LARGEST, MIDDLE};

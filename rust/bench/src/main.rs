@@ -10,6 +10,7 @@ mod batch;
 mod calls;
 mod carrying;
 mod nets;
+mod reaching;
 mod rewriting;
 mod timing;
 mod words;
@@ -37,6 +38,7 @@ fn main() {
     print_all(&rewriting::on_bundles());
     print_all(&words::on_one_net());
     print_all(&words::on_two_nets());
+    print_all(&reaching::on_nets());
     print_all(&carrying::on_tokens());
     print_all(&carrying::on_kept_events());
     print_all(&carrying::on_words());

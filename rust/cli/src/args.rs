@@ -8,7 +8,7 @@ use crate::names::shown;
 use options::split;
 use std::ffi::OsString;
 use std::fmt;
-use values::{file_and_word, one_standard_input};
+use values::{event, file_and_word, one_standard_input};
 
 /// What the arguments ask for.
 #[derive(Debug, PartialEq, Eq)]
@@ -30,6 +30,13 @@ pub enum Request {
         with: Option<OsString>,
         /// The events of the word; 255 stands for every higher number.
         word: Vec<u8>,
+    },
+    /// A shortest word that leads to an event.
+    Reach {
+        /// The file of the net.
+        file: OsString,
+        /// The event; 255 stands for every higher number.
+        wanted: u8,
     },
     /// The tokens of a net, event by event, and of those that take its place.
     Replay {
@@ -106,6 +113,7 @@ impl fmt::Display for Usage {
 enum Command {
     Judge,
     Screen,
+    Reach,
     Replay,
     Seal,
     Unseal,
@@ -119,6 +127,7 @@ impl Command {
         match name {
             "judge" => Some(Self::Judge),
             "screen" => Some(Self::Screen),
+            "reach" => Some(Self::Reach),
             "replay" => Some(Self::Replay),
             "seal" => Some(Self::Seal),
             "unseal" => Some(Self::Unseal),
@@ -133,6 +142,7 @@ impl Command {
         match self {
             Self::Judge => "hov judge FILE...",
             Self::Screen => "hov screen FILE [--with FILE2] EVENT...",
+            Self::Reach => "hov reach FILE EVENT",
             Self::Replay => "hov replay FILE EVENT... [--then FILE2 EVENT...]...",
             Self::Seal => "hov seal IN OUT",
             Self::Unseal => "hov unseal IN OUT",
@@ -154,7 +164,7 @@ impl Command {
 ///
 /// When they ask for nothing that there is.
 pub fn parse(mut arguments: impl Iterator<Item = OsString>) -> Result<Request, Usage> {
-    let right = "hov judge|screen|replay|seal|unseal|prune|convert|show ARGUMENT...";
+    let right = "hov judge|screen|reach|replay|seal|unseal|prune|convert|show ARGUMENT...";
     let wrong = |problem| Usage { problem, right };
     let first = arguments.next();
     let first = first.ok_or_else(|| wrong("no command".into()))?;
@@ -183,6 +193,11 @@ fn parse_command(
     match command {
         Command::Judge => judge(operands),
         Command::Screen => screen(operands, split.with),
+        Command::Reach => {
+            let [file, wanted] = exactly(command, operands)?;
+            let wanted = event(command, &wanted)?;
+            Ok(Request::Reach { file, wanted })
+        }
         Command::Replay => replay(split.before, operands),
         Command::Seal => {
             exactly(command, operands).map(|[input, output]| Request::Seal { input, output })

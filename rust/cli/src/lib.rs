@@ -1,5 +1,5 @@
 //! The command-line tool `hov`: judges, screens, replays, seals, unseals, prunes, converts
-//! and shows sealed files, with the proved library.
+//! and shows sealed files, and finds words that lead to an event, with the proved library.
 //!
 //! All of it is here, so that tests can call it; the binary only hands over its
 //! arguments. Every verdict is the library's: nothing here decides by itself.
@@ -14,6 +14,7 @@ mod judge;
 mod names;
 mod output;
 mod pruning;
+mod reach;
 mod replay;
 mod screen;
 mod sealing;
@@ -54,6 +55,7 @@ fn answer(request: Request) -> Result<Status, Trouble> {
             None => screen::screen(&file, &word),
             Some(with) => screen::screen_joined(&file, &with, &word),
         },
+        Request::Reach { file, wanted } => reach::reach(&file, wanted),
         Request::Replay { parts } => replay::replay(&parts),
         Request::Seal { input, output } => sealing::seal(&input, &output),
         Request::Unseal { input, output } => sealing::unseal(&input, &output),

@@ -6,9 +6,9 @@ use std::process::ExitCode;
 /// wins where several files end differently.
 #[derive(Clone, Copy, Debug, PartialEq, Eq, PartialOrd, Ord)]
 pub enum Status {
-    /// All accepted, permitted or written.
+    /// All accepted, permitted, reached or written.
     Good = 0,
-    /// Some refused or stopped.
+    /// Some refused or stopped, or not reached.
     Refused = 1,
     /// The arguments are wrong.
     Usage = 2,

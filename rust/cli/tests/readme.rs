@@ -53,6 +53,7 @@ fn commands() {
     for used in [
         "hov judge ",
         "hov screen ",
+        "hov reach ",
         "hov replay ",
         "hov show ",
         "hov seal ",

@@ -143,7 +143,7 @@ fn generated_faults() {
 #[test]
 fn cases_with_answers() {
     let place = Place::new("screen_cases_with_answers");
-    let data = Path::new(env!("CARGO_MANIFEST_DIR")).join("../differential/tests/data/11.txt");
+    let data = Path::new(env!("CARGO_MANIFEST_DIR")).join("../differential/tests/data/12.txt");
     let cases = Cases::read(&fs::read_to_string(data).expect("the cases"));
     let mut screened = 0;
     for case in cases.of("screen") {
@@ -157,5 +157,5 @@ fn cases_with_answers() {
         assert_eq!(verdict, case.answer, "{done:?}");
         screened += 1;
     }
-    assert_eq!(screened, 74);
+    assert_eq!(screened, 72);
 }

@@ -7,8 +7,8 @@ use std::fs;
 use std::os::unix::ffi::OsStrExt;
 use support::{directory, hov, hov_in, Done};
 
-const COMMANDS: [&str; 8] = [
-    "judge", "screen", "replay", "seal", "unseal", "prune", "convert", "show",
+const COMMANDS: [&str; 9] = [
+    "judge", "screen", "reach", "replay", "seal", "unseal", "prune", "convert", "show",
 ];
 
 #[test]

@@ -13,6 +13,7 @@ fn wrong() -> Wrong {
     [
         wrong_commands(),
         wrong_files(),
+        wrong_reaches(),
         wrong_replays(),
         wrong_editions(),
         wrong_certificates(),
@@ -21,7 +22,7 @@ fn wrong() -> Wrong {
 }
 
 fn wrong_commands() -> Wrong {
-    let any = "hov judge|screen|replay|seal|unseal|prune|convert|show ARGUMENT...";
+    let any = "hov judge|screen|reach|replay|seal|unseal|prune|convert|show ARGUMENT...";
     vec![
         (vec![], any),
         (vec![""], any),
@@ -78,6 +79,24 @@ fn wrong_files() -> Wrong {
         all.push((vec![writes, "-", "-", "--to", "new"], usage));
     }
     all
+}
+
+fn wrong_reaches() -> Wrong {
+    let wrong = [
+        vec![],
+        vec!["-"],
+        vec!["-", "0", "1"],
+        vec!["-x", "0"],
+        vec!["-", "-1"],
+        vec!["-", "--", "-1"],
+        vec!["-", "x"],
+        vec!["-", ""],
+        vec!["-", "0", "--with", "a"],
+        vec!["-", "0", "--then", "a"],
+        vec!["-", "--", "0", "--help"],
+    ];
+    let whole = |arguments: Vec<_>| ([vec!["reach"], arguments].concat(), "hov reach FILE EVENT");
+    wrong.map(whole).to_vec()
 }
 
 fn wrong_replays() -> Wrong {

@@ -12,8 +12,9 @@
 //! - [`bundle_faults`], [`ordered_faults`], [`head_faults`]: bundles that have to be refused,
 //!   for one fault or for the first of several, by the judge or up to their last place.
 //! - [`fields`], [`places`]: reading a bundle, and its places, by the definitions.
-//! - [`judging`], [`pruning`], [`editions`], [`screening`], [`engine`]: judging, pruning,
-//!   conversion, screening and the carried engine, by the definitions.
+//! - [`judging`], [`pruning`], [`editions`], [`screening`], [`reaching`], [`engine`]: judging,
+//!   pruning, conversion, screening, the search for a word and the carried engine, by the
+//!   definitions.
 //! - [`rewriting`]: the calls that judge a bundle and write it anew.
 //! - [`comparing`], [`log_pairs`]: two accepted files compared, and pairs to compare.
 //! - [`long_words`]: long words, and places that have no token to spare on them.
@@ -56,6 +57,7 @@ pub mod ordered_faults;
 pub mod places;
 pub mod program;
 pub mod pruning;
+pub mod reaching;
 pub mod rewriting;
 pub mod rng;
 pub mod run;

@@ -94,9 +94,9 @@ pub fn take_step_by_step(
                 rows - 1
             }
         };
-        if next[used * ROW + TRAFFIC] < 65_535 {
-            next[used * ROW + TRAFFIC] += 1;
-        }
+        // 65,535 stays.
+        let traffic = &mut next[used * ROW + TRAFFIC];
+        *traffic = traffic.saturating_add(1);
         if end < word.len() {
             next[used * ROW + MAX_EVENTS] |= 1 << word[end];
         }

@@ -1,6 +1,7 @@
 //! Makes each call on both sides, compares, and counts.
 
 mod carried;
+mod reached;
 mod with_table;
 
 use crate::guarded::Guarded;
@@ -16,7 +17,8 @@ pub use carried::{Carried, Played};
 pub use with_table::WithTable;
 
 /// What a call answers: a result or a refusal. The result is a length, except
-/// for the calls on a log table, for judging, for screening and for steps.
+/// for the calls on a log table, for judging, for screening, for the search for a word and
+/// for steps.
 pub type Outcome<R = usize> = Result<R, Refusal>;
 
 /// The refusal with this number and spot.

@@ -223,6 +223,16 @@ pub fn screened_line(answer: Outcome<Screened>) -> String {
     }
 }
 
+/// The answer of the search for a word in words.
+pub fn reached_line(answer: Outcome<Option<Vec<u8>>>) -> String {
+    match answer.as_ref().map(Option::as_deref) {
+        Ok(Some([])) => "word -".to_string(),
+        Ok(Some(word)) => format!("word {}", digits(word)),
+        Ok(None) => "none".to_string(),
+        Err(refused) => refused_line(*refused),
+    }
+}
+
 /// The answer of starting in words.
 pub fn started_line(answer: Outcome) -> String {
     match answer {

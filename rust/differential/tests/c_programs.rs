@@ -259,8 +259,10 @@ fn header_and_crate_agree() {
         ("HOV_NEW_EDITION", hovmekhar::NEW_EDITION.into()),
         ("HOV_MAX_WORD_EVENTS", hovmekhar::MAX_WORD_EVENTS),
         ("HOV_MAX_TOKENS", hovmekhar::MAX_TOKENS as usize),
+        ("HOV_MAX_REACH_EVENTS", hovmekhar::MAX_REACH_EVENTS),
         ("HOV_OK", 0),
         ("HOV_STOPPED", hovmekhar::ffi::STOPPED as usize),
+        ("HOV_NONE", hovmekhar::ffi::NONE as usize),
     ] {
         assert!(has(&["#define", name, &size.to_string()]), "{name} {size}");
     }

@@ -6,7 +6,7 @@ use std::fs;
 use std::path::{Path, PathBuf};
 
 /// The public calls: the crate, the file in its `src`, and the function.
-const CALLS: [(&str, &str, &str); 30] = [
+const CALLS: [(&str, &str, &str); 32] = [
     ("block", "lib.rt", "open"),
     ("sealing", "lib.rt", "seal"),
     ("logs", "lib.rt", "fresh"),
@@ -17,6 +17,7 @@ const CALLS: [(&str, &str, &str); 30] = [
     ("editions", "lib.rt", "to_old"),
     ("screening", "lib.rt", "screen"),
     ("screening", "lib.rt", "screen_joined"),
+    ("search", "lib.rt", "reach"),
     ("engine", "lib.rt", "start"),
     ("engine", "lib.rt", "step"),
     ("engine", "lib.rt", "replace"),
@@ -34,6 +35,7 @@ const CALLS: [(&str, &str, &str); 30] = [
     ("abi", "hov_editions.rt", "hov_to_old"),
     ("abi", "hov_screening.rt", "hov_screen"),
     ("abi", "hov_screening.rt", "hov_screen_joined"),
+    ("abi", "hov_search.rt", "hov_reach"),
     ("abi", "hov_engine.rt", "hov_start"),
     ("abi", "hov_engine.rt", "hov_step"),
     ("abi", "hov_engine.rt", "hov_replace"),

@@ -160,7 +160,7 @@ fn generated_files() {
 /// The answers of another implementation.
 #[test]
 fn cases_with_answers() {
-    let cases = Cases::read(include_str!("data/11.txt"));
+    let cases = Cases::read(include_str!("data/12.txt"));
     assert_eq!(cases.of("judge").len(), 120);
     for case in cases.of("judge") {
         let [file] = case.arguments();

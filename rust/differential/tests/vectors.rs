@@ -6,32 +6,34 @@
 use differential::files::{BLOCK, MAX_BLOCKS, MAX_BUNDLE_SIZE};
 use differential::judging::judge;
 use differential::logs::{ROW, TABLE};
+use differential::reaching::reach;
 use differential::rewriting::{keeps_table, rewrite, Rewrite};
 use differential::run::{Outcome, Run};
 use differential::screening::{screen, screen_joined};
 use differential::vectors::{
-    line, rows_line, screened_line, table_line, written_line, Case, Cases,
+    line, reached_line, rows_line, screened_line, table_line, written_line, Case, Cases,
 };
 
-const FILE: &str = include_str!("data/11.txt");
+const FILE: &str = include_str!("data/12.txt");
 
 /// The calls of the file, with how many cases each has. Each has a test.
-const COUNTS: [(&str, usize); 16] = [
-    ("carry", 20),
+const COUNTS: [(&str, usize); 17] = [
+    ("carry", 14),
     ("judge", 120),
-    ("judge_lent", 231),
+    ("judge_lent", 249),
     ("log", 40),
-    ("prune", 24),
+    ("prune", 19),
     ("prune_lent", 20),
-    ("replace", 24),
-    ("replace_lent", 195),
+    ("reach", 124),
+    ("replace", 17),
+    ("replace_lent", 161),
     ("screen", 80),
-    ("screen_joined", 107),
-    ("start_lent", 41),
-    ("step_lent", 169),
-    ("to_new", 23),
-    ("to_new_lent", 33),
-    ("to_old", 27),
+    ("screen_joined", 109),
+    ("start_lent", 39),
+    ("step_lent", 126),
+    ("to_new", 21),
+    ("to_new_lent", 30),
+    ("to_old", 23),
     ("to_old_lent", 29),
 ];
 
@@ -62,13 +64,13 @@ fn judged() {
             .and_then(|length| judge(&mut run, &opened.output[..length]));
         assert_eq!(line(answer), case.answer, "{run}");
     }
-    let of_files = [(1, 2), (18, 3), (2, 1)];
-    let of_fields = [(6, 8), (7, 23), (13, 1)];
-    let of_nets = [(10, 21), (20, 9), (11, 1), (12, 18)];
+    let of_files = [(1, 2), (17, 2), (18, 2)];
+    let of_fields = [(6, 12), (7, 28)];
+    let of_nets = [(10, 23), (20, 7), (11, 4), (12, 12)];
     let refused = [of_files.as_slice(), &of_fields, &of_nets].concat();
-    all_of("judge", &[refused.as_slice(), &[(0, 33)]].concat());
+    all_of("judge", &[refused.as_slice(), &[(0, 28)]].concat());
     // Each file that is opened, and each bundle that is accepted.
-    run.finish(&[refused.as_slice(), &[(0, 114 + 33)]].concat());
+    run.finish(&[refused.as_slice(), &[(0, 114 + 28)]].concat());
 }
 
 /// Each file that opens is the one that sealing makes of its bundle, whatever the
@@ -100,9 +102,9 @@ fn judged_with_lent_table() {
         let answer = format!("{} {table}", line(judged.outcome));
         assert_eq!(answer, case.answer, "{run}");
     }
-    let by_length = [(0, 30), (4, 7), (5, 4)];
-    let of_fields = [(6, 18), (7, 54), (8, 6), (9, 3), (13, 3)];
-    let of_nets = [(10, 49), (20, 24), (11, 3), (12, 30)];
+    let by_length = [(0, 33), (4, 5), (5, 4)];
+    let of_fields = [(6, 18), (7, 54), (8, 6), (9, 2), (13, 3)];
+    let of_nets = [(10, 58), (20, 26), (11, 5), (12, 35)];
     let numbers = [by_length.as_slice(), &of_fields, &of_nets].concat();
     all_of("judge_lent", &numbers);
     run.finish(&numbers);
@@ -153,19 +155,20 @@ fn rewritten_with_lent_memory(run: &mut Run, call: Rewrite, name: &str) {
 fn pruned() {
     let mut run = Run::start("vectors::pruned");
     rewritten(&mut run, Rewrite::Prune, "prune");
-    all_of("prune", &[(0, 18), (10, 1), (12, 3), (13, 2)]);
-    let written = [(0, 18 * 8), (3, 18 * 4), (5, 24 * 12)];
-    let refused = [(10, 12), (12, 36), (13, 24)];
+    let refused = [(7, 1), (10, 1), (11, 2), (13, 2)];
+    all_of("prune", &[&[(0, 13)], refused.as_slice()].concat());
+    let written = [(0, 13 * 8), (3, 13 * 4), (5, 19 * 12)];
+    let refused = refused.map(|(number, cases)| (number, cases * 12));
     let numbers = [written.as_slice(), &refused].concat();
-    run.finish_with_classes(&numbers, &[("another length", 15)]);
+    run.finish_with_classes(&numbers, &[("another length", 8)]);
 }
 
 #[test]
 fn pruned_with_lent_memory() {
     let mut run = Run::start("vectors::pruned_with_lent_memory");
     rewritten_with_lent_memory(&mut run, Rewrite::Prune, "prune_lent");
-    let written = [(0, 5), (3, 5)];
-    let refused = [(6, 4), (10, 1), (12, 3), (13, 2)];
+    let written = [(0, 2), (3, 9), (5, 2)];
+    let refused = [(6, 1), (7, 1), (10, 1), (11, 2), (13, 2)];
     let numbers = [written.as_slice(), &refused].concat();
     all_of("prune_lent", &numbers);
     run.finish(&numbers);
@@ -175,9 +178,9 @@ fn pruned_with_lent_memory() {
 fn converted_to_new() {
     let mut run = Run::start("vectors::converted_to_new");
     rewritten(&mut run, Rewrite::ToNew, "to_new");
-    let refused = [(11, 1), (12, 2), (13, 2), (20, 1)];
-    all_of("to_new", &[&[(0, 17)], refused.as_slice()].concat());
-    let written = [(0, 17 * 8), (3, 17 * 4), (5, 23 * 12)];
+    let refused = [(7, 1), (10, 1), (11, 1), (13, 2), (20, 1)];
+    all_of("to_new", &[&[(0, 15)], refused.as_slice()].concat());
+    let written = [(0, 15 * 8), (3, 15 * 4), (5, 21 * 12)];
     let refused = refused.map(|(number, cases)| (number, cases * 12));
     let numbers = [written.as_slice(), &refused].concat();
     run.finish_with_classes(&numbers, &[("another length", 7)]);
@@ -187,9 +190,9 @@ fn converted_to_new() {
 fn converted_to_new_with_lent_memory() {
     let mut run = Run::start("vectors::converted_to_new_with_lent_memory");
     rewritten_with_lent_memory(&mut run, Rewrite::ToNew, "to_new_lent");
-    let written = [(0, 9), (3, 13), (4, 3)];
-    let of_fields = [(7, 1), (8, 1), (13, 2)];
-    let of_nets = [(20, 1), (11, 1), (12, 2)];
+    let written = [(0, 6), (3, 12), (4, 1), (5, 2)];
+    let of_fields = [(6, 1), (7, 1), (13, 2)];
+    let of_nets = [(10, 1), (20, 1), (11, 1), (12, 2)];
     let numbers = [written.as_slice(), &of_fields, &of_nets].concat();
     all_of("to_new_lent", &numbers);
     run.finish(&numbers);
@@ -199,21 +202,21 @@ fn converted_to_new_with_lent_memory() {
 fn converted_to_old() {
     let mut run = Run::start("vectors::converted_to_old");
     rewritten(&mut run, Rewrite::ToOld, "to_old");
-    let refused = [(10, 1), (11, 1), (12, 2), (13, 2), (21, 8)];
-    all_of("to_old", &[&[(0, 13)], refused.as_slice()].concat());
-    let written = [(0, 13 * 8), (3, 13 * 4), (5, 27 * 12)];
+    let refused = [(7, 1), (10, 1), (11, 1), (12, 1), (13, 2), (21, 6)];
+    all_of("to_old", &[&[(0, 11)], refused.as_slice()].concat());
+    let written = [(0, 11 * 8), (3, 11 * 4), (5, 23 * 12)];
     let refused = refused.map(|(number, cases)| (number, cases * 12));
     let numbers = [written.as_slice(), &refused].concat();
-    run.finish_with_classes(&numbers, &[("another length", 4)]);
+    run.finish_with_classes(&numbers, &[("another length", 7)]);
 }
 
 #[test]
 fn converted_to_old_with_lent_memory() {
     let mut run = Run::start("vectors::converted_to_old_with_lent_memory");
     rewritten_with_lent_memory(&mut run, Rewrite::ToOld, "to_old_lent");
-    let written = [(0, 7), (21, 8), (3, 5), (5, 1)];
-    let of_fields = [(8, 1), (13, 2)];
-    let of_nets = [(10, 1), (11, 1), (12, 3)];
+    let written = [(0, 5), (21, 4), (3, 8), (4, 1), (5, 1)];
+    let of_fields = [(6, 1), (7, 2), (8, 1), (13, 2)];
+    let of_nets = [(10, 1), (20, 1), (11, 1), (12, 1)];
     let numbers = [written.as_slice(), &of_fields, &of_nets].concat();
     all_of("to_old_lent", &numbers);
     run.finish(&numbers);
@@ -227,9 +230,9 @@ fn screened() {
         let answer = screen(&mut run, &bundle.bytes(), &word.bytes());
         assert_eq!(screened_line(answer), case.answer, "{run}");
     }
-    let numbers = [(0, 39), (14, 9), (4, 3), (6, 8), (7, 4), (8, 2), (15, 15)];
+    let numbers = [(0, 37), (14, 12), (4, 4), (6, 5), (7, 4), (8, 3), (15, 15)];
     all_of("screen", &numbers);
-    run.finish_with_classes(&numbers, &[("permitted", 30), ("stopped", 9)]);
+    run.finish_with_classes(&numbers, &[("permitted", 28), ("stopped", 9)]);
 }
 
 #[test]
@@ -240,11 +243,27 @@ fn screened_on_two_nets() {
         let answer = screen_joined(&mut run, &first.bytes(), &second.bytes(), &word.bytes());
         assert_eq!(screened_line(answer), case.answer, "{run}");
     }
-    let answered = [(0, 17), (19, 16), (15, 5)];
-    let refused = [(14, 11), (4, 11), (6, 18), (7, 21), (8, 8)];
+    let answered = [(0, 17), (19, 15), (15, 7)];
+    let refused = [(14, 11), (4, 8), (6, 20), (7, 23), (8, 8)];
     let numbers = [answered.as_slice(), &refused].concat();
     all_of("screen_joined", &numbers);
-    run.finish_with_classes(&numbers, &[("permitted", 6), ("stopped", 11)]);
+    run.finish_with_classes(&numbers, &[("permitted", 8), ("stopped", 9)]);
+}
+
+#[test]
+fn reached() {
+    let mut run = Run::start("vectors::reached");
+    for case in cases("reach") {
+        let [bundle, wanted] = case.arguments();
+        let answer = reach(&mut run, &bundle.bytes(), wanted.number());
+        assert_eq!(reached_line(answer), case.answer, "{run}");
+    }
+    let numbers = [(0, 90), (4, 5), (6, 8), (7, 8), (8, 3), (15, 10)];
+    all_of("reach", &numbers);
+    let few = [("no event", 13), ("1 event", 13), ("2 events", 14)];
+    let many = [("3 events", 15), ("4 events", 11), ("5 events", 10)];
+    let classes = [few.as_slice(), &many, &[("none", 14)]].concat();
+    run.finish_with_classes(&numbers, &classes);
 }
 
 /// The words of a log leave these rows in a table that held anything.

@@ -8,7 +8,7 @@ use differential::vectors::{
 };
 use reference::Step;
 
-const FILE: &str = include_str!("data/11.txt");
+const FILE: &str = include_str!("data/12.txt");
 
 /// How many tokens are lent for a word: more than there can be places.
 const NUMBERS: usize = 66;
@@ -44,7 +44,7 @@ fn carried() {
         let answer = last_answer(&mut run, &bundle.bytes(), &word.bytes());
         assert_eq!(answer, case.answer, "{run}");
     }
-    run.finish_with_classes(&[(0, 60), (6, 1), (7, 2), (15, 2)], &[("stopped", 6)]);
+    run.finish_with_classes(&[(0, 50), (4, 1), (7, 1), (15, 2)], &[("stopped", 5)]);
 }
 
 #[test]
@@ -57,7 +57,7 @@ fn started() {
         let answer = format!("{line} {}", tokens_line(&started.tokens, ","));
         assert_eq!(answer, case.answer, "{run}");
     }
-    run.finish(&[(0, 11), (4, 4), (5, 9), (6, 8), (7, 6), (8, 3)]);
+    run.finish(&[(0, 10), (4, 5), (5, 7), (6, 9), (7, 5), (8, 3)]);
 }
 
 #[test]
@@ -73,10 +73,10 @@ fn stepped() {
         let answer = format!("{line} {tokens} {}", kept_line(&played.kept));
         assert_eq!(answer, case.answer, "{run}");
     }
-    let of_bundles = [(4, 8), (6, 13), (7, 11), (8, 7)];
-    let of_steps = [(0, 36), (14, 25), (5, 13), (16, 21), (15, 15), (3, 20)];
+    let of_bundles = [(4, 4), (6, 11), (7, 7), (8, 6)];
+    let of_steps = [(0, 22), (14, 22), (5, 9), (16, 17), (15, 12), (3, 16)];
     let numbers = [of_bundles.as_slice(), &of_steps].concat();
-    run.finish_with_classes(&numbers, &[("permitted", 24), ("stopped", 12)]);
+    run.finish_with_classes(&numbers, &[("permitted", 13), ("stopped", 9)]);
 }
 
 /// The kept events are all of the buffer.
@@ -91,7 +91,7 @@ fn replaced() {
         let answer = format!("{line} {}", tokens_line(&replaced.tokens, " "));
         assert_eq!(answer, case.answer, "{run}");
     }
-    run.finish(&[(0, 19), (23, 5)]);
+    run.finish(&[(0, 16), (23, 1)]);
 }
 
 #[test]
@@ -106,8 +106,8 @@ fn replaced_with_lent_memory() {
         let answer = format!("{line} {}", tokens_line(&replaced.tokens, ","));
         assert_eq!(answer, case.answer, "{run}");
     }
-    let of_bundles = [(4, 15), (6, 38), (7, 25), (8, 9)];
-    let of_lengths = [(14, 23), (3, 25), (5, 13)];
-    let of_nets = [(0, 19), (22, 11), (15, 8), (23, 9)];
+    let of_bundles = [(4, 13), (6, 25), (7, 25), (8, 6)];
+    let of_lengths = [(14, 18), (3, 21), (5, 10)];
+    let of_nets = [(0, 18), (22, 11), (15, 6), (23, 8)];
     run.finish(&[of_bundles.as_slice(), &of_lengths, &of_nets].concat());
 }

@@ -14,6 +14,13 @@ pub type Answer = [u64; 4];
 /// `hov_step` for an event that is; no refusal has this number.
 pub const STOPPED: u32 = 256;
 
+/// What `hov_reach` returns where no word leads to the wanted event; no refusal has this
+/// number.
+pub const NONE: u32 = 257;
+
+/// The bytes that are lent to `hov_reach` for the word.
+pub type Word = [u8; crate::MAX_REACH_EVENTS];
+
 unsafe extern "C" {
     fn hov_open(
         file: *const u8,
@@ -97,6 +104,14 @@ unsafe extern "C" {
         second_len: usize,
         word: *const u8,
         word_len: usize,
+        answer: *mut u64,
+    ) -> u32;
+
+    fn hov_reach(
+        bundle: *const u8,
+        bundle_len: usize,
+        wanted: usize,
+        word: *mut u8,
         answer: *mut u64,
     ) -> u32;
 }
@@ -256,6 +271,21 @@ pub fn screen_joined(first: &[u8], second: &[u8], word: &[u8], answer: &mut Answ
             second.len(),
             word.as_ptr(),
             word.len(),
+            answer.as_mut_ptr(),
+        )
+    }
+}
+
+/// Calls `hov_reach`.
+pub fn reach(bundle: &[u8], wanted: usize, word: &mut Word, answer: &mut Answer) -> u32 {
+    // SAFETY: As for `hov_open`, with the word in place of the output: `Word` has the five
+    // bytes that the library may write to. It checks `wanted`.
+    unsafe {
+        hov_reach(
+            bundle.as_ptr(),
+            bundle.len(),
+            wanted,
+            word.as_mut_ptr(),
             answer.as_mut_ptr(),
         )
     }

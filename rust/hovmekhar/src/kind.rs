@@ -135,7 +135,7 @@ impl Kind {
             }
             Kind::BytesFollow => "bytes follow the last certificate",
             Kind::WordLength => "the events of the word would pass 65,535",
-            Kind::WordEvent => "an event of the word is not below n",
+            Kind::WordEvent => "an event of the word, or the wanted one, is not below n",
             Kind::StateRange => {
                 "n is not 1 to 12, the rows are not 1 to 256, the events are above 1,024, \
                  or the tokens of a place above 4,294,901,760"
@@ -173,7 +173,7 @@ impl Kind {
             Kind::Weights => "the modeller must mend the weights",
             Kind::BytesFollow => "the modeller must end the bundle there",
             Kind::WordLength => "screen a shorter word, or start anew",
-            Kind::WordEvent => "the word is not of this net's events",
+            Kind::WordEvent => "the net has no such event",
             Kind::StateRange => {
                 "only from a program that keeps a log or tokens: hand on what the call before left"
             }

@@ -1,5 +1,6 @@
 //! Opens and seals files, keeps log tables, judges, prunes and converts bundles, screens
-//! words and plays them event by event, with the proved static library.
+//! words, looks for one that leads to an event, and plays words event by event, with the
+//! proved static library.
 //!
 //! A *sealed file* is 1 to 128 blocks of 512 bytes, each with its number, its
 //! used count, 504 bytes of contents and two checksums. The used contents of
@@ -18,9 +19,10 @@
 //! its bundle and hands both back. [`prune`] writes an accepted bundle without the places
 //! that no certificate names, [`to_new`] and [`to_old`] write one in the other edition.
 //! [`screen`] replays a word on the net of a bundle, and says where it is stopped and how
-//! many tokens were missing; [`screen_joined`] does so with the places of two bundles. A
-//! [`Sale`] gives the same answers event by event, and keeps the tokens of the places and
-//! the events; between two of them another net can take the place of its own. [`start`],
+//! many tokens were missing; [`screen_joined`] does so with the places of two bundles.
+//! [`reach`] gives a shortest word after which the net permits a wanted event. A [`Sale`]
+//! gives the answers of screening event by event, and keeps the tokens of the places and the
+//! events; between two of them another net can take the place of its own. [`start`],
 //! [`step`] and [`replace`] do so with tokens and events that are lent.
 //!
 //! A call that cannot give a result returns a [`Refusal`] and writes nothing; only
@@ -62,6 +64,7 @@ mod judging;
 mod kind;
 mod logs;
 mod pruning;
+mod reaching;
 mod refusal;
 mod sale;
 mod screening;
@@ -75,6 +78,7 @@ pub use judging::{MAX_PAIRS, MAX_PLACES, MAX_TERMS, NEW_EDITION};
 pub use kind::Kind;
 pub use logs::{Summary, MAX_EVENTS, MAX_LOG_EVENTS, MAX_ROWS, ROW_SIZE, TABLE_SIZE};
 pub use pruning::{prune, prune_vec};
+pub use reaching::{reach, Reached, MAX_REACH_EVENTS};
 pub use refusal::Refusal;
 pub use sale::Sale;
 pub use screening::{screen, screen_joined, Screened, MAX_WORD_EVENTS};

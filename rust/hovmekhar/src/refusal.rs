@@ -64,7 +64,7 @@ impl Refusal {
     pub const WORD_LENGTH: u8 = Kind::WordLength.number();
     /// An event of the screened word, or one that is kept where a net is replaced, is not
     /// below the event count. Spot: its position. Or the event of a step is not. Spot: the
-    /// events so far.
+    /// events so far. Or the wanted event is not. Spot: 0.
     pub const WORD_EVENT: u8 = Kind::WordEvent.number();
     /// A summary's event count is not 1 to 12, its rows are not 1 to 256, or its
     /// events are above 1,024. Spot: 0. Or the tokens of a place are above
@@ -175,7 +175,8 @@ impl fmt::Display for Sentence {
             ),
             Refusal::WORD_EVENT => write!(
                 f,
-                "the event at position {spot} of the word is not below the event count"
+                "the event at position {spot} of the word, or the wanted one, \
+                 is not below the event count"
             ),
             Refusal::STATE_RANGE => write!(f, "{} (spot {spot})", Kind::StateRange),
             Refusal::PLACE_DISOBEYS => write!(

@@ -174,15 +174,15 @@ fn marking(place: &Place<i64>, counts: &[i64; MAX_EVENTS]) -> u64 {
 }
 
 /// The places of a bundle, as they stand in it.
-struct Net<'b> {
-    n: usize,
-    count: usize,
+pub struct Net<'b> {
+    pub n: usize,
+    pub count: usize,
     bytes: &'b [u8],
 }
 
 impl<'b> Net<'b> {
     /// Reads a bundle up to its last place.
-    fn read(bundle: &'b [u8]) -> Result<Self, Refusal> {
+    pub fn read(bundle: &'b [u8]) -> Result<Self, Refusal> {
         if bundle.is_empty() || bundle.len() > MAX_BUNDLE_SIZE {
             return Err(Refusal { number: 4, spot: 0 });
         }
@@ -197,7 +197,7 @@ impl<'b> Net<'b> {
     }
 
     /// The bytes of each place.
-    fn places(&self) -> impl Iterator<Item = &'b [u8]> {
+    pub fn places(&self) -> impl Iterator<Item = &'b [u8]> {
         self.bytes.chunks_exact(2 * (1 + 2 * self.n))
     }
 
@@ -220,7 +220,7 @@ impl<'b> Net<'b> {
 
 /// A number of a place: 0 is the initial tokens, then those that each event puts into it come,
 /// then those that each takes out.
-fn number(place: &[u8], index: usize) -> u64 {
+pub fn number(place: &[u8], index: usize) -> u64 {
     let bytes = [place[2 * index], place[2 * index + 1]];
     u16::from_le_bytes(bytes).into()
 }

@@ -30,15 +30,17 @@ pub fn file_and_word(command: Command, operands: Vec<OsString>) -> Result<Part, 
     let mut operands = operands.into_iter();
     let file = operands.next();
     let file = file.ok_or_else(|| command.wrong("no file".into()))?;
-    let event = |argument: OsString| {
-        let wrong = || {
-            let problem = format!("no event of 1 to 20 digits: '{}'", shown(&argument));
-            command.wrong(problem)
-        };
-        event(&argument).ok_or_else(wrong)
-    };
-    let word = operands.map(event).collect::<Result<Vec<u8>, Usage>>()?;
+    let events = operands.map(|argument| event(command, &argument));
+    let word = events.collect::<Result<Vec<u8>, Usage>>()?;
     Ok(Part { file, word })
+}
+
+/// An event.
+pub fn event(command: Command, argument: &OsStr) -> Result<u8, Usage> {
+    event_number(argument).ok_or_else(|| {
+        let problem = format!("no event of 1 to 20 digits: '{}'", shown(argument));
+        command.wrong(problem)
+    })
 }
 
 /// The file that is due behind an option.
@@ -65,7 +67,7 @@ pub fn one_standard_input<'f>(
 
 /// The number of an event. Above 255 it is cut, which changes no answer, since no
 /// bundle has more than twelve events.
-fn event(argument: &OsStr) -> Option<u8> {
+fn event_number(argument: &OsStr) -> Option<u8> {
     let digits = digits(argument).filter(|digits| digits.len() <= 20)?;
     let number: u128 = digits.parse().ok()?;
     Some(u8::try_from(number).unwrap_or(u8::MAX))
