@@ -1,5 +1,5 @@
 -- A log whose rows are taken into a table while its words are read.
-use Rattle.std.specs.Prelude.{◌≡◌, true, cond, Option, ℕ, zero, suc, ◌+◌, ◌-◌, ◌*◌, ◌≤◌, ◌<◌, get_or, set, take, drop, Some, None, Ok, Err}
+use Rattle.std.specs.Prelude.{◌≡◌, true, cond, Option, ℕ, zero, suc, ◌+◌, ◌-◌, ◌*◌, ◌≤◌, ◌<◌, get_or, set, take, drop, Ok, Err}
 use Rattle.std.proofs.Math.Path.{refl, sym, ap}
 use Rattle.std.proofs.Common.{◌∙◌, subst, ⊎_elim, not-suc-le-zero, le_of_suc-le-suc, lt_of_lt_of_le, arith, le-leb, ltb-true, length-append}
 use mathlib.Core.List.Memᴰ
@@ -155,16 +155,16 @@ module _ (f : First) (entries : List Entry) {t₀ t : List ℕ} {row_count event
         ∙ ap (λ (l : Log). cond (rows_in_limit f.events l) (got x next) (refused rows_number at)) (words_snoc entries x)
 
     -- there are too many rows for the table
-    pub no_room : (t' : List ℕ) → Added max_rows row_count x.word t t' None
+    pub no_room : (k : ℕ) (t' : List ℕ) → Added max_rows row_count x.word t t' (Err k)
         → (entry (rows_in_limit f.events) f entries b at ≡ refused rows_number at) × LogHeld f.events (words entries) t₀ t' row_count events
-    no_room t' added =
-        let none = added_none max_rows row_count t x.word t' added in (
-          tested ∙ rw (lt-leb (length (rows f.events ((words entries) ++ x.word ∷ []))) max_rows (omega (arith, rows-size, none.0))),
-          subst (λ (l : List ℕ). LogHeld f.events (words entries) t₀ l row_count events) (sym none.1) h,
+    no_room k t' added =
+        let none = added_none max_rows row_count t x.word k t' added in (
+          tested ∙ rw (lt-leb (length (rows f.events ((words entries) ++ x.word ∷ []))) max_rows (omega (arith, rows-size, none.0, none.1))),
+          subst (λ (l : List ℕ). LogHeld f.events (words entries) t₀ l row_count events) (sym none.2) h,
         )
 
     -- or the table has them, and the word's own is noted where it is completed
-    pub word-taken : (k : ℕ) (t' : List ℕ) → Added max_rows row_count x.word t t' (Some k)
+    pub word-taken : (k : ℕ) (t' : List ℕ) → Added max_rows row_count x.word t t' (Ok k)
         → length t' ≡ length t → {row : ℕ} → row ≡ whole_row (rows_of row_count t) x.word
         → (entry (rows_in_limit f.events) f entries b at ≡ got x next)
         × LogHeld f.events (words (entries ++ x ∷ [])) t₀ t' k (events + length x.word)

@@ -66,7 +66,7 @@ impl LogSoFar {
         let entry = reader.entry(first, self.events)?;
         let word = entry.word;
         let taken = add_word(table, self.rows, word, Some(&self.index), &mut self.numbers);
-        let rows = taken.ok_or(Cause::Rows.at(at))?;
+        let rows = taken.map_err(|_| Cause::Rows.at(at))?;
         self.index.extend(table, self.rows, rows);
         self.rows = rows;
         self.events += word.len();

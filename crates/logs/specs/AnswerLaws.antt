@@ -1,5 +1,5 @@
 -- How taking a word ends: one law for each way, by the tests in their order.
-use Rattle.std.specs.Prelude.{◌≡◌, refl, true, false, List, ℕ, ◌+◌, ◌-◌, ◌<◌, ◌≤◌, leb, Err, Ok, None, Some}
+use Rattle.std.specs.Prelude.{◌≡◌, refl, true, false, List, ℕ, ◌+◌, ◌-◌, ◌<◌, ◌≤◌, leb, Err, Ok}
 use Rattle.std.proofs.Common.{sym, ◌∙◌, lt_of_lt_of_le, leb-true, le-leb}
 use Rattle.std.proofs.Math.Path.{ap}
 use native.Mathlib.Omega.{arith}
@@ -122,13 +122,13 @@ module _ (s : Summary) (t w : List ℕ) where
         ∙ passes _ _ _ _ (failing-all (λ e. ltb e s.n) w r.events) ∙ rw size
 
     module _ (t' : List ℕ) where
-      pub answer_9 : Added max_rows s.rows w t t' None → Ends (Err (refusal rows_number 0)) t'
-      answer_9 added =
-          let full = added_none max_rows s.rows t w t' added in
-          let e = ends-refused _ _ (rows-test ∙ fails _ _ _ _ (lt-leb _ _ full.0)) in
-          (e.0, full.1 ∙ e.1)
+      pub answer_9 : (k : ℕ) → Added max_rows s.rows w t t' (Err k) → Ends (Err (refusal rows_number 0)) t'
+      answer_9 k added =
+          let full = added_none max_rows s.rows t w k t' added in
+          let e = ends-refused _ _ (rows-test ∙ fails _ _ _ _ (lt-leb _ _ (rw (← full.0) full.1))) in
+          (e.0, full.2 ∙ e.1)
 
-      pub answer-next : (k : ℕ) → Added max_rows s.rows w t t' (Some k) → length t' ≡ length t → Ends (Ok (next k)) t'
+      pub answer-next : (k : ℕ) → Added max_rows s.rows w t t' (Ok k) → length t' ≡ length t → Ends (Ok (next k)) t'
       unfolding taken_answer taken_table taken_of
       answer-next k added kept =
           let fits = added_some max_rows s.rows t w k t' added in

@@ -90,7 +90,7 @@ impl Summary {
         if let Some(bad) = first_bad(word, self.n) {
             return Err(Cause::Value.at(bad));
         }
-        let rows = add_alone(table, self.rows, word).ok_or(Cause::Rows.at(0))?;
+        let rows = add_alone(table, self.rows, word).map_err(|_| Cause::Rows.at(0))?;
         Ok(Summary {
             rows,
             events: self.events + word.len(),

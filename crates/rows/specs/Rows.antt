@@ -1,5 +1,5 @@
 -- The log table as a list of rows: how rows lie in a list of numbers, and what taking a word does to them.
-use Rattle.std.specs.Prelude.{◌≡◌, not, cond, List, [], ◌∷◌, ◌++◌, ℕ, zero, suc, ◌+◌, ◌*◌, min, length, get_or, take, drop, set, replicate, ltb, leb, Option, Some, None}
+use Rattle.std.specs.Prelude.{◌≡◌, not, cond, List, [], ◌∷◌, ◌++◌, ℕ, zero, suc, ◌+◌, ◌*◌, min, length, get_or, take, drop, set, replicate, ltb, leb, Option, Some, None, Result, Ok, Err}
 use Rattle.laws.specs.Lists.{equal}
 use Rattle.laws.specs.Scans.{first_failing}
 use Rattle.laws.specs.Bits.{with_bit}
@@ -135,12 +135,12 @@ pub record Holds (k : ℕ) (rs : List Row) (t t' : List ℕ) : Type 0 where
   pub front : rows_of k t' ≡ rs
   pub rest : drop (row_size * k) t' ≡ drop (row_size * k) t
 
--- how many rows there are with the word w, where they are not too many
-unfoldable pub rows_with : ℕ → ℕ → List ℕ → Word → Option ℕ
-rows_with most k t w = cond (leb (k + new_rows (rows_of k t) none w) most) (Some (k + new_rows (rows_of k t) none w)) None
+-- how many rows there are with the word w, or how many there would be where they are too many
+unfoldable pub rows_with : ℕ → ℕ → List ℕ → Word → Result ℕ ℕ
+rows_with most k t w = let more = k + new_rows (rows_of k t) none w in cond (leb more most) (Ok more) (Err more)
 
--- the word w was added to the k rows of t, which gives r rows in t'; or they would be too many, and t' is t
-pub record Added (most k : ℕ) (w : Word) (t t' : List ℕ) (r : Option ℕ) : Type 0 where
+-- the word w was added to the k rows of t, which gives n rows in t', where r is Ok n; or there would be n, too many, and t' is t, where r is Err n
+pub record Added (most k : ℕ) (w : Word) (t t' : List ℕ) (r : Result ℕ ℕ) : Type 0 where
   pub size : r ≡ rows_with most k t w
-  pub fits : (n : ℕ) → r ≡ Some n → Holds n (take_word (rows_of k t) none w) t t'
-  pub full : r ≡ None → t' ≡ t
+  pub fits : (n : ℕ) → r ≡ Ok n → Holds n (take_word (rows_of k t) none w) t t'
+  pub full : (n : ℕ) → r ≡ Err n → t' ≡ t

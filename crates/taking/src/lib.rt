@@ -2,7 +2,7 @@
 // anything is written.
 #![tactic(auto)]
 
-ghost use Rattle.std.specs.Prelude.{◌≡◌, ℕ, ◌+◌, ◌*◌, ◌<◌, ◌≤◌, length, get_or, take, IfSome};
+ghost use Rattle.std.specs.Prelude.{◌≡◌, ℕ, ◌+◌, ◌*◌, ◌<◌, ◌≤◌, length, get_or, take, OnOk};
 ghost use Rattle.limits.specs.Limits.{max_events, max_rows};
 ghost use Rattle.rows.specs.Rows.{row_size, add_event, find_row, rows_of, visit, follow, absent, row_or, new_rows, numbered, take_word, none, Holds, Added};
 ghost use Rattle.taking.specs.Numbering.{used, whole_row};
@@ -120,37 +120,39 @@ fn write_word(table: &mut [u16], rows: usize, word: &[u8], numbers: &[u16]) -> u
     visit_row(table, k, counts, usize::from(numbers[word.len()]))
 }
 
-// Takes a word if there is room for its rows, and returns how many rows there are with them: `None` if they are too many, and the table is as it was.
-// There is no index for a short word. `numbers` is for the rows of its prefixes, that of the whole word behind the others. It is lent as a slice: with
-// an array for each of three sizes the compiler writes slower code. `Takable` is a clause, since the table is lent on. (Inner function.)
+// Takes a word if there is room for its rows, and returns how many rows there are with them. `Err` has how many there would be, where they are too
+// many, and the table is then as it was. There is no index for a short word. `numbers` is for the rows of its prefixes, that of the whole word behind
+// the others. It is lent as a slice: with an array for each of three sizes the compiler writes slower code. `Takable` is a clause, since the table is
+// lent on. (Inner function.)
 pub fn add_word(
     table: &mut [u16],
     rows: usize,
     word: &[u8],
     index: Option<&Index>,
     numbers: &mut [u16],
-) -> Option<usize>
+) -> Result<usize, usize>
     requires takable { Takable rows table.old word.now }
     requires index { IsIndexed rows table.old index }
     requires word_in_bounds { length word.now < length numbers.old }
     ensures added { Added max_rows rows word.now table.old table.new result }
-    ensures word_after { IfSome result (λ _. get_or numbers.new (length word.now) 0 ≡ whole_row (rows_of rows table.old) word.now) }
+    ensures word_after { OnOk result (get_or numbers.new (length word.now) 0 ≡ whole_row (rows_of rows table.old) word.now) }
 {
     let held = Rows {
         table,
         count: rows,
         index,
     };
-    if MAX_ROWS < number_rows(&held, word, numbers) {
-        return None;
+    let more = number_rows(&held, word, numbers);
+    if MAX_ROWS < more {
+        return Err(more);
     }
-    Some(write_word(table, rows, word, numbers))
+    Ok(write_word(table, rows, word, numbers))
 }
 
 // A word with fewer events is short: for its few prefixes a scan of the rows takes less time than an index.
 const SHORT: usize = 16;
 
-fn add_short_word(table: &mut [u16], rows: usize, word: &[u8]) -> Option<usize>
+fn add_short_word(table: &mut [u16], rows: usize, word: &[u8]) -> Result<usize, usize>
     requires { Takable rows table.old word.now × (length word.now < 16) }
     ensures { Added max_rows rows word.now table.old table.new result }
 {
@@ -158,7 +160,7 @@ fn add_short_word(table: &mut [u16], rows: usize, word: &[u8]) -> Option<usize>
     add_word(table, rows, word, None, &mut numbers)
 }
 
-fn add_long_word(table: &mut [u16], rows: usize, word: &[u8]) -> Option<usize>
+fn add_long_word(table: &mut [u16], rows: usize, word: &[u8]) -> Result<usize, usize>
     requires { Takable rows table.old word.now }
     ensures { Added max_rows rows word.now table.old table.new result }
 {
@@ -169,7 +171,7 @@ fn add_long_word(table: &mut [u16], rows: usize, word: &[u8]) -> Option<usize>
 }
 
 // Takes a word if there is room for its rows, as `add_word`. (Inner function.)
-pub fn add_alone(table: &mut [u16], rows: usize, word: &[u8]) -> Option<usize>
+pub fn add_alone(table: &mut [u16], rows: usize, word: &[u8]) -> Result<usize, usize>
     requires { Takable rows table.old word.now }
     ensures { Added max_rows rows word.now table.old table.new result }
 {

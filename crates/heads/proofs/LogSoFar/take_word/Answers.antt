@@ -1,7 +1,9 @@
 -- `heads::LogSoFar::take_word` meets its contract: the word's tests are those of `entry`, and its rows are taken where there is room.
-use Rattle.std.proofs.Common.{◌∙◌, arith}
+use Rattle.std.proofs.Common.{◌≡◌, ◌∙◌, Ok, arith}
 use Rattle.std.proofs.lemmas.Result.{err_from_is_err_and}
-use Rattle.laws.specs.Options.{some_of, none_of}
+use Rattle.std.specs.Result.{IsErrAnd}
+use Rattle.refusals.specs.Table.{rows_number}
+use Rattle.refusals.specs.Answers.{refusal}
 use Rattle.rows.specs.Adding.{added_some}
 use Rattle.rows.specs.IndexLaws.{index_taken}
 use Rattle.bundles.specs.Chains.{read_got, read-refused}
@@ -38,7 +40,7 @@ returns-in_err-entry-clause-one_more c =
 
 pub extend-requires : goal.extend-requires
 extend-requires c =
-    let some = some_of _ _ _ c.in_ok-rows.ensures.value in
+    let some : c.add_word-taken.result ≡ Ok c.in_ok-rows.rows = grind arith in
     let added = added_some _ _ _ _ _ _ (rw some at c.add_word-taken.ensures.added) in (
       omega (arith, added.0),
       added.1,
@@ -50,14 +52,15 @@ pub returns-in_err-rows-clause-one_more : goal.returns-in_err-rows-clause-one_mo
 returns-in_err-rows-clause-one_more c =
     let q = err_from_is_err_and c.from_residual-in_err-rows.result c.from_residual-in_err-rows.ensures.1 in
     let r = read (goal.at.returns-in_err-rows-clause-one_more c).In_ok-entry in
-    let none = none_of _ _ _ c.in_err-rows.ensures.value in
-    rw (q.1, q.2, ← none.1, c.at.ensures)
-    (λ entries t₀ h. no_room (said c.args.first) entries h c.requires.bounds.0 _ _ r _ (rw none.0 at c.add_word-taken.ensures.added))
+    let many : IsErrAnd c.add_word-taken.result (λ _. c.in_err-rows.field-0.0 ≡ refusal rows_number c.args.reader.now.at) = grind arith in
+    let none = err_from_is_err_and c.add_word-taken.result many in
+    rw (q.1, q.2, none.2)
+    (λ entries t₀ h. no_room (said c.args.first) entries h c.requires.bounds.0 _ _ r _ _ (rw none.1 at c.add_word-taken.ensures.added))
 
 pub returns-clause-one_more : goal.returns-clause-one_more
 returns-clause-one_more c =
     let r = read (goal.at.returns-clause-one_more c).In_ok-entry in
-    let some = some_of _ _ _ c.in_ok-rows.ensures.value in
+    let some : c.add_word-taken.result ≡ Ok c.in_ok-rows.rows = grind arith in
     λ entries t₀ h.
     let added = c.add_word-taken.ensures in
     let taken = word-taken (said c.args.first) entries h c.requires.bounds.0 _ _ r _ _

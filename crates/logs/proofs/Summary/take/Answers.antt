@@ -1,10 +1,13 @@
 -- `logs::Summary::take` meets its contract.
-use Rattle.std.specs.Prelude.{◌≡◌}
+use Rattle.std.specs.Prelude.{◌≡◌, Ok}
 use mathlib.Core.Path.{sym, ◌∙◌, subst}
 use mathlib.Core.Bool.{true}
+use Rattle.std.proofs.Common.{arith}
 use Rattle.std.proofs.lemmas.Result.{err_from_is_err_and}
-use Rattle.laws.specs.Options.{some_of, none_of}
+use Rattle.std.specs.Result.{IsErrAnd}
 use Rattle.limits.specs.Limits.{max_rows}
+use Rattle.refusals.specs.Table.{rows_number}
+use Rattle.refusals.specs.Answers.{refusal}
 use Rattle.rows.specs.Rows.{Added}
 use Rattle.places.specs.Words.{bad_event-none, bad_event-some}
 use Rattle.logs.specs.Answers.{right_summary}
@@ -49,12 +52,13 @@ add_alone-requires c = takable _ _ _ (word_admitted (goal.at.add_alone-requires 
 pub returns-in_err-rows : goal.returns-in_err-rows
 returns-in_err-rows c =
     let q = err_from_is_err_and c.from_residual.result c.from_residual.ensures.1 in
-    let none = none_of _ _ _ c.in_err-rows.ensures.value in
-    let added = subst (Added max_rows c.args.self.rows c.args.word.now c.args.table.now c.add_alone.new.table) none.0 c.add_alone.ensures in
-    rw (q.1, q.2, ← none.1, c.at-2.ensures) (value-table_after (answer_9 _ _ _ (word_admitted (goal.at.returns-in_err-rows c).In_default) _ added))
+    let many : IsErrAnd c.add_alone.result (λ _. c.in_err-rows.field-0.0 ≡ refusal rows_number 0) = grind arith in
+    let none = err_from_is_err_and c.add_alone.result many in
+    let added = subst (Added max_rows c.args.self.rows c.args.word.now c.args.table.now c.add_alone.new.table) none.1 c.add_alone.ensures in
+    rw (q.1, q.2, none.2) (value-table_after (answer_9 _ _ _ (word_admitted (goal.at.returns-in_err-rows c).In_default) _ _ added))
 
 pub returns : goal.returns
 returns c =
-    let some = some_of _ _ _ c.in_ok-rows.ensures.value in
+    let some : c.add_alone.result ≡ Ok c.in_ok-rows.rows = grind arith in
     let added = subst (Added max_rows c.args.self.rows c.args.word.now c.args.table.now c.add_alone.new.table) some c.add_alone.ensures in
     value-table_after (answer-next _ _ _ (word_admitted (goal.at.returns c).In_default) _ _ added c.add_alone.auto.table)
