@@ -2,9 +2,9 @@
 // step. The contracts cite specs/Parts.antt and specs/SideBySide.antt. All are inner functions.
 #![tactic(auto)]
 
-ghost use Rattle.std.specs.Prelude.{◌≡◌, [], ◌-◌, min, ◌≤◌, ◌<◌, None, length};
+ghost use Rattle.std.specs.Prelude.{◌≡◌, [], ◌-◌, min, ◌≤◌, ◌<◌, None, length, replicate};
 ghost use Rattle.bundles.specs.Keeping.{place_spot};
-ghost use Rattle.replays.specs.Columns.{column_width};
+ghost use Rattle.replays.specs.Columns.{column_width, event_slots, no_changes};
 ghost use Rattle.stops.specs.Onward.{end_of, Late, Onward, Searched};
 ghost use Rattle.parts.specs.Parts.{long_word, Initial, MarkedAll, MarkedEight, eight};
 ghost use Rattle.parts.specs.SideBySide.{Columns};
@@ -31,16 +31,14 @@ fn initial_tokens(net: &Net) -> [i64; MAX_PLACES]
     marking
 }
 
-// The changes of up to eight places of a net, from number `first` on.
-fn table(net: &Net, first: usize) -> Table
-    requires { first ≤ net.now.count }
-    ensures { Columns net.now.n net.now.bundle.now (place_spot net.now first) (min column_width (net.now.count - first)) result.changes }
+// Writes the changes of up to eight places of a net, from number `first` on, into a table of none. It is lent: handed out, its 11 kB would be copied.
+fn write_table(net: &Net, first: usize, table: &mut Table)
+    requires { (first ≤ net.now.count) × (table.old.changes ≡ replicate event_slots no_changes) }
+    ensures { Columns net.now.n net.now.bundle.now (place_spot net.now first) (min column_width (net.now.count - first)) table.new.changes }
 {
-    let mut table = Table::clear();
     for j in 0..WIDTH.min(net.count - first) {
         table.write_column(j, net.place(first + j));
     }
-    table
 }
 
 // A search in a word whose first `done` steps are permitted by each place.
@@ -60,7 +58,9 @@ impl<'a> Part<'a> {
         ensures marked { result ≡ None → MarkedEight self.now.search first (length self.now.search.word.now) tokens.new }
     {
         let before = *tokens;
-        if table(&self.search.net, first).replay(tokens, &self.search.word[self.done..]) {
+        let mut table = Table::clear();
+        write_table(&self.search.net, first, &mut table);
+        if table.replay(tokens, &self.search.word[self.done..]) {
             return None;
         }
         let end = first + WIDTH.min(self.search.net.count - first);

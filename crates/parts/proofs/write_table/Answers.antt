@@ -3,10 +3,10 @@ use Rattle.bundles.specs.PlaceReading.{place_size, place_on}
 use Rattle.bundles.specs.Keeping.{place_spot}
 use Rattle.stops.specs.Searching.{place_is}
 use Rattle.parts.specs.SideBySide.{columns-start, columns-next}
-use Rattle.parts.proofs.table.Goals as goal
+use Rattle.parts.proofs.write_table.Goals as goal
 
 pub loop-j-init : goal.loop-j-init
-loop-j-init c = rw c.clear-table.ensures columns-start
+loop-j-init c = rw c.requires.1 columns-start
 
 pub loop-j-preserved : goal.loop-j-preserved
 loop-j-preserved c =
