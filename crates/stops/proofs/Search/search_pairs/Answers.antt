@@ -1,9 +1,11 @@
-use Rattle.std.proofs.Common.{arith, ◌≡◌, ◌+◌, ◌*◌, sym, ◌∙◌, take}
+use Rattle.std.proofs.Common.{arith, ◌≡◌, Option, ℕ, ◌+◌, ◌*◌, sym, ap, ◌∙◌, take}
 use Rattle.stops.specs.Positions.{stop_in}
 use Rattle.stops.specs.Replay.{stop_of}
 use Rattle.stops.specs.Searching.{place_is, first_of}
 use Rattle.stops.specs.Onward.{end_of, onward-none, onward_then, pair-onward-stays, pair-onward-earlier, pair-late}
 use Rattle.stops.specs.Onward.{place_of as place_in}
+use Rattle.stops.specs.declared.Search.{Search}
+use Rattle.stops.specs.declared.Stop.{Stop}
 use Rattle.stops.proofs.Search.search_pairs.Goals as goal
 use Rattle.stops.proofs.Search.search_pairs.Goals.{in-Some, in_default}
 use Rattle.stops.proofs.Search.search_pairs.Goals.{After-stop_of_two}
@@ -11,10 +13,16 @@ use Rattle.stops.proofs.Search.search_pairs.Goals.{After-stop_of_two}
 pub loop-pair-init : goal.loop-pair-init
 loop-pair-init c = (c.requires, onward-none c.args.self.now 0 c.args.from)
 
--- what a turn finds
-found : (c : After-stop_of_two) → let s = c.args.self.now in let front = take (end_of s c.loop-pair.best) s.word.now in
-    c.stop_of_two.result ≡ stop_in front (first_of (stop_of (place_in s (2 * c.loop-pair.pair)) front) (stop_of (place_in s (2 * c.loop-pair.pair + 1)) front))
-found c = rw (c.end.ensures, place_is _ _ _ _ c.place-one.ensures, place_is _ _ _ _ c.place-two.ensures) at c.stop_of_two.ensures
+-- what two places find in the first steps of the word
+abbrev found_in : Search → ℕ → ℕ → Option Stop
+found_in s j end = let front = take end s.word.now in stop_in front (first_of (stop_of (place_in s j) front) (stop_of (place_in s (j + 1)) front))
+
+-- what a turn finds, in the steps before the best stop so far; how many these are is reckoned, since a must-fail edit takes one more
+found : (c : After-stop_of_two) → let s = c.args.self.now in c.stop_of_two.result ≡ found_in s (2 * c.loop-pair.pair) (end_of s c.loop-pair.best)
+found c =
+    let s = c.args.self.now in
+    rw (place_is _ _ _ _ c.place-one.ensures, place_is _ _ _ _ c.place-two.ensures) at c.stop_of_two.ensures
+    ∙ ap (found_in s (2 * c.loop-pair.pair)) (omega (arith, c.end.ensures, c.loop-pair.invariant.0.1))
 
 pub overflow_add-best-in-Some : goal.overflow_add-best-in-Some
 overflow_add-best-in-Some c =
