@@ -52,7 +52,7 @@ fn step(place: &Place, tokens: i64, event: u8) -> Result<i64, u64>
 
 // The first step of a word that a place refuses, with so many tokens at first. The place is named 0, as in the definition: its number is the caller's
 // to give.
-fn stop_from(place: Place, start: i64, word: &[u8]) -> Option<Stop>
+pub fn stop_from(place: Place, start: i64, word: &[u8]) -> Option<Stop>
     requires { Start start word.now }
     ensures { result ≡ stop_in word.now (replay (place_of place) start word.now) }
 {
