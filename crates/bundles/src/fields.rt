@@ -35,7 +35,7 @@ impl<'a> Reader<'a> {
     }
 
     // How many whole numbers are left.
-    pub(crate) fn numbers_left(&self) -> usize
+    pub fn numbers_left(&self) -> usize
         ensures { result ≡ numbers_left self.now.bytes.now self.now.at }
     {
         self.bytes.len().saturating_sub(self.at) / 2
