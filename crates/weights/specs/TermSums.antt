@@ -6,7 +6,7 @@ use native.Mathlib.Omega.{arith}
 use Rattle.laws.specs.Booleans.{impossible}
 use Rattle.laws.specs.Lists.{tabulate}
 use Rattle.laws.specs.Bits.{bit}
-use Rattle.laws.specs.Numbers.{number_at}
+use Rattle.laws.specs.Numbers.{Bytes, number_at}
 use Rattle.limits.specs.Limits.{max_events, max_terms}
 use Rattle.refusals.specs.Table.{bundle_end_number, value_number}
 use Rattle.refusals.specs.Results.{value, refused, bind}
@@ -15,7 +15,7 @@ use Rattle.rows.specs.Rows.{row_size, new_row, none, row_at, rows_of}
 use Rattle.rows.specs.Flat.{rows_at}
 use Rattle.bundles.specs.Reading.{Read, Reader, got, item, ◌>>=◌, and_then, give, field, byte, number, times, onward}
 use Rattle.bundles.specs.Readers.{anything, term, pairs, weights}
-use Rattle.bundles.specs.ReadingLaws.{and_then-got, ranged}
+use Rattle.bundles.specs.ReadingLaws.{and_then-got, law-number, ranged}
 use Rattle.bundles.specs.Chains.{map_read, mapped}
 use Rattle.bundles.specs.TermReading.{made_term, behind_event, behind_row}
 use Rattle.bundles.specs.FieldReading.{below, up_to, byte-there, number-there, byte-got}
@@ -57,6 +57,18 @@ term-bounds n row_count b from t next e =
     let second = byte-got (below n) b row.1 event.0 event.1 event.2 in
     let is : record { row = row.0; event = event.0; weight = weight.0 } ≡ t = cc in
     subst (TermBounds n row_count) is (record { row = ltb-true _ _ first; event = ltb-true _ _ second.0 })
+
+-- in a list of bytes its weight has two of them
+pub term-weight : (n row_count : ℕ) (b : List ℕ) → Bytes b → (from : ℕ) (t : TermFields) (next : ℕ) → term n row_count b from ≡ got t next
+    → t.weight ≤ max_number
+unfolding term bind onward
+term-weight n row_count b bytes from t next e =
+    let row = and_then-got b (number (below row_count) b from) (behind_row n) t next e in
+    let event = and_then-got b (byte (below n) b row.1) (behind_event row.0) t next row.3 in
+    let weight = and_then-got b (number anything b event.1) (made_term row.0 event.0) t next event.3 in
+    let third = (law-number b bytes anything).sound event.1 weight.0 weight.1 weight.2 in
+    let is : weight.0 ≡ t.weight = cc in
+    omega (arith, third.0.1)
 
 -- a term that is there and in range
 pub term-there : (n row_count : ℕ) (b : List ℕ) (from : ℕ) → from + 5 ≤ length b → number_at b from < row_count → get_or b (from + 2) 0 < n
