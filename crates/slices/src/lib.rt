@@ -28,5 +28,6 @@ pub fn write_number(output: &mut [u8], at: usize, number: usize)
     requires { at + 2 ≤ length output.old }
     ensures { output.new ≡ spliced at (le16 number) output.old }
 {
-    write_at(output, at, &number.to_le_bytes()[..2]);
+    let [low, high, ..] = number.to_le_bytes();
+    write_at(output, at, &[low, high]);
 }
