@@ -3,6 +3,7 @@ pub mod File
 pub mod Faults
 pub mod BlockLaws
 pub mod OpenLaws
+pub mod OpenEnds
 pub mod SealLaws
 pub mod RoundTrip
 pub mod RefusalNumbers

@@ -15,6 +15,7 @@ use rules::{first_fault, length_fits};
 
 // Opens a sealed file: writes its bundle to the front of the output and returns the bundle's length.
 // Refuses with 1; then, for the lowest faulty block, with 17, 18 or 2; then with 3. A refusal leaves the output as it was.
+#[tactic(auto, using(crate::specs::OpenEnds::fault_told))]
 pub fn open(file: &[u8], output: &mut [u8]) -> Written
     ensures value { result ≡ answer (opened file.now) (length output.old) }
     ensures output_after { output.new ≡ written (opened file.now) output.old }
