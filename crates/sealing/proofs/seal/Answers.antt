@@ -1,5 +1,6 @@
 -- `sealing::seal` meets its contract: at each return the tests that led there say which case of `sealed` holds.
 use Rattle.std.proofs.Common.{◌≡◌, true, sym, ◌∙◌, arith, ◌*◌, ◌≤◌, length}
+use Rattle.laws.specs.Parts.{front}
 use Rattle.limits.specs.Limits.{max_bundle_size, right_size, right_size-bounds}
 use Rattle.refusals.proofs.Laws.{ends-refused, ends-short, ends-written}
 use Rattle.block.specs.File.{blocks_for, sealed_file}
@@ -36,14 +37,17 @@ returns-then-output-length c =
     (value-output_after (ends-short _ _ (sealed_file bundle) (sealed-file bundle (fits at.Else-not-size_fits)) (omega (arith, size))))
 
 pub write_blocks-requires : goal.write_blocks-requires
+unfolding blocks_for
 write_blocks-requires c =
     let at = goal.at.write_blocks-requires c in
-    record { in_bounds = bounds at.Else-not-size_fits; bundle_in_bounds = omega (arith, whole at.After-div_ceil-length, length-sealed_file c.args.bundle.now) }
+    let few = bounds at.Else-not-size_fits in
+    record { in_bounds = few; bundle_in_bounds = omega (arith, few, whole at.After-div_ceil-length, length-sealed_file c.args.bundle.now) }
 
 pub returns : goal.returns
 returns c =
     let at = goal.at.returns c in
     let bundle = c.args.bundle.now in
     let size = whole at.After-div_ceil-length in
-    rw (c.write_blocks.ensures, size)
-    (value-output_after (ends-written _ _ (sealed_file bundle) (sealed-file bundle (fits at.Else-not-size_fits)) (omega (arith, size))))
+    let ends = ends-written _ c.args.output.now (sealed_file bundle) (sealed-file bundle (fits at.Else-not-size_fits)) (omega (arith, size)) in
+    let wrote : c.write_blocks.new.output ≡ front (sealed_file bundle) c.args.output.now = c.write_blocks.ensures in
+    record { value = rw size ends.0; output_after = wrote ∙ ends.1 }
