@@ -1,8 +1,9 @@
 -- Judging a sealed file: which verdict it gets, and what it leaves in the table.
 use Rattle.std.specs.Prelude.{◌≡◌, refl, List, ℕ, length, take, Err, Ok}
+use Rattle.std.proofs.Common.{length-take-le}
 use Rattle.refusals.specs.Results.{Result, value, refused, ◌>>=◌, bind}
 use Rattle.refusals.specs.Answers.{fitted, answer, written}
-use Rattle.refusals.proofs.Laws.{answer-fitted, answer-refused}
+use Rattle.refusals.proofs.Laws.{answer-fitted, answer-refused, answer-within}
 use Rattle.refusals.specs.declared.Refusal.{Refusal}
 use Rattle.block.specs.File.{opened}
 use Rattle.bundles.specs.Reading.{Read}
@@ -38,3 +39,24 @@ module _ (file room table : List ℕ) where
       × (file_table (fitted (opened file) (length room)) table ≡ table_after (take n (written (opened file) room)) table)
   unfolding file_verdict file_judged file_table bind verdict
   file-opened n e = rw (answer-fitted (opened file) room n e) (refl, refl)
+
+-- ---- The same clause by clause, for the check of `judge_file`
+
+module _ (file room : List ℕ) where
+  module _ (r : Refusal) (told : answer (opened file) (length room) ≡ Err r) where
+    pub refused-verdict : (table_length : ℕ) → file_verdict file (length room) table_length ≡ Err r
+    unfolding file_verdict file_judged bind verdict_of
+    refused-verdict table_length = rw (answer-refused (opened file) (length room) r told)
+
+    pub refused-table : (table : List ℕ) → file_table (fitted (opened file) (length room)) table ≡ table
+    refused-table table = (file-refused file room table r told).1
+
+  module _ (n : ℕ) (told : answer (opened file) (length room) ≡ Ok n) where
+    pub opened-verdict : (table_length : ℕ) → file_verdict file (length room) table_length ≡ verdict table_length (take n (written (opened file) room))
+    unfolding file_verdict file_judged bind verdict
+    opened-verdict table_length = rw (answer-fitted (opened file) room n told)
+
+    pub opened-table : (table : List ℕ) → file_table (fitted (opened file) (length room)) table ≡ table_after (take n (written (opened file) room)) table
+    opened-table table = (file-opened file room table n told).1
+
+pub ruleset opening_told = (refused-verdict, refused-table, opened-verdict, opened-table, answer-within, length-take-le)
