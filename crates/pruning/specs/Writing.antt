@@ -144,34 +144,42 @@ module _ (c : Contents) where
     length-append (front_bytes c.head) count,
   )
 
-  -- pushed to the front of an output that takes them
+  -- pushed to the front of an output that takes them, with any place count: its byte has room
   module _ (w₀ : Writer) (starts : w₀.end ≡ 0) (room : length (bytes_of (pruned c)) ≤ length w₀.output.now) where
-    module _ (w₁ : Writer) (front : Pushed w₀ w₁ (front_bytes c.head)) where
-      with_count : HasRoom w₀ (front_bytes c.head ++ count)
-      with_count = omega (arith, lengths, length-append (front_bytes c.head) count)
+    module _ (w₁ : Writer) (front : Pushed w₀ w₁ (front_bytes c.head)) (n : ℕ) where
+      with_count : HasRoom w₀ (front_bytes c.head ++ n ∷ [])
+      with_count = omega (arith, lengths, length-append (front_bytes c.head) (n ∷ []))
 
-      pub count-room : HasRoom w₁ count
-      count-room = room_behind front count with_count
+      pub count-room : HasRoom w₁ (n ∷ [])
+      count-room = room_behind front (n ∷ []) with_count
 
-      module _ (w₂ : Writer) (counted : Pushed w₁ w₂ count) where
-        first : Pushed w₀ w₂ (front_bytes c.head ++ count)
-        first = pushed-next front count with_count counted
+      module _ (w₂ : Writer) (counted : Pushed w₁ w₂ (n ∷ [])) where
+        first : Pushed w₀ w₂ (front_bytes c.head ++ n ∷ [])
+        first = pushed-next front (n ∷ []) with_count counted
 
-        with_places : HasRoom w₀ ((front_bytes c.head ++ count) ++ places)
-        with_places = omega (arith, lengths, length-append (front_bytes c.head ++ count) places, length-append (front_bytes c.head) count)
+        with_places : HasRoom w₀ ((front_bytes c.head ++ n ∷ []) ++ places)
+        with_places = omega (arith, lengths, length-append (front_bytes c.head ++ n ∷ []) places, length-append (front_bytes c.head) (n ∷ []))
 
         pub places-room : HasRoom w₂ places
         places-room = room_behind first places with_places
 
         module _ (w₃ : Writer) (placed : Pushed w₂ w₃ places) where
-          second : Pushed w₀ w₃ ((front_bytes c.head ++ count) ++ places)
+          second : Pushed w₀ w₃ ((front_bytes c.head ++ n ∷ []) ++ places)
           second = pushed-next first places with_places placed
 
-          with_all : HasRoom w₀ (((front_bytes c.head ++ count) ++ places) ++ certificates)
-          with_all = omega (arith, room, ap length result_parts)
+          with_all : HasRoom w₀ (((front_bytes c.head ++ n ∷ []) ++ places) ++ certificates)
+          with_all = omega (
+            arith,
+            room,
+            lengths,
+            length-append ((front_bytes c.head ++ n ∷ []) ++ places) certificates,
+            length-append (front_bytes c.head ++ n ∷ []) places,
+            length-append (front_bytes c.head) (n ∷ []),
+          )
 
           pub certificates-room : HasRoom w₃ certificates
           certificates-room = room_behind second certificates with_all
 
-          pub all-pushed : (w₄ : Writer) → Pushed w₃ w₄ certificates → Pushed w₀ w₄ (bytes_of (pruned c))
-          all-pushed w₄ last = rw result_parts (pushed-next second certificates with_all last)
+          -- and with that of the places that are kept they are the result
+          pub all-pushed : n ≡ length (pruned c).head.places → (w₄ : Writer) → Pushed w₃ w₄ certificates → Pushed w₀ w₄ (bytes_of (pruned c))
+          all-pushed is w₄ last = rw (result_parts, ← is) (pushed-next second certificates with_all last)

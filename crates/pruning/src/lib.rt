@@ -34,6 +34,7 @@ fn write_pruned(bundle: &[u8], output: &mut [u8]) -> Written
 // Writes an accepted bundle to the front of the output without the places that no certificate names: the rest in their old order, with
 // certificates renumbered. Refuses with 4, 5, 6 to 13 and 20 as `judge`, then with 3; the output is then as it was. The table is left as `judge`
 // leaves it.
+#[tactic(auto, using(crate::specs::Judged::judge_told))]
 pub fn prune(bundle: &[u8], output: &mut [u8], table: &mut [u16]) -> Written
     ensures value { result ≡ answer (pruning (length table.old) bundle.now) (length output.old) }
     ensures output_after { output.new ≡ written (pruning (length table.old) bundle.now) output.old }

@@ -1,6 +1,5 @@
 // Marks for the places that certificates name. All are inner functions.
-ghost use Rattle.std.specs.Prelude.{◌≡◌, length};
-ghost use Rattle.laws.specs.Lists.{tabulate};
+ghost use Rattle.std.specs.Prelude.{◌≡◌, ◌≤◌, length};
 ghost use Rattle.laws.specs.Ranks.{rank};
 ghost use Rattle.limits.specs.Limits.{max_places};
 ghost use Rattle.bundles.specs.Layout.{bytes_of};
@@ -15,16 +14,18 @@ use limits::MAX_PLACES;
 // A mark for each place.
 pub type Marks = [bool; MAX_PLACES];
 
-// A bundle's parts, with a mark for each place that a certificate names.
+// A bundle's parts, with a mark for each place that a certificate names, and how many of its places have one.
 #[derive(Clone, Copy)]
 pub struct Marked<'a> {
     pub parts: Parts<'a>,
     pub marks: Marks,
+    pub kept: u8,
     pub ghost marks_are: { marks ≡ marks_of (contents_of parts.bundle.now).certificates },
+    pub ghost kept_is: { kept ≡ length (pruned (contents_of parts.bundle.now)).head.places },
 }
 
 // Marks the places that the certificates name.
-fn mark_places(parts: &Parts) -> Marks
+pub fn mark_places(parts: &Parts) -> Marks
     ensures { result ≡ marks_of (contents_of parts.now.bundle.now).certificates }
 {
     let mut marks = [false; MAX_PLACES];
@@ -36,6 +37,14 @@ fn mark_places(parts: &Parts) -> Marks
     marks
 }
 
+// How many of the first places are marked.
+pub fn count_marked(marks: &Marks, count: usize) -> usize
+    requires { count ≤ max_places }
+    ensures { result ≡ rank (marked marks.now) count }
+{
+    marks.iter().take(count).filter(|mark| **mark).count()
+}
+
 impl<'a> Marked<'a> {
     pub fn of(bundle: &'a [u8]) -> Self
         requires { IsBundle bundle.now }
@@ -43,35 +52,22 @@ impl<'a> Marked<'a> {
     {
         let parts = Parts::of(bundle);
         let marks = mark_places(&parts);
-        Marked { parts, marks }
+        let kept = count_marked(&marks, parts.place_count.into()) as u8;
+        Marked { parts, marks, kept }
     }
 
     // How many places are kept: 64 at most.
     pub fn kept(&self) -> u8
         ensures { result ≡ length (pruned (contents_of self.now.parts.bundle.now)).head.places }
     {
-        let places = self.marks.iter().take(usize::from(self.parts.place_count));
-        places.filter(|mark| **mark).count() as u8
+        self.kept
     }
 
     // The length of the pruned bundle.
     pub fn pruned_length(&self) -> usize
         ensures { result ≡ length (bytes_of (pruned (contents_of self.now.parts.bundle.now))) }
     {
-        let places = usize::from(self.kept()) * self.parts.place_size;
+        let places = usize::from(self.kept) * self.parts.place_size;
         self.parts.front.len() + 1 + places + self.parts.certificates.len()
-    }
-
-    // The new number of each place: how many before it are marked.
-    pub fn numbers(&self) -> [u8; MAX_PLACES]
-        ensures { result ≡ tabulate max_places (rank (marked self.now.marks)) }
-    {
-        let mut numbers = [0; MAX_PLACES];
-        let mut next = 0;
-        for (j, number) in numbers.iter_mut().enumerate() {
-            *number = next;
-            next += u8::from(self.marks[j]);
-        }
-        numbers
     }
 }

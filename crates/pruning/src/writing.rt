@@ -1,18 +1,43 @@
 // The parts of a pruned bundle, written one behind the other. All are inner functions.
 ghost use Rattle.std.specs.Prelude.{◌≡◌, ◌≤◌, length};
 ghost use mathlib.Core.List.{flat_map};
+ghost use Rattle.laws.specs.Lists.{tabulate};
 ghost use Rattle.laws.specs.Parts.{front};
+ghost use Rattle.laws.specs.Ranks.{rank};
+ghost use Rattle.limits.specs.Limits.{max_places};
 ghost use Rattle.bundles.specs.Layout.{place_bytes, bytes_of};
 ghost use Rattle.contents.specs.Contents.{contents_of, certificates_bytes};
 ghost use Rattle.pruning.specs.Pruning.{pruned};
+ghost use Rattle.pruning.specs.Marking.{marked};
 ghost use Rattle.writer.specs.Pushing.{HasRoom, Pushed};
 
-use crate::marking::Marked;
+use crate::marking::{Marked, Marks};
 use bundles::terms::Kind;
 use contents::certificates::Certificate;
+use limits::MAX_PLACES;
 use writer::Writer;
 
+// The new number of each place: how many before it are marked.
+pub fn numbers_of(marks: &Marks) -> [u8; MAX_PLACES]
+    ensures { result ≡ tabulate max_places (rank (marked marks.now)) }
+{
+    let mut numbers = [0; MAX_PLACES];
+    let mut next = 0;
+    for (j, number) in numbers.iter_mut().enumerate() {
+        *number = next;
+        next += u8::from(marks[j]);
+    }
+    numbers
+}
+
 impl Marked<'_> {
+    // The new number of each place.
+    pub fn numbers(&self) -> [u8; MAX_PLACES]
+        ensures { result ≡ tabulate max_places (rank (marked self.now.marks)) }
+    {
+        numbers_of(&self.marks)
+    }
+
     // The places that are marked, as they are.
     fn write_places(&self, writer: &mut Writer)
         requires { HasRoom writer.old (flat_map place_bytes (pruned (contents_of self.now.parts.bundle.now)).head.places) }
@@ -50,7 +75,7 @@ impl Marked<'_> {
     {
         let mut writer = Writer { output, end: 0 };
         writer.push(self.parts.front);
-        writer.push(&[self.kept()]);
+        writer.push(&[self.kept]);
         self.write_places(&mut writer);
         self.write_certificates(&mut writer);
     }

@@ -14,9 +14,10 @@ whole : (c : After-from) → let marked = c.args.self.now in
     (length marked.parts.front.now + 1 + c.from.result * marked.parts.place_size + length marked.parts.certificates.now ≡ length (bytes_of (pruned (contents_of marked.parts.bundle.now))))
     × (length (bytes_of (pruned (contents_of marked.parts.bundle.now))) ≤ max_bundle_size)
 whole c =
-    let parts = c.args.self.now.parts in
+    let self = c.args.self.now in
+    let parts = self.parts in
     let contents = contents_of parts.bundle.now in (
-      rw (parts.front_is, c.from.ensures, c.kept.ensures, parts.size_is, parts.certificates_are) (result-length contents parts.judged.limits),
+      rw (parts.front_is, c.from.ensures, self.kept_is, parts.size_is, parts.certificates_are) (result-length contents parts.judged.limits),
       (pruned-limits contents parts.judged.limits).size,
     )
 
