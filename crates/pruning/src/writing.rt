@@ -39,7 +39,7 @@ impl Marked<'_> {
     }
 
     // The places that are marked, as they are.
-    fn write_places(&self, writer: &mut Writer)
+    pub fn write_places(&self, writer: &mut Writer)
         requires { HasRoom writer.old (flat_map place_bytes (pruned (contents_of self.now.parts.bundle.now)).head.places) }
         ensures { Pushed writer.old writer.new (flat_map place_bytes (pruned (contents_of self.now.parts.bundle.now)).head.places) }
     {
@@ -52,7 +52,7 @@ impl Marked<'_> {
     }
 
     // The certificates, with the new numbers of their places.
-    fn write_certificates(&self, writer: &mut Writer)
+    pub fn write_certificates(&self, writer: &mut Writer)
         requires { HasRoom writer.old (certificates_bytes (pruned (contents_of self.now.parts.bundle.now))) }
         ensures { Pushed writer.old writer.new (certificates_bytes (pruned (contents_of self.now.parts.bundle.now))) }
     {
