@@ -1,11 +1,11 @@
 -- What the calls of demand 3 answer for a file: opening, judging and screening, one behind the other.
 use Rattle.std.specs.Prelude.{◌≡◌, refl, List, [], ◌∷◌, ◌++◌, ℕ, ◌<◌, length, take, Err, Ok}
-use Rattle.std.proofs.Common.{sym, ap, ◌∙◌, subst}
+use Rattle.std.proofs.Common.{sym, ap, ◌∙◌, subst, length-take-le}
 use Rattle.laws.specs.Booleans.{impossible}
 use Rattle.laws.specs.Numbers.{Bytes}
 use Rattle.refusals.specs.Results.{Result, value, refused}
 use Rattle.refusals.specs.Answers.{refusal, fitted, answer, written, Answer}
-use Rattle.refusals.proofs.Laws.{answer-refused, answer-fitted, fitted-written}
+use Rattle.refusals.proofs.Laws.{answer-refused, answer-fitted, answer-within, fitted-written}
 use Rattle.refusals.specs.declared.Refusal.{Refusal}
 use Rattle.block.specs.File.{opened}
 use Rattle.nets.specs.Nets.{Word}
@@ -64,6 +64,24 @@ module _ (result : Result (List ℕ)) (output : List ℕ) (table_length : ℕ) (
       × (table_ran (fitted result (length output)) table ≡ table_after (take n (written result output)) table)
   unfolding ran table_ran
   ran-opened n e table = rw (answer-fitted result output n e) (refl, refl)
+
+-- the same clause by clause, for the check of `run`
+module _ (result : Result (List ℕ)) (output : List ℕ) where
+  module _ (r : Refusal) (told : answer result (length output) ≡ Err r) where
+    pub refused-answers : (table_length : ℕ) (w : Word) → ran (fitted result (length output)) table_length w ≡ Err r
+    refused-answers table_length w = (ran-refused result output table_length w r told []).0
+
+    pub refused-table : (table : List ℕ) → table_ran (fitted result (length output)) table ≡ table
+    refused-table table = (ran-refused result output 0 [] r told table).1
+
+  module _ (n : ℕ) (told : answer result (length output) ≡ Ok n) where
+    pub opened-answers : (table_length : ℕ) (w : Word) → ran (fitted result (length output)) table_length w ≡ Ok (answers_of (take n (written result output)) table_length w)
+    opened-answers table_length w = (ran-opened result output table_length w n told []).0
+
+    pub opened-table : (table : List ℕ) → table_ran (fitted result (length output)) table ≡ table_after (take n (written result output)) table
+    opened-table table = (ran-opened result output 0 [] n told table).1
+
+pub ruleset opening_told = (refused-answers, refused-table, opened-answers, opened-table, answer-within, length-take-le)
 
 -- ---- the answers for a file that opened
 

@@ -45,6 +45,7 @@ fn judge_and_screen(bundle: &[u8], table: &mut [u16], word: &[u8]) -> Answers
 }
 
 // Opens a file into the output, judges its bundle with the table, and screens the word with it.
+#[tactic(auto, using(crate::specs::Files::opening_told))]
 pub fn run(file: &[u8], output: &mut [u8], table: &mut [u16], word: &[u8]) -> Ran
     ensures value { result ≡ ran (fitted (opened file.now) (length output.old)) (length table.old) word.now }
     ensures output_after { output.new ≡ written (opened file.now) output.old }
