@@ -1,5 +1,5 @@
 -- Judging a sealed file: which verdict it gets, and what it leaves in the table.
-use Rattle.std.specs.Prelude.{◌≡◌, refl, List, ℕ, length, take, Err, Ok}
+use Rattle.std.specs.Prelude.{◌≡◌, List, ℕ, length, take, Err, Ok}
 use Rattle.std.proofs.Common.{length-take-le}
 use Rattle.refusals.specs.Results.{Result, value, refused, ◌>>=◌, bind}
 use Rattle.refusals.specs.Answers.{fitted, answer, written}
@@ -25,22 +25,7 @@ unfoldable pub file_table : Result (List ℕ) → List ℕ → List ℕ
 file_table (value b) t = table_after b t
 file_table (refused number spot) t = t
 
--- ---- Laws: one for each answer of opening
-
-module _ (file room table : List ℕ) where
-  pub file-refused : (r : Refusal) → answer (opened file) (length room) ≡ Err r
-      → (file_verdict file (length room) (length table) ≡ Err r) × (file_table (fitted (opened file) (length room)) table ≡ table)
-  unfolding file_verdict file_judged file_table bind verdict_of
-  file-refused r e = rw (answer-refused (opened file) (length room) r e) (refl, refl)
-
-  -- the bundle is in front of the room
-  pub file-opened : (n : ℕ) → answer (opened file) (length room) ≡ Ok n
-      → (file_verdict file (length room) (length table) ≡ verdict (length table) (take n (written (opened file) room)))
-      × (file_table (fitted (opened file) (length room)) table ≡ table_after (take n (written (opened file) room)) table)
-  unfolding file_verdict file_judged file_table bind verdict
-  file-opened n e = rw (answer-fitted (opened file) room n e) (refl, refl)
-
--- ---- The same clause by clause, for the check of `judge_file`
+-- ---- Laws: for each answer of opening one of the verdict and one of the table; the check finds `judge_file` by them
 
 module _ (file room : List ℕ) where
   module _ (r : Refusal) (told : answer (opened file) (length room) ≡ Err r) where
@@ -49,14 +34,28 @@ module _ (file room : List ℕ) where
     refused-verdict table_length = rw (answer-refused (opened file) (length room) r told)
 
     pub refused-table : (table : List ℕ) → file_table (fitted (opened file) (length room)) table ≡ table
-    refused-table table = (file-refused file room table r told).1
+    unfolding file_table
+    refused-table table = rw (answer-refused (opened file) (length room) r told)
 
+  -- the bundle is in front of the room
   module _ (n : ℕ) (told : answer (opened file) (length room) ≡ Ok n) where
     pub opened-verdict : (table_length : ℕ) → file_verdict file (length room) table_length ≡ verdict table_length (take n (written (opened file) room))
     unfolding file_verdict file_judged bind verdict
     opened-verdict table_length = rw (answer-fitted (opened file) room n told)
 
     pub opened-table : (table : List ℕ) → file_table (fitted (opened file) (length room)) table ≡ table_after (take n (written (opened file) room)) table
-    opened-table table = (file-opened file room table n told).1
+    unfolding file_table
+    opened-table table = rw (answer-fitted (opened file) room n told)
 
 pub ruleset opening_told = (refused-verdict, refused-table, opened-verdict, opened-table, answer-within, length-take-le)
+
+-- the two of an answer in one, for a table
+module _ (file room table : List ℕ) where
+  pub file-refused : (r : Refusal) → answer (opened file) (length room) ≡ Err r
+      → (file_verdict file (length room) (length table) ≡ Err r) × (file_table (fitted (opened file) (length room)) table ≡ table)
+  file-refused r e = (refused-verdict file room r e (length table), refused-table file room r e table)
+
+  pub file-opened : (n : ℕ) → answer (opened file) (length room) ≡ Ok n
+      → (file_verdict file (length room) (length table) ≡ verdict (length table) (take n (written (opened file) room)))
+      × (file_table (fitted (opened file) (length room)) table ≡ table_after (take n (written (opened file) room)) table)
+  file-opened n e = (opened-verdict file room n e (length table), opened-table file room n e table)
